@@ -111,3 +111,21 @@ impl Chars {
         self.characters.as_slice()
     }
 }
+
+#[cfg(test)]
+mod tests {
+    use super::*;
+    use std::test::Fail;
+
+    #[test]
+    fn lists_hold_what_they_were_given(rt: HostRuntime) -> Result<(), Fail> {
+        let text = Text::new(rt.alloc(), "p.eo")?;
+        assert_eq!(rt; text.as_str(), "p.eo");
+        assert_eq!(rt; text.as_bytes(), b"p.eo".as_slice());
+        let name = Name::new(rt.alloc(), &[0, 255])?;
+        assert_eq!(rt; name.as_bytes(), [0, 255].as_slice());
+        let characters = Chars::new(rt.alloc(), &[97, 0x2_ffff])?;
+        assert_eq!(rt; characters.as_slice(), [97, 0x2_ffff].as_slice());
+        Ok(())
+    }
+}
