@@ -1,0 +1,3 @@
+mod Vectors
+pub mod PathLemmas
+pub mod SinkLemmas
