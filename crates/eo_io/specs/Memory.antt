@@ -6,8 +6,8 @@ use Rattle.eo_io.specs.declared.Got.{Got}
 use Rattle.eo_io.specs.declared.Got.TheVariants as got
 use Rattle.eo_io.specs.declared.Put.{Put}
 use Rattle.eo_io.specs.declared.Put.TheVariants as put
-use Rattle.eo_io.specs.Stored.{Stored, nothing_stored, opened_by, after_open, read_length, after_read, after_close}
-use Rattle.eo_io.specs.Calls.{Plan, first_plan, fails_next, after_call, with_piece, with_failing}
+use Rattle.eo_io.specs.Stored.{Stored, nothing_stored, opened_by, after_open, read_length, after_read}
+use Rattle.eo_io.specs.Calls.{Plan, first_plan, fails_next, after_call}
 
 -- a library in memory: opens and reads are its calls
 pub record MemoryFiles : Type 0 where

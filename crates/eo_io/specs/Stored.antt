@@ -1,5 +1,5 @@
 -- What the libraries in memory hold: files by path, and the unread rests of the open files.
-use Rattle.std.specs.Prelude.{◌≡◌, ℕ, ◌+◌, ◌<◌, ◌≤◌, List, [], ◌∷◌, ◌++◌, length, take, drop, map, reverse, min, Option, None, Some, is_some, bytes_eq, if◌then◌else◌, slice_index_or, All}
+use Rattle.std.specs.Prelude.{◌≡◌, ℕ, List, [], ◌∷◌, ◌++◌, length, take, drop, min, Some, is_some, bytes_eq, if◌then◌else◌}
 use Rattle.std.specs.Option.{option_to_list}
 use Rattle.eo_io.specs.declared.Opened.{Opened}
 use Rattle.eo_io.specs.declared.Opened.TheVariants as opened

@@ -2,6 +2,7 @@
 ghost use Rattle.std.specs.Prelude.{◌≡◌, ◌≤◌, OnOk, OnErr};
 ghost use Rattle.eo_io.specs.Calls.{first_plan, with_piece, with_failing, fails_next, after_call};
 
+use crate::fault_count::FaultCount;
 use std::alloc::{AllocError, Global};
 use std::marker::Model;
 
@@ -11,7 +12,7 @@ pub(crate) struct CallPlan {
     piece: usize,
     failing: Vec<u64>,
     made: u64,
-    faults: u64,
+    faults: FaultCount,
 }
 
 impl Model for CallPlan {
@@ -34,7 +35,7 @@ impl CallPlan {
             piece: usize::MAX,
             failing: Vec::new(alloc),
             made: 0,
-            faults: 0,
+            faults: FaultCount::new(),
         }
     }
 
@@ -77,7 +78,7 @@ impl CallPlan {
     {
         self.made = self.made.saturating_add(1);
         if failed {
-            self.faults = self.faults.saturating_add(1);
+            self.faults.raise();
         }
     }
 }

@@ -1,6 +1,7 @@
 //! The library in memory that never fails.
-ghost use Rattle.std.specs.Prelude.{◌≡◌, IfOk, OnOk, OnErr};
-ghost use Rattle.eo_io.specs.Stored.{nothing_stored, with_file, IsFileOf};
+ghost use Rattle.std.specs.Prelude.{◌≡◌, ◌≢◌, ◌<◌, [], length, map, min, Some, IfOk, OnOk, OnErr};
+ghost use Rattle.eo_io.specs.Library.{Opens, OpenHasCause, Reads, ReadHasCause, Closes};
+ghost use Rattle.eo_io.specs.Stored.{nothing_stored, with_file, IsFileOf, opened_by, after_open, first_unread, after_read, after_close};
 
 use crate::file_store::FileStore;
 use crate::{Got, Library, Opened};
@@ -46,15 +47,21 @@ impl HonestLibrary {
 }
 
 impl Library for HonestLibrary {
-    ghost use Rattle.std.specs.Prelude.{map, Some};
-
     ghost told = { λ s. Some s.told };
 
     ghost open_files = { λ s. map Some s.unread };
 
     ghost faults = { λ _. 0 };
 
-    fn open(&mut self, path: &[u8]) -> Opened {
+    /// It answers `Ready` exactly where there is a file with the path.
+    fn open(&mut self, path: &[u8]) -> Opened
+        requires { length (map Some self.old.unread) < 18 }
+        ensures same { Some self.new.told ≡ Some self.old.told }
+        ensures opens { Opens result (Some self.old.told) path.now (map Some self.old.unread) (map Some self.new.unread) }
+        ensures cause { OpenHasCause result (Some self.old.told) path.now 0 0 }
+        ensures answer { result ≡ opened_by self.old path.now }
+        ensures after { self.new ≡ after_open self.old path.now }
+    {
         if self.files.open(path) {
             Opened::Ready
         } else {
@@ -62,11 +69,25 @@ impl Library for HonestLibrary {
         }
     }
 
-    fn read(&mut self, buf: &mut [u8]) -> Got {
+    /// It gives as much as the buffer and what is unread of the file let it.
+    fn read(&mut self, buf: &mut [u8]) -> Got
+        requires is_open { map Some self.old.unread ≢ [] }
+        requires room { buf.old ≢ [] }
+        ensures same { Some self.new.told ≡ Some self.old.told }
+        ensures reads { Reads result (map Some self.old.unread) (map Some self.new.unread) buf.new }
+        ensures cause { ReadHasCause result 0 0 }
+        ensures answer { result ≡ Got.Bytes (min (length buf.old) (length (first_unread self.old.unread))) }
+        ensures after { self.new ≡ after_read self.old (min (length buf.old) (length (first_unread self.old.unread))) }
+    {
         Got::Bytes(self.files.read(buf, usize::MAX))
     }
 
-    fn close(&mut self) {
+    fn close(&mut self)
+        requires is_open { map Some self.old.unread ≢ [] }
+        ensures same { Some self.new.told ≡ Some self.old.told }
+        ensures closes { Closes (map Some self.old.unread) (map Some self.new.unread) }
+        ensures after { self.new ≡ after_close self.old }
+    {
         self.files.close();
     }
 }

@@ -6,6 +6,7 @@ ghost use Rattle.eo_io.specs.Library.{Files, Rest, Opens, OpenHasCause, Reads, R
 ghost use Rattle.eo_io.specs.Sink.{Writes, WriteHasCause};
 
 mod call_plan;
+mod fault_count;
 mod file_store;
 mod honest_library;
 mod memory_library;

@@ -1,6 +1,7 @@
 //! The system's files and its standard output. What they hold, no contract tells.
-ghost use Rattle.std.specs.Prelude.{◌≡◌, ◌≤◌, ◌+◌, ◌-◌, ◌^◌, min, IfOk};
+ghost use Rattle.std.specs.Prelude.{◌≡◌, IfOk};
 
+use crate::fault_count::FaultCount;
 use crate::{Got, Library, OPEN_FILES, Opened, Put, Sink};
 use std::alloc::{AllocError, Global};
 use std::fs;
@@ -20,7 +21,7 @@ use std::rt::Files;
 pub struct DiskLibrary<R: Files + Drop> {
     system: R,
     opened: Vec<R::File>,
-    faults: u64,
+    faults: FaultCount,
 }
 
 impl<R: Files + Drop> Model for DiskLibrary<R> {
@@ -43,16 +44,8 @@ impl<R: Files + Drop> DiskLibrary<R> {
         Ok(DiskLibrary {
             system,
             opened: Vec::with_capacity(alloc, OPEN_FILES)?,
-            faults: 0,
+            faults: FaultCount::new(),
         })
-    }
-
-    fn raise(&mut self)
-        ensures opened { self.new.opened ≡ self.old.opened }
-        ensures faults { self.new.faults ≡ min (self.old.faults + 1) (2 ^ 64 - 1) }
-        ensures later { self.old.faults ≤ self.new.faults }
-    {
-        self.faults = self.faults.saturating_add(1);
     }
 }
 
@@ -67,7 +60,7 @@ impl<R: Files + Drop> Library for DiskLibrary<R> {
 
     fn open(&mut self, path: &[u8]) -> Opened {
         let Ok(path) = str::from_utf8(path) else {
-            self.raise();
+            self.faults.raise();
             return Opened::Absent;
         };
         match fs::open(&self.system, path) {
@@ -76,7 +69,7 @@ impl<R: Files + Drop> Library for DiskLibrary<R> {
                 Opened::Ready
             }
             Err(e) => {
-                self.raise();
+                self.faults.raise();
                 if e.kind() == ErrorKind::NotFound {
                     Opened::Absent
                 } else {
@@ -91,7 +84,7 @@ impl<R: Files + Drop> Library for DiskLibrary<R> {
         match self.opened[last].read(buf) {
             Ok(n) => Got::Bytes(n),
             Err(_) => {
-                self.raise();
+                self.faults.raise();
                 Got::Failed
             }
         }
@@ -109,7 +102,7 @@ impl<R: Files + Drop> Library for DiskLibrary<R> {
 #[derive(Drop)]
 pub struct StdSink<P: Print + Drop> {
     out: P,
-    faults: u64,
+    faults: FaultCount,
 }
 
 impl<P: Print + Drop> Model for StdSink<P> {
@@ -125,14 +118,10 @@ impl<P: Print + Drop> StdSink<P> {
     pub fn new(out: P) -> StdSink<P>
         ensures { result ≡ 0 }
     {
-        StdSink { out, faults: 0 }
-    }
-
-    fn raise(&mut self)
-        ensures faults { self.new ≡ min (self.old + 1) (2 ^ 64 - 1) }
-        ensures later { self.old ≤ self.new }
-    {
-        self.faults = self.faults.saturating_add(1);
+        StdSink {
+            out,
+            faults: FaultCount::new(),
+        }
     }
 }
 
@@ -147,12 +136,12 @@ impl<P: Print + Drop> Sink for StdSink<P> {
         match self.out.write_some(bytes) {
             Ok(n) => {
                 if n == 0 && !bytes.is_empty() {
-                    self.raise();
+                    self.faults.raise();
                 }
                 Put::Took(n)
             }
             Err(_) => {
-                self.raise();
+                self.faults.raise();
                 Put::Failed
             }
         }

@@ -1,4 +1,4 @@
-use Rattle.std.proofs.Common.{◌≡◌, ℕ, length, map, ap, ◌∙◌, sym, subst, arith, reverse}
+use Rattle.std.proofs.Common.{◌≡◌, length, map, ap, ◌∙◌, sym, subst, arith, reverse}
 use Rattle.std.proofs.lemmas.List.{length-map}
 use Rattle.eo_io.proofs.StoreLemmas.{pushed_bytes, held-added, told-added, unread-added, file_at-with_file}
 use Rattle.eo_io.specs.Stored.{with_file, IsFileOf}

@@ -1,4 +1,4 @@
-use Rattle.std.proofs.Common.{map, ap, ◌∙◌, sym, is_some, refl}
+use Rattle.std.proofs.Common.{ap, ◌∙◌, sym, is_some, refl}
 use Rattle.eo_io.specs.Library.{file_at}
 use Rattle.eo_io.specs.Stored.{after_open}
 use Rattle.eo_io.proofs.StoreLemmas.{absent, present, held-opened, after-absent, after-opened}

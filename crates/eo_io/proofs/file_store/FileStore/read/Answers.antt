@@ -1,8 +1,6 @@
-use Rattle.std.proofs.Common.{◌≡◌, ◌-◌, ◌+◌, ◌<◌, ℕ, length, map, drop, reverse, ap, ◌∙◌, sym, arith, length-drop, get_or, set, []}
+use Rattle.std.proofs.Common.{◌≡◌, ◌-◌, ◌+◌, ◌<◌, length, map, drop, ap, ◌∙◌, sym, arith, length-drop, get_or, set, []}
 use Rattle.std.proofs.lemmas.List.{get_or_default, length-map}
-use Rattle.eo_io.specs.declared.file_store.OpenFile.{OpenFile}
-use Rattle.eo_io.specs.Holding.{rest_of}
-use Rattle.eo_io.specs.Stored.{Stored, first_unread, after_read}
+use Rattle.eo_io.specs.Stored.{first_unread, after_read}
 use Rattle.eo_io.proofs.StoreLemmas.{some_open, bytes_at-map, first_unread-last, last-open, unread-read}
 use Rattle.eo_io.proofs.file_store.FileStore.read.Goals as goal
 
