@@ -13,6 +13,8 @@ mod memory_library;
 mod memory_sink;
 mod path_table;
 mod system;
+#[cfg(test)]
+mod tests;
 mod writing;
 
 pub use honest_library::HonestLibrary;
