@@ -1,0 +1,131 @@
+//! Everything outside the program: libraries of files, sinks for bytes, and paths.
+#![tactic(auto)]
+
+ghost use Rattle.std.specs.Prelude.{◌≡◌, ◌≢◌, ℕ, ◌<◌, ◌≤◌, List, [], length, Option};
+ghost use Rattle.eo_io.specs.Library.{Files, Rest, Opens, OpenHasCause, Reads, ReadHasCause, Closes};
+ghost use Rattle.eo_io.specs.Sink.{Writes, WriteHasCause};
+
+mod call_plan;
+mod fault_count;
+mod file_store;
+mod honest_library;
+mod memory_library;
+mod memory_sink;
+mod path_table;
+mod system;
+#[cfg(test)]
+mod tests;
+mod writing;
+
+pub use honest_library::HonestLibrary;
+pub use memory_library::MemoryLibrary;
+pub use memory_sink::MemorySink;
+pub use path_table::Paths;
+pub use system::{DiskLibrary, StdSink};
+pub use writing::write_all;
+
+/// How many files of a library may be open at once.
+pub const OPEN_FILES: usize = 18;
+
+/// What opening a file answers.
+#[derive(Clone, Copy, Debug, PartialEq, Eq)]
+pub enum Opened {
+    /// The file is open, as the last one.
+    Ready,
+    /// There is no such file.
+    Absent,
+    /// The library failed.
+    Failed,
+}
+
+/// What reading answers.
+#[derive(Clone, Copy, Debug, PartialEq, Eq)]
+pub enum Got {
+    /// How many bytes the buffer now has at its front. It is 0 only at the end of the file.
+    Bytes(usize),
+    /// The library failed.
+    Failed,
+}
+
+/// What writing answers.
+#[derive(Clone, Copy, Debug, PartialEq, Eq)]
+pub enum Put {
+    /// How many bytes of the piece were written, from its front.
+    Took(usize),
+    /// The sink failed.
+    Failed,
+}
+
+/// Where files are read from: files by path, of which some are open, in the order in which they
+/// were opened.
+///
+/// It counts its faults. The count never falls. It is said to have risen where it is larger than
+/// before, or stands at its greatest value, 2^64 - 1.
+pub trait Library {
+    /// The files that it tells, if it tells any. No call changes them.
+    ghost told: { Self → Option Files };
+
+    /// The unread rests of its open files, the file opened last standing first. A library that
+    /// tells its files tells the rests of the files that it opens.
+    ghost open_files: { Self → List Rest };
+
+    /// How often it has failed.
+    ghost faults: { Self → ℕ };
+
+    /// Opens a file, of which fewer than 18 may be open.
+    ///
+    /// - `Ready`: it is now the last open file, and unread. Where the library tells its files, it
+    ///   is one of those told.
+    /// - `Absent`: where the library tells its files, it is none of those told; else the count of
+    ///   faults rose.
+    /// - `Failed`: the count of faults rose.
+    ///
+    /// After `Absent` and `Failed` the same files are open as before.
+    fn open(&mut self, path: &[u8]) -> Opened
+        requires { length (open_files self.old) < 18 }
+        ensures same { told self.new ≡ told self.old }
+        ensures opens { Opens result (told self.old) path.now (open_files self.old) (open_files self.new) }
+        ensures cause { OpenHasCause result (told self.old) path.now (faults self.old) (faults self.new) }
+        ensures later { faults self.old ≤ faults self.new };
+
+    /// Reads from the file opened last into the front of a buffer that is not empty.
+    ///
+    /// - `Bytes(n)`: the next n bytes of the file, at most as many as the buffer holds. n is 0
+    ///   exactly where the file is read to its end, as far as the library tells its rest.
+    /// - `Failed`: the count of faults rose, and nothing of the file is read.
+    fn read(&mut self, buf: &mut [u8]) -> Got
+        requires is_open { open_files self.old ≢ [] }
+        requires room { buf.old ≢ [] }
+        ensures same { told self.new ≡ told self.old }
+        ensures reads { Reads result (open_files self.old) (open_files self.new) buf.new }
+        ensures cause { ReadHasCause result (faults self.old) (faults self.new) }
+        ensures later { faults self.old ≤ faults self.new };
+
+    /// Closes the file opened last.
+    fn close(&mut self)
+        requires is_open { open_files self.old ≢ [] }
+        ensures same { told self.new ≡ told self.old }
+        ensures closes { Closes (open_files self.old) (open_files self.new) }
+        ensures later { faults self.old ≤ faults self.new };
+}
+
+/// Where bytes are written to.
+///
+/// It counts its faults, as a library does.
+pub trait Sink {
+    /// The bytes written to it, if it tells them.
+    ghost written: { Self → Option (List ℕ) };
+
+    /// How often it has failed.
+    ghost faults: { Self → ℕ };
+
+    /// Writes a front of the piece behind what is written.
+    ///
+    /// - `Took(n)`: the first n bytes, n being at most the piece's length. Where n is 0 though the
+    ///   piece is not empty, the count of faults rose.
+    /// - `Failed`: the count of faults rose, and nothing is written.
+    fn write(&mut self, bytes: &[u8]) -> Put
+        ensures writes { Writes result bytes.now (written self.old) (written self.new) }
+        ensures cause { WriteHasCause result bytes.now (faults self.old) (faults self.new) }
+        ensures later { faults self.old ≤ faults self.new };
+}

@@ -1,0 +1,66 @@
+//! The table of paths.
+ghost use Rattle.std.specs.Prelude.{◌≡◌, ◌<◌, [], Some, length, slice_get, position, bytes_eq, IfOk, OnOk, OnErr};
+ghost use Rattle.eo_io.specs.Paths.{with_path, Extends};
+
+use indexmap::IndexSet;
+use std::alloc::{AllocError, Global};
+use std::marker::Model;
+
+/// Paths in the order in which they were added, no two of them equal. A path's number is how many
+/// paths were added before it.
+#[derive(Drop)]
+pub struct Paths {
+    alloc: Global,
+    paths: IndexSet<Vec<u8>>,
+}
+
+impl Model for Paths {
+    ghost use Rattle.std.specs.Prelude.{ℕ, List, map};
+
+    ghost Value = { List (List ℕ) };
+
+    ghost view = { λ a. map (λ p. p.items) a.paths.keys };
+}
+
+impl Paths {
+    /// A table without paths. `Err` is want of memory.
+    pub fn new(alloc: Global) -> Result<Paths, AllocError>
+        ensures { IfOk result (λ paths. paths ≡ []) }
+    {
+        Ok(Paths {
+            alloc,
+            paths: IndexSet::new(alloc),
+        })
+    }
+
+    /// Adds a path, unless it is there, and answers its number. `Err` is want of memory, and the
+    /// table is as before.
+    pub fn add(&mut self, path: &[u8]) -> Result<usize, AllocError>
+        ensures number { IfOk result (λ n. slice_get self.new n ≡ Some path.now) }
+        ensures first { IfOk result (λ n. position (bytes_eq path.now) self.new ≡ Some n) }
+        ensures table { OnOk result (self.new ≡ with_path self.old path.now) }
+        ensures grows { OnOk result (Extends self.old self.new) }
+        ensures err { OnErr result (self.new ≡ self.old) }
+    {
+        if let Some(n) = self.paths.get_index_of(path) {
+            return Ok(n);
+        }
+        let (n, _) = self.paths.insert_full(path.to_vec(self.alloc)?)?;
+        Ok(n)
+    }
+
+    /// The number of a path, if it is there.
+    pub fn find(&self, path: &[u8]) -> Option<usize>
+        ensures { result ≡ position (bytes_eq path.now) self.now }
+    {
+        self.paths.get_index_of(path)
+    }
+
+    /// The path with the number n, which is less than how many there are.
+    pub fn get(&self, n: usize) -> &[u8]
+        requires { n < length self.now }
+        ensures { slice_get self.now n ≡ Some result.now }
+    {
+        self.paths.get_index(n).unwrap().as_slice()
+    }
+}
