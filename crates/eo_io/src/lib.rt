@@ -41,7 +41,7 @@ pub enum Opened {
 /// What reading answers.
 #[derive(Clone, Copy, Debug, PartialEq, Eq)]
 pub enum Got {
-    /// How many bytes the buffer now has at its front. It is 0 only at the end of the file.
+    /// How many bytes of the file the buffer now has at its front, 0 at its end.
     Bytes(usize),
     /// The library failed.
     Failed,
