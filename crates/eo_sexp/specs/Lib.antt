@@ -1,0 +1,10 @@
+pub mod Collecting
+pub mod Commands
+pub mod Cutting
+pub mod Flat
+pub mod FlatCode
+pub mod FlatReading
+pub mod Lexicon
+pub mod Sexp
+pub mod SexpCode
+pub mod Texts

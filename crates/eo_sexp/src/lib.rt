@@ -1,0 +1,53 @@
+//! Commands from bytes.
+#![tactic(auto)]
+
+ghost use Rattle.eo_base.specs.Limits.{limits};
+ghost use Rattle.eo_sexp.specs.Cutting.{ReadsInPieces};
+
+use eo_base::FaultName;
+
+mod flat;
+
+pub use flat::{FlatCommand, FlatCommands, FlatRefused, Words, read_flat};
+
+/// What an s-expression is.
+#[derive(Clone, Copy, Debug, PartialEq, Eq)]
+pub enum Kind {
+    List,
+    Symbol,
+    Keyword,
+    Literal,
+    String,
+}
+
+/// A byte of a file: its line, from 1, and how many bytes come before it.
+#[derive(Clone, Copy, Debug, PartialEq, Eq)]
+pub struct Spot {
+    pub line: u64,
+    pub offset: u64,
+}
+
+/// What feeding a piece gave.
+#[derive(Clone, Copy, Debug, PartialEq, Eq)]
+pub enum Fed {
+    /// The whole piece is taken.
+    More,
+    /// A command is whole. The rest of the piece is to be fed again.
+    Command { used: usize },
+    Fault { name: FaultName, at: Spot },
+    Memory,
+}
+
+/// What the end of the input gave.
+#[derive(Clone, Copy, Debug, PartialEq, Eq)]
+pub enum Finished {
+    End,
+    /// An atom that the end makes whole.
+    Command,
+    Fault { name: FaultName, at: Spot },
+}
+
+/// A law: a file is read as a whole, however it is cut into pieces.
+pub fn pieces_law()
+    ensures { ReadsInPieces limits }
+{}
