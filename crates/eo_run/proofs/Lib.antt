@@ -1,0 +1,5 @@
+mod ReadLemmas
+mod FileLemmas
+mod ListLemmas
+mod AssertionLemmas
+mod StepLemmas
