@@ -3,3 +3,5 @@ mod FileLemmas
 mod ListLemmas
 mod AssertionLemmas
 mod StepLemmas
+mod PlaceLemmas
+mod CheckLemmas

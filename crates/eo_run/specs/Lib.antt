@@ -4,3 +4,4 @@ pub mod Answer
 pub mod FirstForm
 pub mod Contents
 pub mod FirstCode
+pub mod Checking

@@ -1,5 +1,7 @@
 //! Files in first form: assertions and assumptions of `true` or `false`.
-ghost use Rattle.std.specs.Prelude.{◌≡◌, ◌≢◌, ◌||◌, Bool, true, not, List, map, MatchOption, IfOk, IfErr, IfSome, Contains, if◌then◌else◌, ℕ, OnOk, bytes_eq};
+ghost use Rattle.std.specs.Prelude.{◌≡◌, ◌≢◌, ◌≤◌, ◌==◌, count_by, length, Some, None, ◌||◌, Bool, true, not, List, map, MatchOption, IfOk, IfErr, IfSome, Contains, if◌then◌else◌, ℕ, OnOk, bytes_eq};
+ghost use Rattle.eo_base.specs.Limits.{limits};
+ghost use Rattle.eo_sexp.specs.Flat.{spot_at};
 ghost use Rattle.eo_sexp.specs.FlatCode.{command_of};
 ghost use Rattle.eo_run.specs.FirstForm as first;
 ghost use Rattle.eo_run.specs.FirstCode.{assumption_of, contains_name, holds, noted, IsSummary, formulas_of, steps_of, AreSteps};
@@ -170,4 +172,49 @@ fn collect_steps(
         steps.add(assumption.formula, command.at, asserted);
     }
     Ok(steps)
+}
+
+/// Which formulas a reference file asserts. `Form` exactly where it is not in first form, `Memory`
+/// where memory runs out.
+pub fn read_assertions(alloc: Global, bytes: &[u8]) -> Result<Asserted, FlatRefused>
+    requires { length bytes.now ≤ limits.file }
+    ensures read { IfOk result (λ a. (formulas : List Bool) × (first.assertions_of bytes.now ≡ Some formulas) × IsSummary formulas a) }
+    ensures form { IfErr result (λ e. e ≡ FlatRefused.Form → first.assertions_of bytes.now ≡ None) }
+{
+    let commands = read_flat(alloc, bytes)?;
+    match collect_assertions(commands.as_slice()) {
+        Some(asserted) => Ok(asserted),
+        None => Err(FlatRefused::Form),
+    }
+}
+
+/// What a proof assumes. `Form` exactly where it is not in first form, `Memory` where memory runs
+/// out.
+pub fn read_steps(alloc: Global, bytes: &[u8], asserted: Asserted) -> Result<Steps, FlatRefused>
+    requires { length bytes.now ≤ limits.file }
+    ensures read { IfOk result (λ s. (steps : List first.Assumption) × (first.assumptions_of bytes.now ≡ Some steps) × AreSteps asserted steps s) }
+    ensures line { IfOk result (λ s. IfSome s.unasserted (λ at. at.line ≡ (spot_at bytes.now at.offset).line)) }
+    ensures form { IfErr result (λ e. e ≡ FlatRefused.Form → first.assumptions_of bytes.now ≡ None) }
+{
+    let commands = read_flat(alloc, bytes)?;
+    collect_steps(alloc, commands.as_slice(), asserted)
+}
+
+/// How many line feeds there are.
+fn count_line_feeds(bytes: &[u8]) -> usize
+    ensures count { result ≡ count_by (λ byte. byte == 10) bytes.now }
+    ensures within { result ≤ length bytes.now }
+{
+    bytes.iter().filter(|byte| **byte == b'\n').count()
+}
+
+/// The place behind the last byte of a file.
+pub fn end_of(bytes: &[u8]) -> Spot
+    ensures place { result ≡ spot_at bytes.now (length bytes.now) }
+    ensures offset { result.offset ≡ length bytes.now }
+{
+    Spot {
+        line: 1 + count_line_feeds(bytes) as u64,
+        offset: bytes.len() as u64,
+    }
 }

@@ -4,9 +4,11 @@
 //! the same.
 #![tactic(auto)]
 
+mod checking;
 mod contents;
 mod first_form;
 
+pub use checking::check_files;
 use eo_base::{Fault, Text};
 
 /// What is to be checked.
