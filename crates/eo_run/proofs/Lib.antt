@@ -5,3 +5,6 @@ mod AssertionLemmas
 mod StepLemmas
 mod PlaceLemmas
 mod CheckLemmas
+mod PrintLemmas
+mod Computed
+mod FirstVectors

@@ -5,3 +5,4 @@ pub mod FirstForm
 pub mod Contents
 pub mod FirstCode
 pub mod Checking
+pub mod Pieces

@@ -7,9 +7,11 @@
 mod checking;
 mod contents;
 mod first_form;
+mod printing;
 
 pub use checking::check_files;
 use eo_base::{Fault, Text};
+pub use printing::print_verdict;
 
 /// What is to be checked.
 #[derive(Debug, Drop)]
