@@ -1,3 +1,4 @@
 mod Vectors
 pub mod PathLemmas
 pub mod SinkLemmas
+pub mod StoreLemmas

@@ -5,10 +5,21 @@ ghost use Rattle.std.specs.Prelude.{◌≡◌, ◌≢◌, ℕ, ◌<◌, ◌≤�
 ghost use Rattle.eo_io.specs.Library.{Files, Rest, Opens, OpenHasCause, Reads, ReadHasCause, Closes};
 ghost use Rattle.eo_io.specs.Sink.{Writes, WriteHasCause};
 
+mod call_plan;
+mod fault_count;
+mod file_store;
+mod honest_library;
+mod memory_library;
+mod memory_sink;
 mod path_table;
+mod system;
 mod writing;
 
+pub use honest_library::HonestLibrary;
+pub use memory_library::MemoryLibrary;
+pub use memory_sink::MemorySink;
 pub use path_table::Paths;
+pub use system::{DiskLibrary, StdSink};
 pub use writing::write_all;
 
 /// How many files of a library may be open at once.
