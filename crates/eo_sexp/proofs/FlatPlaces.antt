@@ -40,9 +40,6 @@ drop_at_none file o e = go (drop o file) (sym (slice_get-front file o) ∙ e)
 pub tokens_at-space : (file : List ℕ) (o b : ℕ) → slice_get file o ≡ Some b → is_space b ≡ true → tokens_at file o ≡ tokens_at file (o + 1)
 tokens_at-space file o b e s = rw (drop_at_some file o b e) (tokens-space o b (drop (o + 1) file) s)
 
-pub tokens_at-end : (file : List ℕ) (o : ℕ) → slice_get file o ≡ None → tokens_at file o ≡ Some []
-tokens_at-end file o e = rw (drop_at_none file o e)
-
 -- no word begins at this byte
 pub no_word_at : (file : List ℕ) (o : ℕ) → length (take_while is_word (drop o file)) ≡ 0 → IfSome (slice_get file o) (λ b. is_word b ≡ false)
 no_word_at file o e = rw (slice_get-front file o) (go (drop o file) e)

@@ -16,17 +16,17 @@ either : (x y : Bool) {P : Type 0} → (x || y) ≡ true → (x ≡ true → P) 
 either true y e f g = f refl
 either false y e f g = g e
 
-pub space-no_word : (b : ℕ) → is_space b ≡ true → is_word b ≡ false
+space-no_word : (b : ℕ) → is_space b ≡ true → is_word b ≡ false
 unfolding is_word is_space
 space-no_word b h =
     either (eqb 9 b) _ h (λ e. at_value is_word 9 b e refl) (λ h. either (eqb 10 b) _ h (λ e. at_value is_word 10 b e refl)
     (λ h. either (eqb 13 b) _ h (λ e. at_value is_word 13 b e refl) (λ h. either (eqb 32 b) _ h (λ e. at_value is_word 32 b e refl) (λ h. absurd (false≢true h)))))
 
-pub word-no_space : (b : ℕ) → is_word b ≡ true → is_space b ≡ false
+word-no_space : (b : ℕ) → is_word b ≡ true → is_space b ≡ false
 word-no_space b h = false_from_ne_true _ (λ s. both_ways (is_word b) (space-no_word b s) h)
 
 -- a byte that is in no word
-pub word-other : (a b : ℕ) → is_word a ≡ false → is_word b ≡ true → eqb b a ≡ false
+word-other : (a b : ℕ) → is_word a ≡ false → is_word b ≡ true → eqb b a ≡ false
 word-other a b n h = false_from_ne_true _ (λ e. both_ways (is_word b) (subst (λ x. is_word x ≡ false) (sym (eqb-true b a e)) n) h)
 
 pub word-no_feed : (b : ℕ) → is_word b ≡ true → eqb b 10 ≡ false
@@ -85,11 +85,11 @@ byte_onto-bad k b follows ts s o c w = rw (s, o, c, w)
 pub tokens-space : (k b : ℕ) (bs : List ℕ) → is_space b ≡ true → tokens_from k (b ∷ bs) ≡ tokens_from (k + 1) bs
 tokens-space k b bs h = same_then _ (λ ts. Some ts) (tokens_from (k + 1) bs) (λ ts. byte_onto-space k b (begins_word bs) ts h) ∙ then_some _
 
-pub tokens-open : (k : ℕ) (bs : List ℕ) → tokens_from k (40 ∷ bs) ≡ option_map (λ ts. Open k ∷ ts) (tokens_from (k + 1) bs)
+tokens-open : (k : ℕ) (bs : List ℕ) → tokens_from k (40 ∷ bs) ≡ option_map (λ ts. Open k ∷ ts) (tokens_from (k + 1) bs)
 unfolding is_space
 tokens-open k bs = then_map (λ ts. Open k ∷ ts) (tokens_from (k + 1) bs)
 
-pub tokens-close : (k : ℕ) (bs : List ℕ) → tokens_from k (41 ∷ bs) ≡ option_map (λ ts. Close ∷ ts) (tokens_from (k + 1) bs)
+tokens-close : (k : ℕ) (bs : List ℕ) → tokens_from k (41 ∷ bs) ≡ option_map (λ ts. Close ∷ ts) (tokens_from (k + 1) bs)
 unfolding is_space
 tokens-close k bs = then_map (λ ts. Close ∷ ts) (tokens_from (k + 1) bs)
 

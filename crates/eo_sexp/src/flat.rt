@@ -9,7 +9,7 @@ ghost use Rattle.eo_sexp.specs.FlatReading.{IsSpotOf, tokens_at, commands_at};
 
 use crate::Spot;
 use eo_base::Name;
-use std::alloc::{AllocError, AllocFailed, Global};
+use std::alloc::{AllocError, Global};
 use std::marker::Model;
 
 /// A list of words.
@@ -56,6 +56,7 @@ impl Words {
 /// A command: a list of words.
 #[derive(Debug, Drop)]
 pub struct FlatCommand {
+    /// Its words in order.
     pub words: Words,
     /// The place of its `(`.
     pub at: Spot,
@@ -103,7 +104,7 @@ impl FlatCommands {
     }
 }
 
-/// Why a file has no such commands.
+/// Why `read_flat` gives no commands.
 #[derive(Debug, Drop)]
 pub enum FlatRefused {
     /// The bytes are no sequence of lists of at least one word.
@@ -126,12 +127,14 @@ impl From<AllocError> for FlatRefused {
 /// The place of a file's first byte.
 const START: Spot = Spot { line: 1, offset: 0 };
 
-/// Reads a file whose commands are lists of at least one word each. A word is as long as it can
-/// be, and white space stands between the tokens.
+/// Reads a file whose commands are lists of at least one word each. Its tokens are parentheses and
+/// words, and its white space, of SMT-LIB 2.6, section 3.1 "Lexicon": a word is a longest run of
+/// letters, digits and the signs of simple symbols, `:` and `#`.
 ///
-/// `Form` comes exactly where the bytes are no such sequence: a byte that belongs to no token, as
-/// one of a comment, a string or a quoted symbol, a list in a list, an empty list, a word or a `)`
-/// outside lists, or an end inside one.
+/// It answers the commands in order, each with the place of its `(`. `Form` comes exactly where
+/// the bytes are no such sequence: a byte of no token, as in a comment, a string literal or a
+/// quoted symbol, a list in a list, an empty list, a word or a `)` outside lists, or an end inside
+/// one. `Memory` comes where memory runs out.
 pub fn read_flat(alloc: Global, bytes: &[u8]) -> Result<FlatCommands, FlatRefused>
     ensures read { IfOk result (λ cs. flat_commands bytes.now ≡ Some (map command_of cs)) }
     ensures lines { IfOk result (λ cs. All (HasLine bytes.now) cs) }
