@@ -1,0 +1,10 @@
+mod ReadLemmas
+mod FileLemmas
+mod ListLemmas
+mod AssertionLemmas
+mod StepLemmas
+mod PlaceLemmas
+mod CheckLemmas
+mod PrintLemmas
+mod Computed
+mod FirstVectors

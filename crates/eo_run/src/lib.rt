@@ -1,0 +1,44 @@
+//! One check, from the files to the verdict and the line that is printed of it.
+//!
+//! A check has a reference file of assertions of `true` or `false`, and a proof of assumptions of
+//! the same.
+#![tactic(auto)]
+
+mod checking;
+mod contents;
+mod first_form;
+mod printing;
+
+pub use checking::check_files;
+use eo_base::{Fault, Text};
+pub use printing::print_verdict;
+
+/// What is to be checked.
+#[derive(Debug, Drop)]
+pub struct CheckJob {
+    /// The path of the file that is read first, if there is one.
+    pub include: Option<Text>,
+    /// The path of the file whose assertions the proof may assume, if there is one.
+    pub reference: Option<Text>,
+    /// The path of the proof.
+    pub proof: Text,
+    /// Whether the proof may declare no rules and no programs.
+    pub closed: bool,
+}
+
+/// What a check or a load answers.
+#[derive(Clone, Copy, Debug, PartialEq, Eq)]
+pub enum Verdict {
+    /// The proof is correct.
+    Correct,
+    /// The proof is correct but for steps by rules that are marked as unproved.
+    Incomplete,
+    /// A file was loaded, with so many accepted commands.
+    Loaded { commands: u64 },
+    /// A file is refused.
+    Refused(Fault),
+    /// A call of the library of files failed.
+    ReadFault,
+    /// There was no memory left.
+    OutOfMemory,
+}

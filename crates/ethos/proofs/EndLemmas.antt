@@ -1,0 +1,148 @@
+-- How a run ends, by the answer of its check.
+use Rattle.std.proofs.Common.{◌≡◌, ◌≢◌, ℕ, List, [], Option, None, Some, refl, sym, ◌∙◌, ap, subst, inl, inr}
+use Rattle.std.specs.Prelude.{IfSome, slice_get, unwrap_or}
+use Rattle.eo_base.specs.Causes.{Rose}
+use Rattle.eo_base.specs.declared.Fault.{Fault}
+use Rattle.eo_base.specs.declared.Status.{Status}
+use Rattle.eo_base.specs.declared.Status.TheVariants as status
+use Rattle.eo_io.specs.Library.{Files}
+use Rattle.eo_run.specs.Verdict as verdict
+use Rattle.eo_run.specs.Printed.{Due, verdict_due, verdict_status, usage_due, read_fault_due, out_of_memory_due}
+use Rattle.eo_run.specs.Answer.{Denotes, Answers, AnswerHasCause, answer_due, refusal_of, WritesDue}
+use Rattle.eo_run.specs.FirstForm.{FirstWords, first_verdict}
+use Rattle.eo_run.specs.declared.Verdict.{Verdict}
+use Rattle.eo_run.specs.declared.Verdict.TheVariants as answer
+use Rattle.ethos.specs.Ends.{Ends, EndHasCause}
+use Rattle.ethos.specs.FirstProgram.{first_due}
+
+-- the status of a verdict is none of a fault of the outside
+no_fault_status : (v : verdict.Verdict) → (verdict_status v ≢ status.ReadFault) × (verdict_status v ≢ status.OutOfMemory) × (verdict_status v ≢ status.Usage)
+no_fault_status verdict.Correct = (λ e. cc, λ e. cc, λ e. cc)
+no_fault_status verdict.Incomplete = (λ e. cc, λ e. cc, λ e. cc)
+no_fault_status (verdict.Loaded n) = (λ e. cc, λ e. cc, λ e. cc)
+no_fault_status (verdict.Refused r) = (λ e. cc, λ e. cc, λ e. cc)
+
+-- the line of a verdict
+pub verdict_ends : (s : Status) (v : verdict.Verdict) (w x : Option (List ℕ)) → WritesDue s (verdict_due v) w x → Ends s (verdict_due v) w x
+verdict_ends status.Ok v w x h = h
+verdict_ends status.Incomplete v w x h = h
+verdict_ends status.Refused v w x h = h
+verdict_ends status.Usage v w x h = h
+verdict_ends status.ReadFault v w x h = absurd ((no_fault_status v).0 (sym h.0))
+verdict_ends status.OutOfMemory v w x h = absurd ((no_fault_status v).1 (sym h.0))
+verdict_ends status.WriteFault v w x h = inl h
+
+-- the usage line
+pub usage_ends : (s : Status) (w x : Option (List ℕ)) → WritesDue s usage_due w x → Ends s usage_due w x
+usage_ends status.Ok w x h = h
+usage_ends status.Incomplete w x h = h
+usage_ends status.Refused w x h = h
+usage_ends status.Usage w x h = h
+usage_ends status.ReadFault w x h = cc
+usage_ends status.OutOfMemory w x h = cc
+usage_ends status.WriteFault w x h = inl h
+
+-- the line for a fault of reading, whatever else was due
+pub read_fault_ends : (s : Status) (due : Due) (w x : Option (List ℕ)) → WritesDue s read_fault_due w x → Ends s due w x
+read_fault_ends status.Ok due w x h = cc
+read_fault_ends status.Incomplete due w x h = cc
+read_fault_ends status.Refused due w x h = cc
+read_fault_ends status.Usage due w x h = cc
+read_fault_ends status.OutOfMemory due w x h = cc
+read_fault_ends status.ReadFault due w x h = h.1
+read_fault_ends status.WriteFault due w x h = inr (inl h)
+
+-- the line for want of memory, whatever else was due
+pub out_of_memory_ends : (s : Status) (due : Due) (w x : Option (List ℕ)) → WritesDue s out_of_memory_due w x → Ends s due w x
+out_of_memory_ends status.Ok due w x h = cc
+out_of_memory_ends status.Incomplete due w x h = cc
+out_of_memory_ends status.Refused due w x h = cc
+out_of_memory_ends status.Usage due w x h = cc
+out_of_memory_ends status.ReadFault due w x h = cc
+out_of_memory_ends status.OutOfMemory due w x h = h.1
+out_of_memory_ends status.WriteFault due w x h = inr (inr h)
+
+same_refusal : (paths : List (List ℕ)) (fault : Fault) (r : verdict.Refusal) → Denotes paths fault r → refusal_of paths fault ≡ r
+same_refusal paths fault r d =
+    let file : unwrap_or (slice_get paths fault.place.file) [] ≡ r.file = ap (λ o. unwrap_or o []) d.file in
+    ap (λ n. record { name = n; file = unwrap_or (slice_get paths fault.place.file) []; line = fault.place.line; offset = fault.place.offset }) d.name
+    ∙ ap (λ f. record { name = r.name; file = f; line = fault.place.line; offset = fault.place.offset }) file
+    ∙ ap (λ l. record { name = r.name; file = r.file; line = l; offset = fault.place.offset }) d.line ∙ ap (λ o. record { name = r.name; file = r.file; line = r.line; offset = o }) d.offset
+
+of_verdict : (s : Status) (u v : verdict.Verdict) (w x : Option (List ℕ)) → v ≡ u → WritesDue s (verdict_due u) w x → Ends s (verdict_due v) w x
+of_verdict s u v w x e h = verdict_ends s v w x (subst (λ (u : verdict.Verdict). WritesDue s (verdict_due u) w x) (sym e) h)
+
+-- the line of an answer to a check with this verdict
+pub answer_ends : (paths : List (List ℕ)) (a : Verdict) (v : verdict.Verdict) (s : Status) (w x : Option (List ℕ)) → Answers paths a v → WritesDue s (answer_due paths a) w x → Ends s (verdict_due v) w x
+unfolding answer_due
+answer_ends paths answer.Correct v s w x e h = of_verdict s verdict.Correct v w x e h
+answer_ends paths answer.Incomplete v s w x e h = of_verdict s verdict.Incomplete v w x e h
+answer_ends paths (answer.Loaded n) v s w x e h = of_verdict s (verdict.Loaded n) v w x e h
+answer_ends paths (answer.Refused fault) v s w x (r, e, d) h = of_verdict s (verdict.Refused (refusal_of paths fault)) v w x (e ∙ ap (λ (r : verdict.Refusal). verdict.Refused r) (sym (same_refusal paths fault r d))) h
+answer_ends paths answer.ReadFault v s w x e h = read_fault_ends s (verdict_due v) w x h
+answer_ends paths answer.OutOfMemory v s w x e h = out_of_memory_ends s (verdict_due v) w x h
+
+pub told_ends : (told : Option Files) (reference proof : List ℕ) (paths : List (List ℕ)) (a : Verdict) (s : Status) (w x : Option (List ℕ))
+    → IfSome told (λ files. Answers paths a (first_verdict files reference proof)) → WritesDue s (answer_due paths a) w x
+    → IfSome told (λ files. Ends s (verdict_due (first_verdict files reference proof)) w x)
+told_ends None reference proof paths a s w x h writes = tt
+told_ends (Some files) reference proof paths a s w x h writes = answer_ends paths a (first_verdict files reference proof) s w x h writes
+
+-- an answer other than a fault of reading has no such status
+read_fault_is : {F : Type 0} (told : Option F) (paths : List (List ℕ)) (a : Verdict) (before now : ℕ) → status.ReadFault ≡ (answer_due paths a).status → AnswerHasCause a told before now → Rose before now
+unfolding answer_due
+read_fault_is told paths answer.Correct before now e h = cc
+read_fault_is told paths answer.Incomplete before now e h = cc
+read_fault_is told paths (answer.Loaded n) before now e h = cc
+read_fault_is told paths (answer.Refused fault) before now e h = cc
+read_fault_is told paths answer.OutOfMemory before now e h = cc
+read_fault_is told paths answer.ReadFault before now e h = h
+
+pub end_has_cause : {F : Type 0} (told : Option F) (paths : List (List ℕ)) (a : Verdict) (s : Status) (w x : Option (List ℕ)) (before now sink_before sink_now : ℕ)
+    → WritesDue s (answer_due paths a) w x → AnswerHasCause a told before now → (s ≡ status.WriteFault → Rose sink_before sink_now) → EndHasCause s before now sink_before sink_now
+end_has_cause told paths a status.Ok w x before now sink_before sink_now h cause written = tt
+end_has_cause told paths a status.Incomplete w x before now sink_before sink_now h cause written = tt
+end_has_cause told paths a status.Refused w x before now sink_before sink_now h cause written = tt
+end_has_cause told paths a status.Usage w x before now sink_before sink_now h cause written = tt
+end_has_cause told paths a status.OutOfMemory w x before now sink_before sink_now h cause written = tt
+end_has_cause told paths a status.WriteFault w x before now sink_before sink_now h cause written = written refl
+end_has_cause told paths a status.ReadFault w x before now sink_before sink_now h cause written = read_fault_is told paths a before now h.0 cause
+
+no_usage_due : (paths : List (List ℕ)) (a : Verdict) → (answer_due paths a).status ≢ status.Usage
+unfolding answer_due
+no_usage_due paths answer.Correct = λ e. cc
+no_usage_due paths answer.Incomplete = λ e. cc
+no_usage_due paths (answer.Loaded n) = λ e. cc
+no_usage_due paths (answer.Refused fault) = λ e. cc
+no_usage_due paths answer.OutOfMemory = λ e. cc
+no_usage_due paths answer.ReadFault = λ e. cc
+
+-- a check does not end with the status of the usage line
+pub no_usage : (paths : List (List ℕ)) (a : Verdict) (s : Status) (w x : Option (List ℕ)) → WritesDue s (answer_due paths a) w x → s ≢ status.Usage
+no_usage paths a status.Ok w x h = λ e. cc
+no_usage paths a status.Incomplete w x h = λ e. cc
+no_usage paths a status.Refused w x h = λ e. cc
+no_usage paths a status.OutOfMemory w x h = λ e. cc
+no_usage paths a status.ReadFault w x h = λ e. cc
+no_usage paths a status.WriteFault w x h = λ e. cc
+no_usage paths a status.Usage w x h = λ _. no_usage_due paths a (sym h.0)
+
+-- the words name the files of the job
+pub words_end : (told : Option Files) (s : Status) (w x : Option (List ℕ)) (words : FirstWords) (reference : Option (List ℕ)) (proof : List ℕ) → reference ≡ Some words.reference → proof ≡ words.proof
+    → IfSome told (λ files. Ends s (verdict_due (first_verdict files (unwrap_or reference []) proof)) w x) → IfSome told (λ files. Ends s (first_due files (Some words)) w x)
+unfolding first_due
+words_end None s w x words reference proof e e' h = tt
+words_end (Some files) s w x words reference proof e e' h =
+    subst (λ (r : List ℕ). Ends s (verdict_due (first_verdict files r words.proof)) w x) (ap (λ o. unwrap_or o []) e)
+    (subst (λ (p : List ℕ). Ends s (verdict_due (first_verdict files (unwrap_or reference []) p)) w x) e' h)
+
+-- the words have this reading
+pub reading_ends : (told : Option Files) (s : Status) (w x : Option (List ℕ)) (reading other : Option FirstWords) → reading ≡ other
+    → IfSome told (λ files. Ends s (first_due files reading) w x) → IfSome told (λ files. Ends s (first_due files other) w x)
+reading_ends told s w x reading other e h = subst (λ (o : Option FirstWords). IfSome told (λ files. Ends s (first_due files o) w x)) e h
+
+-- the words have no reading
+pub no_reading_ends : (told : Option Files) (s : Status) (w x : Option (List ℕ)) → Ends s usage_due w x → IfSome told (λ files. Ends s (first_due files None) w x)
+unfolding first_due
+no_reading_ends None s w x h = tt
+no_reading_ends (Some files) s w x h = h

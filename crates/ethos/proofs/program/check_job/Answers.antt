@@ -1,0 +1,15 @@
+use Rattle.ethos.proofs.EndLemmas.{told_ends, end_has_cause, no_usage}
+use Rattle.ethos.proofs.AbsentLemmas.{absent_by_answer}
+use Rattle.ethos.proofs.program.check_job.Goals as goal
+
+pub returns-clause-exact : goal.returns-clause-exact
+returns-clause-exact g c = told_ends _ _ _ _ _ _ _ _ c.check_files-verdict.ensures.verdict c.print_verdict.ensures.due
+
+pub returns-clause-cause : goal.returns-clause-cause
+returns-clause-cause g c = end_has_cause _ _ _ _ _ _ _ _ _ _ c.print_verdict.ensures.due c.check_files-verdict.ensures.cause c.print_verdict.ensures.cause
+
+pub returns-clause-usage : goal.returns-clause-usage
+returns-clause-usage g c = no_usage _ _ _ _ _ c.print_verdict.ensures.due
+
+pub returns-clause-absent : goal.returns-clause-absent
+returns-clause-absent g c = absent_by_answer _ _ _ _ _ _ _ _ c.print_verdict.ensures.due c.check_files-verdict.ensures.cause

@@ -1,0 +1,8 @@
+-- How the code reads the words.
+use Rattle.std.specs.Prelude.{ℕ, List}
+use Rattle.eo_run.specs.FirstForm as first
+use Rattle.ethos.specs.declared.words.FilePaths.{FilePaths}
+
+-- the paths that the words name
+abbrev pub paths_of : FilePaths → first.FirstWords
+paths_of paths = record { reference = paths.reference.now; proof = paths.proof.now }

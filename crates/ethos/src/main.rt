@@ -1,0 +1,51 @@
+//! The program `ethos`: it checks a proof against a reference file.
+#![tactic(auto)]
+
+mod program;
+mod words;
+
+use eo_base::{Status, Text};
+use eo_io::{DiskLibrary, StdSink};
+pub use program::ethos_main;
+use std::alloc::AllocError;
+use std::env;
+use std::io::ErrorKind;
+use std::process::ExitCode;
+
+/// Runs the program on the command line's words, the system's files and the standard output, and
+/// ends with its status. Where there is no memory for these, it writes nothing and ends with
+/// status 6.
+fn main(rt: HostRuntime) -> ExitCode {
+    let status = match run(&rt) {
+        Ok(status) => status,
+        Err(AllocError) => Status::OutOfMemory,
+    };
+    ExitCode::from(status.code())
+}
+
+/// Runs the program. `Err` is want of memory for the words, the library or the sink.
+fn run(rt: &HostRuntime) -> Result<Status, AllocError> {
+    let words = words_of(rt)?;
+    let mut files = DiskLibrary::new(rt.clone()?, rt.alloc())?;
+    let mut out = StdSink::new(rt.clone()?);
+    Ok(ethos_main(rt.alloc(), words.as_slice(), &mut files, &mut out))
+}
+
+/// The words of the command line, or no words, which have no reading, where one of them is no
+/// UTF-8. `Err` is want of memory.
+fn words_of(rt: &HostRuntime) -> Result<Vec<Text>, AllocError> {
+    let mut words = Vec::new(rt.alloc());
+    match env::args(rt) {
+        Ok(arguments) => {
+            for argument in arguments {
+                words.push(Text::new(rt.alloc(), argument.as_str())?)?;
+            }
+        }
+        Err(e) if e.kind() == ErrorKind::OutOfMemory => return Err(AllocError),
+        Err(_) => {}
+    }
+    Ok(words)
+}
+
+#[cfg(test)]
+mod tests;
