@@ -20,7 +20,7 @@ use Rattle.eo_term.specs.Held.{tree_of_key, trees_of, Tells, IsOver, IsEntry, Ho
 use Rattle.eo_term.specs.contracts.node.KeyPartialEq.TheImpl as key_eq
 use Rattle.eo_term.proofs.Exact.{key_exact}
 use Rattle.eo_term.proofs.Grown.{grows_of, grows_refl, slice_get_push, SameTexts, SameTrees-append, SameTexts-append, SameTexts-refl, SameTrees-refl, tree_of_key-same, trees_of-push, trees_after-texts}
-use Rattle.eo_term.proofs.Apart.{one_key}
+use Rattle.eo_term.proofs.Apart.{one_key, nothing_new}
 
 pub slice_get_some : {X : Type 0} (xs : List X) (i : ℕ) → i < length xs → (x : X) × (slice_get xs i ≡ Some x)
 slice_get_some [] i h = absurd (omega arith)
@@ -213,7 +213,7 @@ module _ (es : List (Key × Info)) (xs : List (List ℕ)) (h : IsSound es xs) wh
   pub Interned-found : (k : Key) (i : ℕ) → position (key_eq.ghosts.eq k) (keys_of es) ≡ Some i → Interned (shown es xs) (tree_of_key (trees_of xs es) xs k) i (shown es xs)
   Interned-found k i p =
       let f = found_tree es xs k i h p in
-      record { live = f.0; tree = f.1; texts = refl; grown = inl refl; grows = grows_refl (shown es xs); apart = h.apart }
+      record { live = f.0; tree = f.1; texts = refl; known = λ c. refl; grown = inl refl; grows = grows_refl (shown es xs); apart = h.apart }
 
   module _ (k : Key) (s : Info) (over : IsOver (length (trees_of xs es)) (length xs) k) (tells : Tells (tree_of_key (trees_of xs es) xs k) s) (low : s.height ≤ HEIGHT_LIMIT)
       (none : lookup (key_eq.ghosts.eq k) es ≡ None) where
@@ -221,18 +221,20 @@ module _ (es : List (Key × Info)) (xs : List (List ℕ)) (h : IsSound es xs) wh
     Interned-push =
         let ts : List Tree = trees_of xs es in
         let grown : trees_of xs (es ++ (k, s) ∷ []) ≡ ts ++ tree_of_key ts xs k ∷ [] = trees_of-push xs es (k, s) in
+        let apart = (IsSound-push es xs k s h over tells low none).apart in
         record {
           live = omega (arith, ap length grown, length-append ts (tree_of_key ts xs k ∷ []), h.count);
           tree = (λ j. tree_at (grown j) (length es)) ∙ ap (tree_at (ts ++ tree_of_key ts xs k ∷ [])) (sym h.count) ∙ get_or-append_seam ts (tree_of_key ts xs k) [] (Con 0);
           texts = refl;
+          known = λ c. ap (λ us. record { trees = us; texts = xs }) (nothing_new ts (trees_of xs (es ++ (k, s) ∷ [])) (tree_of_key ts xs k) apart (inr grown) c);
           grown = inr grown;
           grows = grows_of (shown es xs) (shown (es ++ (k, s) ∷ []) xs) (ap (take (length ts)) grown ∙ take-append_seam ts (tree_of_key ts xs k ∷ [])) (take-length xs) (omega (arith, ap length grown, length-append ts (tree_of_key ts xs k ∷ []))) (omega arith);
-          apart = (IsSound-push es xs k s h over tells low none).apart;
+          apart = apart;
         }
 
 module _ (es : List (Key × Info)) (xs : List (List ℕ)) (h : IsSound es xs) (w : List ℕ) (good : AreCharacters w) where
   pub InternedText-found : (i : ℕ) → i < length xs → text_at xs i ≡ w → InternedText (shown es xs) w i (shown es xs)
-  InternedText-found i l e = record { live = l; text = e; trees = refl; grown = inl refl; grows = grows_refl (shown es xs); apart = h.texts_apart }
+  InternedText-found i l e = record { live = l; text = e; trees = refl; known = λ c. refl; grown = inl refl; grows = grows_refl (shown es xs); apart = h.texts_apart }
 
   pub InternedText-push : ((i : ℕ) → i < length xs → text_at xs i ≡ w → ⊥) → InternedText (shown es xs) w (length xs) (shown es (xs ++ w ∷ []))
   InternedText-push absent =
@@ -241,6 +243,7 @@ module _ (es : List (Key × Info)) (xs : List (List ℕ)) (h : IsSound es xs) (w
         live = omega (arith, length-append xs (w ∷ []));
         text = get_or-append_seam xs w [] [];
         trees = g.0;
+        known = λ c. λ j. record { trees = g.0 j; texts = nothing_new xs (xs ++ w ∷ []) w g.1.texts_apart (inr refl) c j };
         grown = inr refl;
         grows = grows_of (shown es xs) (shown es (xs ++ w ∷ [])) (ap (take (length (trees_of xs es))) g.0 ∙ take-length (trees_of xs es)) (take-append_seam xs (w ∷ [])) (omega (arith, ap length g.0)) (omega (arith, length-append xs (w ∷ [])));
         apart = g.1.texts_apart;

@@ -1,11 +1,11 @@
 -- What a table of terms holds, and what its calls say of it.
-use Rattle.std.specs.Prelude.{◌≡◌, ℕ, ◌<◌, ◌≤◌, ◌^◌, ◌⊎◌, ◌≢◌, List, [], ◌∷◌, ◌++◌, length, take, slice_index_or, AllPairs, All, Contains}
+use Rattle.std.specs.Prelude.{◌≡◌, ℕ, ◌<◌, ◌≤◌, ◌^◌, ◌⊎◌, ◌≢◌, false, List, [], ◌∷◌, ◌++◌, length, take, slice_index_or, AllPairs, All, Contains}
 use Rattle.eo_base.specs.Limits.{bits_limit, parameters_limit}
 use Rattle.eo_term.specs.declared.OpName.{OpName}
 use Rattle.eo_term.specs.declared.OpCode.{OpCode}
 use Rattle.eo_term.specs.declared.node.Node.{Node}
 use Rattle.eo_term.specs.declared.node.Node.TheVariants as node
-use Rattle.eo_term.specs.Tree.{Tree, Trees, Con, Num, Bits, Str, Par, Var, App, Arr, Qar, Op, NoTree, More}
+use Rattle.eo_term.specs.Tree.{Tree, Trees, Con, Num, Bits, Str, Par, Var, App, Arr, Qar, Op, NoTree, More, is_tall}
 use Rattle.eo_term.specs.Arguments.{count_of}
 
 -- The tree of each term and the characters of each text, in order. The number of a term or a text is its place.
@@ -169,6 +169,32 @@ IsProper (node.Op c n) = HasArity c n
 abbrev pub AreApart : {X : Type 0} → List X → Type 0
 AreApart {X} xs = AllPairs {X = X} (λ x y. x ≢ y) xs
 
+-- no tree is too tall
+abbrev pub AreLow : List Tree → Type 0
+AreLow ts = (i : ℕ) → i < length ts → is_tall (tree_at ts i) ≡ false
+
+-- each of the trees is among those
+abbrev pub AreAmong : List Tree → Trees → Type 0
+AreAmong ts NoTree = Unit {0}
+AreAmong ts (More u us) = Contains ts u × AreAmong ts us
+
+-- each part of the tree's root is among those
+abbrev pub HasPartsAmong : List Tree → Tree → Type 0
+HasPartsAmong ts (Con k) = Unit {0}
+HasPartsAmong ts (Num z) = Unit {0}
+HasPartsAmong ts (Bits w v) = Unit {0}
+HasPartsAmong ts (Str s) = Unit {0}
+HasPartsAmong ts (Par i) = Unit {0}
+HasPartsAmong ts (Var s t) = Contains ts t
+HasPartsAmong ts (App f x) = Contains ts f × Contains ts x
+HasPartsAmong ts (Arr a b) = Contains ts a × Contains ts b
+HasPartsAmong ts (Qar i t b) = Contains ts t × Contains ts b
+HasPartsAmong ts (Op c us) = AreAmong ts us
+
+-- the parts of each tree stand before it
+abbrev pub HaveOlderParts : List Tree → Type 0
+HaveOlderParts ts = (i : ℕ) → i < length ts → HasPartsAmong (take i ts) (tree_at ts i)
+
 -- the terms that each table begins with
 abbrev pub first_trees : List Tree
 first_trees = Con 0 ∷ Con 1 ∷ Con 2 ∷ Con 3 ∷ []
@@ -212,6 +238,7 @@ pub record Interned (old : Terms) (t : Tree) (i : ℕ) (new : Terms) : Type 0 wh
   pub live : i < length new.trees
   pub tree : tree_at new.trees i ≡ t
   pub texts : new.texts ≡ old.texts
+  pub known : Contains old.trees t → new ≡ old
   pub grown : (new.trees ≡ old.trees) ⊎ (new.trees ≡ old.trees ++ t ∷ [])
   pub grows : Grows old new
   pub apart : AreApart new.trees
@@ -221,6 +248,7 @@ pub record InternedText (old : Terms) (w : List ℕ) (i : ℕ) (new : Terms) : T
   pub live : i < length new.texts
   pub text : text_at new.texts i ≡ w
   pub trees : new.trees ≡ old.trees
+  pub known : Contains old.texts w → new ≡ old
   pub grown : (new.texts ≡ old.texts) ⊎ (new.texts ≡ old.texts ++ w ∷ [])
   pub grows : Grows old new
   pub apart : AreApart new.texts

@@ -3,17 +3,17 @@ ghost use Rattle.std.specs.Prelude.{◌≡◌, ℕ, ◌+◌, ◌<◌, ◌≤◌,
 ghost use Rattle.eo_base.specs.Characters.{AreCharacters};
 ghost use Rattle.eo_term.specs.Tree.{height, height_all, is_tall, is_value, is_closed, all_closed, NoTree, Op, App};
 ghost use Rattle.eo_term.specs.Arguments.{count_of, arguments_of, argument_at};
-ghost use Rattle.eo_term.specs.Terms.{Terms, tree_at, text_at, trees_at, tree_of, PartsBelow, TextsBelow, IsPlain, HasCount, HasArity, IsProper, AreApart, Grows, Interned, InternedText, IsMark, first_trees};
+ghost use Rattle.eo_term.specs.Terms.{Terms, tree_at, text_at, trees_at, tree_of, PartsBelow, TextsBelow, IsPlain, HasCount, HasArity, IsProper, AreApart, AreLow, HaveOlderParts, Grows, Interned, InternedText, IsMark, first_trees};
 ghost use Rattle.eo_term.specs.Refused.{IsTall};
-ghost use Rattle.eo_term.specs.Carry.{Carried};
 ghost use Rattle.eo_term.specs.Held.{Tells, IsEntry, IsOver, tree_of_key};
 
-use crate::carry::{kept_entries, move_ids, needed_entries, new_places, put_entries};
 use crate::node::{Info, Key};
 use crate::{Id, Mark, Node, OpCode, TextId};
 use indexmap::{IndexMap, IndexSet};
 use std::alloc::{AllocError, Global};
 use std::marker::Model;
+
+mod release;
 
 /// The greatest height of a term.
 pub const HEIGHT_LIMIT: u32 = 2000;
@@ -21,16 +21,35 @@ pub const HEIGHT_LIMIT: u32 = 2000;
 /// Why a term was not made.
 #[derive(Debug, Drop)]
 pub enum TermRefused {
+    /// Its height would exceed [`HEIGHT_LIMIT`].
     Tall,
+    /// There was no memory left.
     Memory(AllocError),
 }
 
-/// A table of terms, in which each tree stands once.
+impl From<AllocError> for TermRefused {
+    ghost use Rattle.std.specs.Prelude.{◌≡◌};
+    ghost use Rattle.eo_term.specs.declared.table.TermRefused.TheVariants.{Memory};
+
+    ghost from_gives = { λ e refused. refused ≡ Memory e };
+
+    fn from(e: AllocError) -> TermRefused {
+        TermRefused::Memory(e)
+    }
+}
+
+/// A table of terms and texts. Contracts see it as the list of its trees and the list of its
+/// texts; an [`Id`] or a [`TextId`] is a place in them.
+///
+/// No two terms have the same tree, so two live ids are equal exactly where their trees are. The
+/// parts of a term stand before it. A term's height, and whether it is a value and whether it is
+/// closed, are stored with it.
 #[derive(Drop)]
 pub struct Table {
     alloc: Global,
+    // A term's number is its place, so terms are dropped from the end at a cost of what is dropped.
     nodes: IndexMap<Key, Info>,
-    words: IndexSet<Vec<u32>>,
+    texts: IndexSet<Vec<u32>>,
 }
 
 impl Model for Table {
@@ -43,9 +62,9 @@ impl Model for Table {
 
     ghost coded = { terms_code };
 
-    ghost view = { λ a. let xs = map (λ w. w.items) a.words.keys in record { trees = trees_of xs a.nodes.entries; texts = xs } };
+    ghost view = { λ a. let xs = map (λ w. w.items) a.texts.keys in record { trees = trees_of xs a.nodes.entries; texts = xs } };
 
-    ghost invariant = { λ a. IsSound a.nodes.entries (map (λ w. w.items) a.words.keys) };
+    ghost invariant = { λ a. IsSound a.nodes.entries (map (λ w. w.items) a.texts.keys) };
 }
 
 impl Table {
@@ -67,32 +86,35 @@ impl Table {
         Ok(Table {
             alloc,
             nodes,
-            words: IndexSet::new(alloc),
+            texts: IndexSet::new(alloc),
         })
     }
 
-    /// How many terms there are.
+    /// How many terms there are. The constants 0 to 3 are always there.
     pub fn len(&self) -> usize
         ensures len { result ≡ length self.now.trees }
         ensures apart { AreApart self.now.trees }
         ensures same { (i j : ℕ) → i < length self.now.trees → j < length self.now.trees → tree_at self.now.trees i ≡ tree_at self.now.trees j → i ≡ j }
+        ensures older { HaveOlderParts self.now.trees }
+        ensures low { AreLow self.now.trees }
         ensures first { take 4 self.now.trees ≡ first_trees }
     {
         self.nodes.len()
     }
 
-    /// Where the table stands.
+    /// The present place in the table's history, to which it can be cut later.
     pub fn mark(&self) -> Mark
         ensures mark { result ≡ (length self.now.trees, length self.now.texts) }
         ensures holds { IsMark self.now result }
     {
         Mark {
             terms: self.nodes.len(),
-            texts: self.words.len(),
+            texts: self.texts.len(),
         }
     }
 
-    /// The root of a term. Its parts are older terms.
+    /// The root of a term. Its parts are older terms; the arguments of an operator are told by
+    /// [`Table::arg`].
     pub fn node(&self, id: Id) -> Node
         requires { id < length self.now.trees }
         ensures tree { tree_of self.now.trees self.now.texts result (arguments_of (tree_at self.now.trees id)) ≡ tree_at self.now.trees id }
@@ -105,7 +127,7 @@ impl Table {
         key.node
     }
 
-    /// An argument of an operator, an older term.
+    /// The argument of an operator at a place, counted from 0. It is an older term.
     pub fn arg(&self, id: Id, i: usize) -> Id
         requires live { id < length self.now.trees }
         requires within { i < count_of (arguments_of (tree_at self.now.trees id)) }
@@ -116,7 +138,7 @@ impl Table {
         key.args[i]
     }
 
-    /// Whether two terms are the same tree.
+    /// Whether two terms have the same tree.
     pub fn is_same(&self, a: Id, b: Id) -> bool
         requires first { a < length self.now.trees }
         requires second { b < length self.now.trees }
@@ -132,11 +154,12 @@ impl Table {
         requires second { b < length self.now.texts }
         ensures { IsTrue result ↔ (text_at self.now.texts a ≡ text_at self.now.texts b) }
     {
-        let _ = &self.nodes;
+        let _ = &self.texts;
         a.number == b.number
     }
 
-    /// The height of a term.
+    /// The height of a term, from 1 to [`HEIGHT_LIMIT`]: that of a leaf is 1, that of any other
+    /// term is 1 more than its tallest part's.
     pub fn height(&self, id: Id) -> u32
         requires { id < length self.now.trees }
         ensures height { result ≡ height (tree_at self.now.trees id) }
@@ -146,10 +169,12 @@ impl Table {
         info.height
     }
 
-    /// Whether a term is a value: it has no parameter, no operator and no function type that binds one.
+    /// Whether a term is a value: it has no parameter, no operator and no function type that binds
+    /// one.
     pub fn is_value(&self, id: Id) -> bool
         requires { id < length self.now.trees }
-        ensures { result ≡ is_value (tree_at self.now.trees id) }
+        ensures value { result ≡ is_value (tree_at self.now.trees id) }
+        ensures low { AreLow self.now.trees }
     {
         let (_, info) = self.entry(id);
         info.value
@@ -158,7 +183,8 @@ impl Table {
     /// Whether a term has no parameter.
     pub fn is_closed(&self, id: Id) -> bool
         requires { id < length self.now.trees }
-        ensures { result ≡ is_closed (tree_at self.now.trees id) }
+        ensures closed { result ≡ is_closed (tree_at self.now.trees id) }
+        ensures low { AreLow self.now.trees }
     {
         let (_, info) = self.entry(id);
         info.closed
@@ -170,10 +196,11 @@ impl Table {
         ensures text { result.now ≡ text_at self.now.texts text }
         ensures characters { AreCharacters result.now }
     {
-        self.words.get_index(text.number).unwrap().as_slice()
+        self.texts.get_index(text.number).unwrap().as_slice()
     }
 
-    /// The text with these characters.
+    /// The text with these characters, which are added where they are not there. Where there is no
+    /// memory left, the table stays as it is.
     pub fn text(&mut self, chars: &[u32]) -> Result<TextId, AllocError>
         requires { AreCharacters chars.now }
         ensures text { IfOk result (λ t. InternedText self.old chars.now t self.new) }
@@ -181,18 +208,22 @@ impl Table {
         ensures grows { Grows self.old self.new }
         ensures grown { (t : Terms) → Grows t self.old → Grows t self.new }
     {
-        match self.words.get_index_of(chars) {
+        match self.texts.get_index_of(chars) {
             Some(number) => Ok(TextId { number }),
             None => {
-                let number = self.words.len();
+                let number = self.texts.len();
                 let owned = chars.to_vec(self.alloc)?;
-                self.words.insert(owned)?;
+                self.texts.insert(owned)?;
                 Ok(TextId { number })
             }
         }
     }
 
-    /// The term with this root.
+    /// The term with this root, which is not an operator, over live terms and texts. It is added
+    /// where its tree is not there. A bit string has at most 128 bits and fits its width.
+    ///
+    /// It is refused with [`TermRefused::Tall`] exactly where its height would exceed
+    /// [`HEIGHT_LIMIT`]. The table then stays as it is, and also where there is no memory left.
     pub fn intern(&mut self, node: Node) -> Result<Id, TermRefused>
         requires plain { IsPlain node }
         requires parts { PartsBelow (length self.old.trees) node }
@@ -209,13 +240,14 @@ impl Table {
             return Err(TermRefused::Tall);
         }
         let key = Key::plain(self.alloc, node);
-        match self.add(key, info) {
-            Ok(id) => Ok(id),
-            Err(e) => Err(TermRefused::Memory(e)),
-        }
+        Ok(self.add(key, info)?)
     }
 
-    /// The term that applies an operator or a program.
+    /// The term that applies an operator of the language, to as many arguments as it takes, or a
+    /// program, to at most 64. It is added where its tree is not there.
+    ///
+    /// It is refused with [`TermRefused::Tall`] exactly where its height would exceed
+    /// [`HEIGHT_LIMIT`]. The table then stays as it is, and also where there is no memory left.
     pub fn intern_op(&mut self, code: OpCode, args: &[Id]) -> Result<Id, TermRefused>
         requires count { HasArity code (length args.now) }
         requires args { All (λ j. j < length self.old.trees) args.now }
@@ -229,74 +261,19 @@ impl Table {
         if info.height > HEIGHT_LIMIT {
             return Err(TermRefused::Tall);
         }
-        let owned = match args.to_vec(self.alloc) {
-            Ok(owned) => owned,
-            Err(e) => return Err(TermRefused::Memory(e)),
-        };
         let node = Node::Op {
             code,
             count: args.len() as u8,
         };
-        match self.add(Key { node, args: owned }, info) {
-            Ok(id) => Ok(id),
-            Err(e) => Err(TermRefused::Memory(e)),
-        }
-    }
-
-    /// Drops the terms and the texts that were made after the mark. Older ones stay as they are.
-    pub fn release(&mut self, mark: Mark)
-        requires { IsMark self.old mark }
-        ensures trees { self.new.trees ≡ take mark.0 self.old.trees }
-        ensures texts { self.new.texts ≡ take mark.1 self.old.texts }
-        ensures marks { (m : ℕ × ℕ) → m.0 ≤ mark.0 → m.1 ≤ mark.1 → IsMark self.old m → IsMark self.new m }
-    {
-        self.nodes.truncate(mark.terms);
-        self.words.truncate(mark.texts);
-    }
-
-    /// Releases to the mark, but keeps the trees of some terms, whose numbers are replaced by new ones.
-    pub fn carry_all(&mut self, mark: Mark, ids: &mut [Id]) -> Result<(), AllocError>
-        requires mark { IsMark self.old mark }
-        requires live { All (λ j. j < length self.old.trees) ids.old }
-        ensures ok { OnOk result (Carried self.old mark.0 ids.old ids.new self.new) }
-        ensures err { OnErr result (self.new ≡ self.old) }
-        ensures ids_err { OnErr result (ids.new ≡ ids.old) }
-    {
-        let start = mark.terms;
-        let needed = needed_entries(self.alloc, &self.nodes, start, ids)?;
-        let places = new_places(self.alloc, start, needed.as_slice())?;
-        let kept = kept_entries(
-            self.alloc,
-            &self.nodes,
-            start,
-            needed.as_slice(),
-            places.as_slice(),
-        )?;
-        self.nodes.reserve(kept.len())?;
-        self.nodes.truncate(start);
-        put_entries(&mut self.nodes, kept);
-        move_ids(ids, start, places.as_slice());
-        Ok(())
-    }
-
-    /// Releases to the mark, but keeps the tree of one term, and answers its new number.
-    pub fn carry(&mut self, mark: Mark, id: Id) -> Result<Id, AllocError>
-        requires mark { IsMark self.old mark }
-        requires live { id < length self.old.trees }
-        ensures carried { IfOk result (λ i. Carried self.old mark.0 (id ∷ []) (i ∷ []) self.new) }
-        ensures live { IfOk result (λ i. i < length self.new.trees) }
-        ensures tree { IfOk result (λ i. tree_at self.new.trees i ≡ tree_at self.old.trees id) }
-        ensures err { OnErr result (self.new ≡ self.old) }
-    {
-        let mut ids = [id];
-        self.carry_all(mark, &mut ids)?;
-        Ok(ids[0])
+        let args = args.to_vec(self.alloc)?;
+        Ok(self.add(Key { node, args }, info)?)
     }
 
     // The key of a term, and what is known of it.
     fn entry(&self, id: Id) -> (&Key, Info)
         requires { id < length self.now.trees }
-        ensures { IsEntry self.now.trees self.now.texts id result.0.now result.1 }
+        ensures entry { IsEntry self.now.trees self.now.texts id result.0.now result.1 }
+        ensures low { AreLow self.now.trees }
     {
         let (key, info) = self.nodes.get_index(id.number).unwrap();
         (key, *info)
