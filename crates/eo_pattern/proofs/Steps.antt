@@ -1,19 +1,17 @@
 -- Matching step by step.
-use Rattle.std.specs.Prelude.{◌≡◌, ℕ, zero, suc, ◌<◌, Bool, true, false, not, ◌&&◌, ◌||◌, nat_eq, if◌then◌else◌, List, [], ◌∷◌, map, Option, Some, None, is_some, refl}
-use Rattle.std.specs.List.{list_any}
-use Rattle.std.specs.Option.{option_or}
+use Rattle.std.specs.Prelude.{◌≡◌, ℕ, zero, suc, ◌<◌, Bool, true, false, ◌||◌, nat_eq, if◌then◌else◌, List, [], ◌∷◌, map, Option, Some, None, is_some, refl}
 use Rattle.std.proofs.Common.{sym, ◌∙◌, ap, ap₂, subst, true≢false}
 use Rattle.std.proofs.lemmas.Bool.Decides.{Decides-eqb}
 use Rattle.std.proofs.lemmas.Option.{none-some, same_Some}
 use mathlib.Core.Path.{fun_ext}
 use Rattle.eo_term.specs.Tree.{Tree, Con, Num, Bits, Str, Par, Var, App, Arr, Qar, Op, Trees, NoTree, More, to_list, is_closed, all_closed, occurs, occurs_in, occurs_in_all}
 use Rattle.eo_term.specs.declared.OpCode.{OpCode}
-use Rattle.eo_term.proofs.Equality.{both, join}
+use Rattle.eo_term.proofs.Equality.{both}
 use Rattle.eo_term.proofs.Values.{clash}
-use Rattle.eo_pattern.specs.Matching.{Assignment, empty, assign, value_or_par, put, put_all, Matches}
-use Rattle.eo_pattern.specs.Slots.{Slots, held, SlotBelow, AreBelow, Holds, Leads, Keeps}
+use Rattle.eo_pattern.specs.Matching.{Assignment, assign, value_or_par, put, put_all, Matches}
+use Rattle.eo_pattern.specs.Slots.{Slots, SlotBelow, AreBelow, Holds, Leads, Keeps}
 use Rattle.eo_term.specs.Arguments.{count_of, argument_at}
-use Rattle.std.proofs.Common.{arith, length, get_or, set, take, drop, slice_get, ◌++◌, ◌+◌, ◌≤◌}
+use Rattle.std.proofs.Common.{arith, length, get_or, set, take, drop, slice_get, ◌+◌, ◌≤◌}
 use Rattle.std.proofs.Math.Seq.{drop-cons}
 use Rattle.std.proofs.Common.{All}
 use Rattle.std.proofs.lemmas.List.Elements.{All-head, All-tail, All-weaker}
@@ -297,33 +295,10 @@ args_occur i ts o = occurs_listed i ts ∙ o
 pub keeps_trans : (n : ℕ) (s t u : Slots) → Keeps n s t → Keeps n t u → Keeps n s u
 keeps_trans n s t u a b = record { room = b.room ∙ a.room; height = b.height ∙ a.height; below = b.below }
 
-pub either_left : (a b : Bool) → a ≡ true → (a || b) ≡ true
-either_left a b e = ap (λ c. c || b) e
-
-pub either_right : (a b : Bool) → b ≡ true → (a || b) ≡ true
-either_right a b e = or_right a b e
-
 pub leads_at : (σ : Assignment) (ps ts : List Tree) (τ : Assignment) (qs us vs ws : List Tree) → qs ≡ vs → us ≡ ws → Leads σ ps ts τ qs us → Leads σ ps ts τ vs ws
 leads_at σ ps ts τ qs us vs ws e g l = subst (λ zs. Leads σ ps ts τ zs ws) e (subst (λ zs. Leads σ ps ts τ qs zs) g l)
 
 -- what is held
-
-flat_none : (vs : List (Option ℕ)) (j : ℕ) → ((k : ℕ) → k < length vs → get_or vs k None ≡ None) → option_flatten (slice_get vs j) ≡ None
-flat_none [] j h = refl
-flat_none (v ∷ vs) zero h = h 0 (omega arith)
-flat_none (v ∷ vs) (suc j) h = flat_none vs j (λ k l. h (suc k) (omega arith))
-
-pub held_none : (ts : List Tree) (vs : List (Option ℕ)) (h : ℕ) → ((k : ℕ) → k < length vs → get_or vs k None ≡ None) → held ts (record { values = vs; height = h }) ≡ empty
-held_none ts vs h n = fun_ext (λ j. ap (option_map (tree_at ts)) (flat_none vs j n))
-
-flat_push : (vs : List (Option ℕ)) (j : ℕ) → option_flatten (slice_get (vs ++ None ∷ []) j) ≡ option_flatten (slice_get vs j)
-flat_push [] zero = refl
-flat_push [] (suc j) = refl
-flat_push (v ∷ vs) zero = refl
-flat_push (v ∷ vs) (suc j) = flat_push vs j
-
-pub held_push : (ts : List Tree) (vs : List (Option ℕ)) (h g : ℕ) → held ts (record { values = vs ++ None ∷ []; height = h }) ≡ held ts (record { values = vs; height = g })
-held_push ts vs h g = fun_ext (λ j. ap (option_map (tree_at ts)) (flat_push vs j))
 
 pub count_put : (τ : Assignment) (ts : Trees) → count_of (put_all τ ts) ≡ count_of ts
 count_put τ NoTree = refl
@@ -367,8 +342,8 @@ slot_more n m l (Some i) h = omega arith
 -- what is held stays while the table grows
 pub holds_grown : (s : Slots) (old new : Terms) → AreBelow (length old.trees) s → Grows old new → Holds s old.trees new.trees
 holds_grown s old new h g = record {
-  held = fun_ext (λ j. slot_same (length old.trees) old.trees new.trees (record { at = g.tree }) s.values j h);
-  below = All-weaker (SlotBelow (length old.trees)) (SlotBelow (length new.trees)) (slot_more (length old.trees) (length new.trees) g.more_trees) s.values h;
+  held = fun_ext (λ j. slot_same (length old.trees) old.trees new.trees (record { at = g.tree }) s.values j h.slots);
+  below = record { slots = All-weaker (SlotBelow (length old.trees)) (SlotBelow (length new.trees)) (slot_more (length old.trees) (length new.trees) g.more_trees) s.values h.slots };
 }
 
 pub slot_live : (n : ℕ) (vs : List (Option ℕ)) (j v : ℕ) → All (SlotBelow n) vs → option_flatten (slice_get vs j) ≡ Some v → v < n

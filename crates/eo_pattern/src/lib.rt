@@ -9,3 +9,6 @@ mod substitution;
 pub use matching::match_terms;
 pub use subst::Subst;
 pub use substitution::substitute;
+
+#[cfg(test)]
+mod tests;

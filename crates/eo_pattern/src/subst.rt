@@ -61,10 +61,7 @@ impl Subst {
     pub fn get(&self, i: u8) -> Option<Id>
         ensures value { result ≡ option_flatten (slice_get self.now.values i) }
     {
-        match self.values.get(i as usize) {
-            Some(v) => *v,
-            None => None,
-        }
+        self.values.get(usize::from(i)).copied().flatten()
     }
 
     /// Drops what is held. The room stays.
@@ -75,9 +72,7 @@ impl Subst {
         ensures room { length self.new.values ≡ length self.old.values }
         ensures height { self.new.height ≡ self.old.height }
     {
-        for i in 0..self.values.len() {
-            self.values[i] = None;
-        }
+        self.values.as_mut_slice().fill(None);
     }
 
     /// Lets a term stand for the parameter.

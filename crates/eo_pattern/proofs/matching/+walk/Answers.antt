@@ -1,10 +1,9 @@
-use Rattle.std.proofs.Common.{◌≡◌, ℕ, ◌<◌, ◌+◌, true, List, [], ◌∷◌, length, refl, sym, ap, ◌∙◌, subst, arith}
-use Rattle.eo_term.specs.Tree.{Tree, Trees, More, to_list, occurs, occurs_in}
-use Rattle.eo_term.specs.Arguments.{arguments_of, argument_at, from, count_of}
+use Rattle.std.proofs.Common.{◌≡◌, ℕ, ◌<◌, ◌+◌, true, ◌∷◌, length, refl, sym, ap, ◌∙◌, arith}
+use Rattle.eo_term.specs.Tree.{Trees, to_list, occurs}
+use Rattle.eo_term.specs.Arguments.{arguments_of, from}
 use Rattle.eo_term.specs.Terms.{tree_at}
 use Rattle.eo_term.proofs.Arguments.{next, past}
-use Rattle.eo_pattern.specs.Matching.{Assignment, Matches}
-use Rattle.eo_pattern.specs.Slots.{held, Leads, Keeps}
+use Rattle.eo_pattern.specs.Slots.{held}
 use Rattle.eo_pattern.proofs.Steps.{leads_refl, leads_step, leads_none, leads_end, argument_occurs, keeps_trans, leads_at}
 use Rattle.std.proofs.lemmas.Bool.Decides.{Decides-eqb}
 use Rattle.eo_pattern.proofs.matching.+walk.Goals as goal

@@ -1,7 +1,7 @@
-use Rattle.std.proofs.Common.{◌≡◌, ℕ, true, false, [], ◌∷◌, sym, ap, ◌∙◌, subst, true≢false, arith}
+use Rattle.std.proofs.Common.{◌≡◌, [], ◌∷◌, sym, ap, ◌∙◌, subst, true≢false}
 use Rattle.eo_term.specs.declared.OpCode.{OpCode}
 use Rattle.eo_term.specs.Tree.{Tree, Trees, Op, to_list, occurs}
-use Rattle.eo_term.specs.Arguments.{arguments_of, count_of}
+use Rattle.eo_term.specs.Arguments.{arguments_of}
 use Rattle.eo_term.specs.Terms.{tree_at}
 use Rattle.eo_term.proofs.Exact.{code_exact, code_same}
 use Rattle.eo_pattern.specs.Slots.{Leads}

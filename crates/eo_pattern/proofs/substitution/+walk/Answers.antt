@@ -1,10 +1,10 @@
-use Rattle.std.proofs.Common.{◌≡◌, Bool, true, false, refl, ℕ, ◌<◌, List, length, get_or, take, sym, ap, ◌∙◌, subst, arith}
+use Rattle.std.proofs.Common.{◌≡◌, Bool, true, false, refl, ℕ, ◌<◌, length, get_or, take, sym, ap, ◌∙◌, subst, arith}
 use Rattle.std.proofs.Math.ListN.{length-set}
 use Rattle.std.specs.Prelude.{Result, Ok, Err, IfOk}
 use Rattle.std.proofs.lemmas.List.{length-take-le, get_or-take, get_or_default}
 use Rattle.eo_term.specs.declared.OpCode.{OpCode}
 use Rattle.eo_term.specs.declared.table.TermRefused.{TermRefused}
-use Rattle.eo_term.specs.Tree.{Tree, Trees, Op, is_tall}
+use Rattle.eo_term.specs.Tree.{Trees, Op, is_tall}
 use Rattle.eo_term.specs.Refused.{IsTall}
 use Rattle.eo_term.proofs.Heights.{tall_argument}
 use Rattle.std.proofs.lemmas.Result.{err_from_is_err_and}
@@ -22,7 +22,7 @@ put_term-returns-then-is_closed-clause-tree t c =
 
 pub put_term-returns-in-Some-clause-live : goal.put_term-returns-in-Some-clause-live
 put_term-returns-in-Some-clause-live t c =
-    slot_live (length c.args.table.now.trees) c.args.subst.now.values c.in-Par.i c.in-Some.v c.requires.below (sym c.get.ensures.value ∙ c.in-Some.is)
+    slot_live (length c.args.table.now.trees) c.args.subst.now.values c.in-Par.i c.in-Some.v c.requires.below.slots (sym c.get.ensures.value ∙ c.in-Some.is)
 
 pub put_term-returns-in_ok-ty-in-Var-clause-holds : goal.put_term-returns-in_ok-ty-in-Var-clause-holds
 put_term-returns-in_ok-ty-in-Var-clause-holds t c = holds_grown c.args.subst.now c.args.table.now c.intern.new.self c.requires.below (c.intern.ensures.grown c.args.table.now c.put_term.ensures.grows)

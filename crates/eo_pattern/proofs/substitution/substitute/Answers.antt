@@ -1,5 +1,5 @@
 use Rattle.std.proofs.Common.{◌≡◌, ℕ, take, sym, ap, ◌∙◌, subst}
-use Rattle.eo_term.specs.Terms.{Terms, Grows}
+use Rattle.eo_term.specs.Terms.{Grows}
 use Rattle.eo_pattern.proofs.substitution.substitute.Goals as goal
 
 pub release-requires : goal.release-requires
