@@ -111,25 +111,6 @@ par_new σ i t n = record { extends = more; names = named; equal = ap (λ u. u �
             other true r = absurd (true≢false (sym ((Decides-eqb i j).1 (sym ((Decides-eqb j i).0 r))) ∙ q))
             other false r = refl
 
-pub par_same : (σ : Assignment) (i : ℕ) (t u : Tree) → σ i ≡ Some u → u ≡ t → Matches σ (Par i ∷ []) (t ∷ []) σ
-par_same σ i t u e s = record {
-  extends = λ j v q. q;
-  names = named;
-  equal = ap (λ v. v ∷ []) (ap (value_or_par i) e ∙ s);
-}
-  where
-    named : (j : ℕ) → is_some (σ j) ≡ (is_some (σ j) || (nat_eq j i || false))
-    named j = by (nat_eq j i) refl
-      where
-        by : (b : Bool) → nat_eq j i ≡ b → is_some (σ j) ≡ (is_some (σ j) || (b || false))
-        by true q = let h : is_some (σ j) ≡ true = ap (λ (k : ℕ). is_some (σ k)) ((Decides-eqb j i).0 q) ∙ ap is_some e in h ∙ sym (or_right (is_some (σ j)) true refl)
-        by false q = sym (or_false (is_some (σ j)))
-
-pub par_differ : (σ τ : Assignment) (i : ℕ) (t u : Tree) → σ i ≡ Some u → (u ≡ t → ⊥) → Matches σ (Par i ∷ []) (t ∷ []) τ → ⊥
-par_differ σ τ i t u e n m =
-    let v : value_or_par i (τ i) ≡ t = cc m.equal in
-    n (sym (ap (value_or_par i) (m.extends i u e)) ∙ v)
-
 -- several, one after another
 
 more_put : (σ τ : Assignment) (ps : List Tree) → ((i : ℕ) (t : Tree) → σ i ≡ Some t → τ i ≡ Some t) → ((i : ℕ) → occurs_in i ps ≡ true → is_some (σ i) ≡ true) → map (put τ) ps ≡ map (put σ) ps
@@ -220,36 +201,6 @@ module _ (σ : Assignment) (ps ts : List Tree) (τ : Assignment) where
 
     pub leads_none : ((υ : Assignment) → Matches τ (q ∷ []) (u ∷ []) υ → ⊥) → (ρ : Assignment) → Matches σ ps ts ρ → ⊥
     leads_none n ρ m = let all = l.back ρ m in n (between τ ρ q u qs us all) (first_matches τ ρ q u qs us all)
-
--- nodes
-
-pub var_leads : (σ : Assignment) (s : List ℕ) (p t : Tree) → Leads σ (Var s p ∷ []) (Var s t ∷ []) σ (p ∷ []) (t ∷ [])
-var_leads σ s p t = record {
-  fwd = λ ρ m. record { extends = m.extends; names = m.names; equal = let e : put ρ p ∷ [] ≡ t ∷ [] = m.equal in cc };
-  back = λ ρ m. record { extends = m.extends; names = m.names; equal = let e : Var s (put ρ p) ∷ [] ≡ Var s t ∷ [] = m.equal in cc };
-}
-
-module _ (σ : Assignment) (f x g y : Tree) where
-  pair_names : (ρ : Assignment) (i : ℕ) → (is_some (σ i) || ((occurs i f || occurs i x) || false)) ≡ (is_some (σ i) || (occurs i f || (occurs i x || false)))
-  pair_names ρ i = ap (λ b. is_some (σ i) || b) (or_assoc (occurs i f) (occurs i x) false)
-
-  pub app_leads : Leads σ (App f x ∷ []) (App g y ∷ []) σ (f ∷ x ∷ []) (g ∷ y ∷ [])
-  app_leads = record {
-    fwd = λ ρ m. record { extends = m.extends; names = λ i. m.names i ∙ sym (pair_names ρ i); equal = let e : put ρ f ∷ put ρ x ∷ [] ≡ g ∷ y ∷ [] = m.equal in cc };
-    back = λ ρ m. record { extends = m.extends; names = λ i. m.names i ∙ pair_names ρ i; equal = let e : App (put ρ f) (put ρ x) ∷ [] ≡ App g y ∷ [] = m.equal in cc };
-  }
-
-  pub arr_leads : Leads σ (Arr f x ∷ []) (Arr g y ∷ []) σ (f ∷ x ∷ []) (g ∷ y ∷ [])
-  arr_leads = record {
-    fwd = λ ρ m. record { extends = m.extends; names = λ i. m.names i ∙ sym (pair_names ρ i); equal = let e : put ρ f ∷ put ρ x ∷ [] ≡ g ∷ y ∷ [] = m.equal in cc };
-    back = λ ρ m. record { extends = m.extends; names = λ i. m.names i ∙ pair_names ρ i; equal = let e : Arr (put ρ f) (put ρ x) ∷ [] ≡ Arr g y ∷ [] = m.equal in cc };
-  }
-
-  pub qar_leads : (j : ℕ) → Leads σ (Qar j f x ∷ []) (Qar j g y ∷ []) σ (f ∷ x ∷ []) (g ∷ y ∷ [])
-  qar_leads j = record {
-    fwd = λ ρ m. record { extends = m.extends; names = λ i. m.names i ∙ sym (pair_names ρ i); equal = let e : put ρ f ∷ put ρ x ∷ [] ≡ g ∷ y ∷ [] = m.equal in cc };
-    back = λ ρ m. record { extends = m.extends; names = λ i. m.names i ∙ pair_names ρ i; equal = let e : Qar j (put ρ f) (put ρ x) ∷ [] ≡ Qar j g y ∷ [] = m.equal in cc };
-  }
 
 -- the arguments of an operator, as a list
 
