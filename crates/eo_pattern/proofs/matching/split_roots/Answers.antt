@@ -1,0 +1,44 @@
+use Rattle.std.proofs.Common.{◌≡◌, [], ◌∷◌, sym, ap, ◌∙◌, subst, true≢false}
+use Rattle.eo_term.specs.declared.OpCode.{OpCode}
+use Rattle.eo_term.specs.Tree.{Tree, Trees, Op, to_list, occurs}
+use Rattle.eo_term.specs.Arguments.{arguments_of}
+use Rattle.eo_term.specs.Terms.{tree_at}
+use Rattle.eo_term.proofs.Exact.{code_exact, code_same}
+use Rattle.eo_pattern.specs.Slots.{Leads}
+use Rattle.eo_pattern.proofs.Steps.{closed_equal, closed_differ, op_leads, op_same, args_occur}
+use Rattle.eo_pattern.proofs.matching.split_roots.Goals as goal
+use Rattle.eo_pattern.proofs.matching.split_roots.Goals.{else-eq-via-then-eq+else-count-n, else-eq-via-else-eq}
+
+pub returns-then-is_same : goal.returns-then-is_same
+returns-then-is_same c = λ σ.
+    closed_equal σ (tree_at c.args.table.now.trees c.args.pattern) (tree_at c.args.table.now.trees c.args.term) (sym c.is_closed.ensures.closed ∙ c.if-is_closed.true) (c.is_same.ensures.0 c.if-is_same.true)
+
+pub returns-else-is_same : goal.returns-else-is_same
+returns-else-is_same c = λ σ τ m.
+    closed_differ σ τ (tree_at c.args.table.now.trees c.args.pattern) (tree_at c.args.table.now.trees c.args.term) (sym c.is_closed.ensures.closed ∙ c.if-is_closed.true) (λ e. true≢false (sym (c.is_same.ensures.1 e) ∙ c.if-is_same.false)) m
+
+pub returns-then-count-n : goal.returns-then-count-n
+returns-then-count-n c =
+    let ts = c.args.table.now.trees in
+    let ps : Trees = arguments_of (tree_at ts c.args.pattern) in
+    let us : Trees = arguments_of (tree_at ts c.args.term) in
+    let p : Op c.in-Op.code ps ≡ tree_at ts c.args.pattern = c.in-Op.ensures.tree in
+    let same : c.in-Op.code ≡ c.in-Op-node.c = code_exact c.in-Op.code c.in-Op-node.c (sym c.eq.ensures ∙ c.if-eq.true) in
+    let u : Op c.in-Op.code us ≡ tree_at ts c.args.term = ap (λ (d : OpCode). Op d us) same ∙ c.in-Op-node.ensures.tree in
+    record {
+      count = c.in-Op.ensures.count;
+      pars = λ i o. ap (occurs i) (sym p) ∙ args_occur i ps o;
+      same = c.in-Op-node.ensures.count ∙ sym c.if-count-n.true;
+      leads = λ σ. subst (λ (x : Tree). Leads σ (x ∷ []) (tree_at ts c.args.term ∷ []) σ (to_list ps) (to_list us)) p (subst (λ (y : Tree). Leads σ (Op c.in-Op.code ps ∷ []) (y ∷ []) σ (to_list ps) (to_list us)) u (op_leads σ c.in-Op.code ps us));
+    }
+
+pub returns-else-eq : goal.returns-else-eq
+returns-else-eq c = λ σ τ m.
+    let ts = c.args.table.now.trees in
+    let ps : Trees = arguments_of (tree_at ts c.args.pattern) in
+    let us : Trees = arguments_of (tree_at ts c.args.term) in
+    let both = op_same σ τ (tree_at ts c.args.pattern) (tree_at ts c.args.term) c.in-Op.code c.in-Op-node.c ps us c.in-Op.ensures.tree c.in-Op-node.ensures.tree m in
+    elim c.else-eq.branch [
+      | else-eq-via-then-eq+else-count-n w ↦ w.if-count-n.false (sym c.in-Op.ensures.count ∙ both.1 ∙ c.in-Op-node.ensures.count)
+      | else-eq-via-else-eq w ↦ true≢false (sym (c.eq.ensures ∙ code_same c.in-Op.code c.in-Op-node.c both.0) ∙ w.if-eq.false)
+    ]

@@ -1,0 +1,14 @@
+//! Patterns: terms with parameters. Matching finds what stands for each parameter, and substitution
+//! puts it in.
+#![tactic(auto)]
+
+mod matching;
+mod subst;
+mod substitution;
+
+pub use matching::match_terms;
+pub use subst::Subst;
+pub use substitution::substitute;
+
+#[cfg(test)]
+mod tests;

@@ -1,0 +1,198 @@
+//! Matching of patterns with terms.
+ghost use Rattle.std.specs.Prelude.{◌≡◌, ℕ, ◌<◌, ◌≤◌, List, [], ◌∷◌, length, map, true, IsTrue, IsFalse, All, Some, None};
+ghost use Rattle.eo_term.specs.Tree.{Tree, Par, occurs_in, to_list};
+ghost use Rattle.eo_term.specs.Terms.{tree_at};
+ghost use Rattle.eo_pattern.specs.Matching.{Assignment, Matches, matching, empty};
+ghost use Rattle.eo_pattern.specs.Slots.{held, AreBelow, AreEmpty, HasRoom, HasPars, Keeps};
+ghost use Rattle.eo_term.specs.Arguments.{count_of, arguments_of};
+ghost use Rattle.eo_pattern.specs.Split.{IsSplit};
+
+use crate::Subst;
+use eo_term::{Id, Node, Table};
+
+/// Whether some assignment that extends the present one, by just the patterns' parameters, makes
+/// the patterns equal to the terms, one to one. There is at most one; it is then held. On `false`
+/// nothing is held.
+///
+/// There are as many terms as patterns, all are live, and the assignment has room for the patterns.
+/// No memory is taken.
+pub fn match_terms(table: &Table, patterns: &[Id], terms: &[Id], subst: &mut Subst) -> bool
+    requires count { length patterns.now ≡ length terms.now }
+    requires patterns { All (λ i. i < length table.now.trees) patterns.now }
+    requires terms { All (λ i. i < length table.now.trees) terms.now }
+    requires room { All (λ i. HasRoom subst.old (tree_at table.now.trees i)) patterns.now }
+    requires below { AreBelow (length table.now.trees) subst.old }
+    ensures yes { IsTrue result → Matches (held table.now.trees subst.old) (map (tree_at table.now.trees) patterns.now) (map (tree_at table.now.trees) terms.now) (held table.now.trees subst.new) }
+    ensures no { IsFalse result → (σ : Assignment) → Matches (held table.now.trees subst.old) (map (tree_at table.now.trees) patterns.now) (map (tree_at table.now.trees) terms.now) σ → ⊥ }
+    ensures empty { IsFalse result → AreEmpty subst.new }
+    ensures kept { Keeps (length table.now.trees) subst.old subst.new }
+{
+    for i in 0..patterns.len() {
+        if !match_one(table, patterns[i], terms[i], subst) {
+            subst.clear();
+            return false;
+        }
+    }
+    true
+}
+
+// The same for one pattern and one term, but that after `false` anything may be held.
+#[cycle(walk)]
+fn match_one(table: &Table, pattern: Id, term: Id, subst: &mut Subst) -> bool
+    requires pattern { pattern < length table.now.trees }
+    requires term { term < length table.now.trees }
+    requires room { HasPars subst.old (tree_at table.now.trees pattern) }
+    requires below { AreBelow (length table.now.trees) subst.old }
+    ensures yes { IsTrue result → Matches (held table.now.trees subst.old) (tree_at table.now.trees pattern ∷ []) (tree_at table.now.trees term ∷ []) (held table.now.trees subst.new) }
+    ensures no { IsFalse result → (σ : Assignment) → Matches (held table.now.trees subst.old) (tree_at table.now.trees pattern ∷ []) (tree_at table.now.trees term ∷ []) σ → ⊥ }
+    ensures kept { Keeps (length table.now.trees) subst.old subst.new }
+{
+    match split_roots(table, pattern, term) {
+        Split::Differ => false,
+        Split::Equal => true,
+        Split::Par(i) => match_par(table, i, term, subst),
+        Split::One(p, t) => match_one(table, p, t, subst),
+        Split::Two(p, q, t, u) => match_two(table, p, q, t, u, subst),
+        Split::Args(n) => match_args(table, pattern, term, n as usize, subst),
+    }
+}
+
+// The same for two patterns and two terms.
+#[cycle(walk)]
+fn match_two(table: &Table, p: Id, q: Id, t: Id, u: Id, subst: &mut Subst) -> bool
+    requires p { p < length table.now.trees }
+    requires q { q < length table.now.trees }
+    requires t { t < length table.now.trees }
+    requires u { u < length table.now.trees }
+    requires room_p { HasPars subst.old (tree_at table.now.trees p) }
+    requires room_q { HasPars subst.old (tree_at table.now.trees q) }
+    requires below { AreBelow (length table.now.trees) subst.old }
+    ensures yes { IsTrue result → Matches (held table.now.trees subst.old) (tree_at table.now.trees p ∷ tree_at table.now.trees q ∷ []) (tree_at table.now.trees t ∷ tree_at table.now.trees u ∷ []) (held table.now.trees subst.new) }
+    ensures no { IsFalse result → (σ : Assignment) → Matches (held table.now.trees subst.old) (tree_at table.now.trees p ∷ tree_at table.now.trees q ∷ []) (tree_at table.now.trees t ∷ tree_at table.now.trees u ∷ []) σ → ⊥ }
+    ensures kept { Keeps (length table.now.trees) subst.old subst.new }
+{
+    if !match_one(table, p, t, subst) {
+        return false;
+    }
+    match_one(table, q, u, subst)
+}
+
+// The same for the arguments of two operators.
+#[cycle(walk)]
+fn match_args(table: &Table, pattern: Id, term: Id, count: usize, subst: &mut Subst) -> bool
+    requires pattern { pattern < length table.now.trees }
+    requires term { term < length table.now.trees }
+    requires count { count_of (arguments_of (tree_at table.now.trees pattern)) ≡ count }
+    requires same { count_of (arguments_of (tree_at table.now.trees term)) ≡ count }
+    requires room { (i : ℕ) → occurs_in i (to_list (arguments_of (tree_at table.now.trees pattern))) ≡ true → i < length subst.old.values }
+    requires below { AreBelow (length table.now.trees) subst.old }
+    ensures yes { IsTrue result → Matches (held table.now.trees subst.old) (to_list (arguments_of (tree_at table.now.trees pattern))) (to_list (arguments_of (tree_at table.now.trees term))) (held table.now.trees subst.new) }
+    ensures no { IsFalse result → (σ : Assignment) → Matches (held table.now.trees subst.old) (to_list (arguments_of (tree_at table.now.trees pattern))) (to_list (arguments_of (tree_at table.now.trees term))) σ → ⊥ }
+    ensures kept { Keeps (length table.now.trees) subst.old subst.new }
+{
+    for i in 0..count {
+        if !match_one(table, table.arg(pattern, i), table.arg(term, i), subst) {
+            return false;
+        }
+    }
+    true
+}
+
+// What is left to match of a pattern and a term, by their roots.
+#[derive(Clone, Copy)]
+enum Split {
+    // They do not match.
+    Differ,
+    // They are equal, and the pattern has no parameter.
+    Equal,
+    // The pattern is a parameter.
+    Par(u8),
+    // One part each.
+    One(Id, Id),
+    // Two parts of the pattern, then two of the term.
+    Two(Id, Id, Id, Id),
+    // That many arguments each.
+    Args(u8),
+}
+
+// What is left to match of a pattern and a term.
+fn split_roots(table: &Table, pattern: Id, term: Id) -> Split
+    requires pattern { pattern < length table.now.trees }
+    requires term { term < length table.now.trees }
+    ensures { IsSplit table.now.trees pattern term result }
+{
+    if table.is_closed(pattern) {
+        return if table.is_same(pattern, term) {
+            Split::Equal
+        } else {
+            Split::Differ
+        };
+    }
+    match table.node(pattern) {
+        Node::Par(i) => Split::Par(i),
+        Node::Var { name, ty } => match table.node(term) {
+            Node::Var { name: n, ty: u } => {
+                if table.is_same_text(name, n) {
+                    Split::One(ty, u)
+                } else {
+                    Split::Differ
+                }
+            }
+            _ => Split::Differ,
+        },
+        Node::App { fun, arg } => match table.node(term) {
+            Node::App { fun: g, arg: y } => Split::Two(fun, arg, g, y),
+            _ => Split::Differ,
+        },
+        Node::Arr { from, to } => match table.node(term) {
+            Node::Arr { from: a, to: b } => Split::Two(from, to, a, b),
+            _ => Split::Differ,
+        },
+        Node::Qar { par, ty, to } => match table.node(term) {
+            Node::Qar {
+                par: i,
+                ty: a,
+                to: b,
+            } => {
+                if par == i {
+                    Split::Two(ty, to, a, b)
+                } else {
+                    Split::Differ
+                }
+            }
+            _ => Split::Differ,
+        },
+        Node::Op { code, count } => match table.node(term) {
+            Node::Op { code: c, count: n } => {
+                if code == c && count == n {
+                    Split::Args(count)
+                } else {
+                    Split::Differ
+                }
+            }
+            _ => Split::Differ,
+        },
+        Node::Con(_) => unreachable!(),
+        Node::Num(_) => unreachable!(),
+        Node::Bits { .. } => unreachable!(),
+        Node::Str(_) => unreachable!(),
+    }
+}
+
+// The same for a pattern that is a parameter.
+fn match_par(table: &Table, i: u8, term: Id, subst: &mut Subst) -> bool
+    requires term { term < length table.now.trees }
+    requires room { i < length subst.old.values }
+    requires below { AreBelow (length table.now.trees) subst.old }
+    ensures yes { IsTrue result → Matches (held table.now.trees subst.old) (Par i ∷ []) (tree_at table.now.trees term ∷ []) (held table.now.trees subst.new) }
+    ensures no { IsFalse result → (σ : Assignment) → Matches (held table.now.trees subst.old) (Par i ∷ []) (tree_at table.now.trees term ∷ []) σ → ⊥ }
+    ensures kept { Keeps (length table.now.trees) subst.old subst.new }
+{
+    match subst.get(i) {
+        Some(id) => table.is_same(id, term),
+        None => {
+            subst.put(i, term);
+            true
+        }
+    }
+}

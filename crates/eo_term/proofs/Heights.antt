@@ -1,0 +1,27 @@
+-- A tree with a part that is too tall is too tall.
+use Rattle.std.proofs.Common.{◌≡◌, ℕ, zero, suc, ◌<◌, ◌≤◌, true, List, arith}
+use Rattle.std.proofs.lemmas.Bool.{lt-ltb, ltb-true}
+use Rattle.eo_base.specs.Limits.{height_limit}
+use Rattle.eo_term.specs.declared.OpCode.{OpCode}
+use Rattle.eo_term.specs.Tree.{Tree, Trees, Var, App, Op, NoTree, More, height, height_all, is_tall}
+use Rattle.eo_term.specs.Arguments.{count_of, argument_at}
+
+higher : (t u : Tree) → height t ≤ height u → is_tall t ≡ true → is_tall u ≡ true
+higher t u h e = let l = ltb-true height_limit (height t) e in lt-ltb height_limit (height u) (omega (arith, h, l))
+
+pub tall_type : (s : List ℕ) (t : Tree) → is_tall t ≡ true → is_tall (Var s t) ≡ true
+tall_type s t e = higher t (Var s t) (omega arith) e
+
+pub tall_first : (a b : Tree) → is_tall a ≡ true → is_tall (App a b) ≡ true
+tall_first a b e = higher a (App a b) (omega arith) e
+
+pub tall_second : (a b : Tree) → is_tall b ≡ true → is_tall (App a b) ≡ true
+tall_second a b e = higher b (App a b) (omega arith) e
+
+argument_height : (ts : Trees) (i : ℕ) → i < count_of ts → height (argument_at ts i) ≤ height_all ts
+argument_height NoTree i l = absurd (omega arith)
+argument_height (More t ts) zero l = omega arith
+argument_height (More t ts) (suc i) l = let h = argument_height ts i (omega arith) in omega (arith, h)
+
+pub tall_argument : (c : OpCode) (ts : Trees) (i : ℕ) → i < count_of ts → is_tall (argument_at ts i) ≡ true → is_tall (Op c ts) ≡ true
+tall_argument c ts i l e = let h = argument_height ts i l in higher (argument_at ts i) (Op c ts) (omega (arith, h)) e

@@ -1,0 +1,61 @@
+//! Giving terms back: a table is cut at a mark, and what is still needed stays.
+ghost use Rattle.std.specs.Prelude.{◌≡◌, ℕ, ◌<◌, ◌≤◌, [], ◌∷◌, length, take, All, IfOk, OnOk, OnErr};
+ghost use Rattle.eo_term.specs.Terms.{tree_at, IsMark};
+ghost use Rattle.eo_term.specs.Carry.{Carried};
+
+use super::Table;
+use crate::carry::{kept_entries, move_ids, needed_entries, new_places, put_entries};
+use crate::{Id, Mark};
+use std::alloc::AllocError;
+
+impl Table {
+    /// Drops the terms and the texts that were made after the mark. Older ones stay as they are.
+    pub fn release(&mut self, mark: Mark)
+        requires { IsMark self.old mark }
+        ensures trees { self.new.trees ≡ take mark.0 self.old.trees }
+        ensures texts { self.new.texts ≡ take mark.1 self.old.texts }
+        ensures marks { (m : ℕ × ℕ) → m.0 ≤ mark.0 → m.1 ≤ mark.1 → IsMark self.old m → IsMark self.new m }
+    {
+        self.nodes.truncate(mark.terms);
+        self.texts.truncate(mark.texts);
+    }
+
+    /// Releases to the mark, but keeps the trees of some terms, whose numbers are replaced by new ones.
+    pub fn carry_all(&mut self, mark: Mark, ids: &mut [Id]) -> Result<(), AllocError>
+        requires mark { IsMark self.old mark }
+        requires live { All (λ j. j < length self.old.trees) ids.old }
+        ensures ok { OnOk result (Carried self.old mark.0 ids.old ids.new self.new) }
+        ensures err { OnErr result (self.new ≡ self.old) }
+        ensures ids_err { OnErr result (ids.new ≡ ids.old) }
+    {
+        let start = mark.terms;
+        let needed = needed_entries(self.alloc, &self.nodes, start, ids)?;
+        let places = new_places(self.alloc, start, needed.as_slice())?;
+        let kept = kept_entries(
+            self.alloc,
+            &self.nodes,
+            start,
+            needed.as_slice(),
+            places.as_slice(),
+        )?;
+        self.nodes.reserve(kept.len())?;
+        self.nodes.truncate(start);
+        put_entries(&mut self.nodes, kept);
+        move_ids(ids, start, places.as_slice());
+        Ok(())
+    }
+
+    /// Releases to the mark, but keeps the tree of one term, and answers its new number.
+    pub fn carry(&mut self, mark: Mark, id: Id) -> Result<Id, AllocError>
+        requires mark { IsMark self.old mark }
+        requires live { id < length self.old.trees }
+        ensures carried { IfOk result (λ i. Carried self.old mark.0 (id ∷ []) (i ∷ []) self.new) }
+        ensures live { IfOk result (λ i. i < length self.new.trees) }
+        ensures tree { IfOk result (λ i. tree_at self.new.trees i ≡ tree_at self.old.trees id) }
+        ensures err { OnErr result (self.new ≡ self.old) }
+    {
+        let mut ids = [id];
+        self.carry_all(mark, &mut ids)?;
+        Ok(ids[0])
+    }
+}
