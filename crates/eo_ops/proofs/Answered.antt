@@ -1,6 +1,6 @@
 -- Answers that are bit strings.
-use Rattle.std.specs.Prelude.{◌≡◌, ℕ, zero, suc, ◌-◌, ◌+◌, ◌*◌, ◌/◌, ◌%◌, ◌^◌, ◌<◌, ◌≤◌, Bool, true, false, nat_eq, nat_le, ◌&&◌, ◌||◌, not, List, [], ◌∷◌, ◌++◌, map, bit_and, bit_or, bit_xor, ℤ, pos, negsuc, Option, Some, None, unwrap_or, FitsSigned, Result, Ok, Err, IfOk, MatchResult, if◌then◌else◌, refl}
-use Rattle.std.proofs.Common.{sym, ◌∙◌, ap, subst, arith, rules, tests, inl, inr}
+use Rattle.std.specs.Prelude.{◌≡◌, ℕ, ◌+◌, ◌*◌, ◌%◌, ◌^◌, ◌<◌, ◌≤◌, true, false, nat_eq, nat_le, List, bit_or, ℤ, pos, negsuc, Option, Some, None, unwrap_or, FitsSigned, Result, Ok, Err, IfOk, MatchResult, refl}
+use Rattle.std.proofs.Common.{◌∙◌, arith, rules, tests, inl, inr}
 use Rattle.std.proofs.lemmas.Nat.{pow_pos, mod_below, shl_whole, or_shifted, or_disjoint}
 use Rattle.std.proofs.lemmas.Bool.{cases_lt}
 use Rattle.std.specs.Int.{w128, cast_unsigned}
@@ -10,7 +10,7 @@ use Rattle.eo_ops.proofs.Bits.{below_zero_bits}
 use Rattle.eo_ops.specs.declared.OpResult.{OpResult}
 use Rattle.eo_ops.specs.declared.OpResult.TheVariants.{Value, Memory}
 use Rattle.eo_ops.specs.declared.Lit.TheVariants.{Bits, Str}
-use Rattle.eo_ops.specs.Operators.{Literal, BitString, Text, OpAnswer, Gives, if_same_width, in_width, IsStuck}
+use Rattle.eo_ops.specs.Operators.{Literal, BitString, Text, OpAnswer, Gives, if_same_width, in_width}
 use Rattle.eo_ops.specs.OpResult.{Answers}
 
 -- a bit string that is the last bits of a value

@@ -1,11 +1,11 @@
 -- Lists of bits as numbers.
-use Rattle.std.specs.Prelude.{◌≡◌, ℕ, zero, suc, ◌+◌, ◌-◌, ◌*◌, ◌/◌, ◌%◌, ◌^◌, ◌<◌, ◌≤◌, Bool, true, false, not, ◌&&◌, ◌||◌, nat_eq, List, [], ◌∷◌, ◌++◌, map, length, take, drop, bit_and, bit_or, bit_xor, if◌then◌else◌, refl}
+use Rattle.std.specs.Prelude.{◌≡◌, ℕ, zero, suc, ◌+◌, ◌-◌, ◌*◌, ◌/◌, ◌%◌, ◌^◌, ◌<◌, ◌≤◌, Bool, not, ◌&&◌, ◌||◌, nat_eq, List, ◌∷◌, ◌++◌, map, take, drop, bit_and, bit_or, bit_xor, if◌then◌else◌, refl}
 use Rattle.std.proofs.Common.{sym, ◌∙◌, ap, ap₂, subst, arith, inl, inr, pow-suc, mod-lt, zero-lt-suc}
 use Rattle.std.proofs.lemmas.Bool.{cases_lt}
 use Rattle.std.proofs.lemmas.Nat.{and_shr, or_shr, xor_shr, and_mod, or_mod, xor_mod, mod-pow-add, pow_pos, mod_below, shr-shr, pow-add, mod-mul-add, div-add-mod', div_below}
 use Rattle.std.proofs.Math.Nat.{sub-zero, mod_self, add-mul-mod_self_right, mod-add-mod, mod-eq_of_lt}
 use Rattle.std.proofs.Math.Pow.{mod-mod-pow}
-use Rattle.eo_ops.specs.Operators.{Literal, BitString, bits_of, number_of, bit_string, bit_by_bit, exclusive_or}
+use Rattle.eo_ops.specs.Operators.{BitString, bits_of, number_of, bit_string, bit_by_bit, exclusive_or}
 use Rattle.eo_ops.proofs.Numbers.{length-bits_of}
 
 -- ---- the number of the bits

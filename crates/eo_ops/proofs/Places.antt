@@ -1,7 +1,7 @@
 -- Parts of lists, and places in strings.
-use Rattle.std.specs.Prelude.{◌≡◌, ℕ, zero, suc, ◌+◌, ◌-◌, ◌%◌, ◌/◌, ◌^◌, ◌<◌, ◌≤◌, ℤ, pos, negsuc, min, Bool, true, false, nat_eq, nat_le, nat_lt, ◌||◌, List, [], ◌∷◌, length, take, drop, slice_range, Option, Some, None, option_map, if◌then◌else◌, refl}
+use Rattle.std.specs.Prelude.{◌≡◌, ℕ, suc, ◌+◌, ◌-◌, ◌%◌, ◌/◌, ◌^◌, ◌<◌, ◌≤◌, ℤ, pos, negsuc, min, true, false, nat_eq, nat_le, nat_lt, List, [], ◌∷◌, length, take, drop, slice_range, Option, Some, None, option_map, refl}
 use Rattle.std.specs.List.{starts_with}
-use Rattle.std.proofs.Common.{sym, ◌∙◌, ap, ap₂, arith, inl, inr, rules, tests}
+use Rattle.std.proofs.Common.{sym, ◌∙◌, ap, arith, inl, inr, rules, tests}
 use Rattle.std.proofs.lemmas.List.{drop_all, take_all, drop_more, length-drop}
 use Rattle.std.proofs.lemmas.Bool.{cases_lt}
 use Rattle.std.proofs.Math.Seq.{take-nil}

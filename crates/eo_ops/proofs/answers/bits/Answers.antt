@@ -1,4 +1,4 @@
-use Rattle.std.proofs.Common.{arith, ap, ◌≡◌, ◌-◌, ◌^◌, ◌∙◌, bit_and, refl}
+use Rattle.std.proofs.Common.{arith, ◌≡◌, ◌-◌, ◌^◌, refl}
 use Rattle.std.proofs.lemmas.Nat.{and_mask}
 use Rattle.eo_ops.proofs.answers.bits.Goals as goal
 

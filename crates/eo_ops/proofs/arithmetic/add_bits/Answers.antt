@@ -1,5 +1,4 @@
-use Rattle.std.proofs.Common.{◌≡◌, ◌∙◌, refl, ◌%◌, ◌^◌, ◌+◌}
-use Rattle.eo_ops.specs.Operators.{Gives, BitString}
+use Rattle.std.proofs.Common.{◌∙◌, refl, ◌%◌, ◌^◌, ◌+◌}
 use Rattle.eo_ops.proofs.Bits.{mod_128}
 use Rattle.eo_ops.proofs.Answered.{answered_bits, of_same_width}
 use Rattle.eo_ops.proofs.arithmetic.add_bits.Goals as goal

@@ -1,4 +1,4 @@
-use Rattle.std.proofs.Common.{◌≡◌, sym, ap}
+use Rattle.std.proofs.Common.{sym, ap}
 use Rattle.eo_ops.specs.Operators.{Gives, BitString}
 use Rattle.eo_ops.proofs.Bits.{neg_bits}
 use Rattle.eo_ops.proofs.Answered.{answered_bits}

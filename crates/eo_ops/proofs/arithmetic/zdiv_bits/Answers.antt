@@ -1,4 +1,4 @@
-use Rattle.std.proofs.Common.{◌≡◌, ◌∙◌, ◌<◌, ◌^◌, ◌/◌, false, nat_eq, refl, ap, sym, arith, rules, tests}
+use Rattle.std.proofs.Common.{◌≡◌, ◌∙◌, ◌<◌, ◌^◌, ◌/◌, false, nat_eq, ap, sym, arith, rules, tests}
 use Rattle.std.proofs.Math.Nat.{div-le_self, mod-eq_of_lt}
 use Rattle.eo_ops.specs.Operators.{Gives, BitString}
 use Rattle.eo_ops.proofs.Answered.{answered_bits, of_same_width}

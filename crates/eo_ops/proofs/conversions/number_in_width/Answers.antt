@@ -1,9 +1,6 @@
-use Rattle.std.proofs.Common.{◌≡◌}
 use Rattle.std.proofs.lemmas.Int.{to_z-of_z}
 use Rattle.std.specs.Int.{w128}
 use Rattle.std.specs.Prelude.{FitsSigned}
-use Rattle.eo_ops.specs.OpResult.{Answers}
-use Rattle.eo_ops.specs.Operators.{in_width}
 use Rattle.eo_ops.proofs.Answered.{in_width_of}
 use Rattle.eo_ops.proofs.conversions.number_in_width.Goals as goal
 

@@ -1,4 +1,4 @@
-use Rattle.std.proofs.Common.{◌≡◌, ap, sym, ◌∙◌, arith, ◌%◌, ◌^◌, ◌+◌, ◌*◌, ◌-◌, ◌/◌, ◌<◌, ◌≤◌, bit_and, bit_or, bit_xor, refl}
+use Rattle.std.proofs.Common.{◌≡◌, ap, arith, ◌^◌, ◌-◌}
 use Rattle.eo_ops.specs.Operators.{Gives}
 use Rattle.eo_ops.proofs.Bits.{complement_bits}
 use Rattle.eo_ops.proofs.Answered.{answered_bits}

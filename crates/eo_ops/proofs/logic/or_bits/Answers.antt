@@ -1,4 +1,4 @@
-use Rattle.std.proofs.Common.{◌≡◌, ap, sym, ◌∙◌, arith, ◌%◌, ◌^◌, ◌+◌, ◌*◌, ◌-◌, ◌/◌, ◌<◌, ◌≤◌, bit_and, bit_or, bit_xor, refl}
+use Rattle.std.proofs.Common.{ap, ◌∙◌, bit_or}
 use Rattle.eo_ops.specs.Operators.{Gives}
 use Rattle.eo_ops.proofs.Bits.{bit_by_bit_or}
 use Rattle.eo_ops.proofs.Answered.{answered_bits, of_same_width}

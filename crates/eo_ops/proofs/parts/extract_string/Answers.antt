@@ -1,4 +1,4 @@
-use Rattle.std.proofs.Common.{◌≡◌, ◌-◌, take, drop, slice_range, ap, sym, ◌∙◌}
+use Rattle.std.proofs.Common.{◌-◌, take, drop, ap}
 use Rattle.std.proofs.lemmas.Int.{to_z-of_z}
 use Rattle.std.specs.Int.{w128}
 use Rattle.std.specs.Prelude.{FitsSigned}
