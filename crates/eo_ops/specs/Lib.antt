@@ -1,0 +1,4 @@
+pub mod Operators
+pub mod Lit
+pub mod OpResult
+pub mod Places
