@@ -1,20 +1,18 @@
 -- When a file is said to be absent.
-use Rattle.std.proofs.Common.{◌≡◌, ◌≢◌, ℕ, suc, zero, ◌+◌, ◌≤◌, List, [], ◌∷◌, ◌++◌, length, take, Option, None, Some, refl, sym, ◌∙◌, ap, subst, arith, append_assoc}
-use Rattle.std.specs.Prelude.{codes, decimal, option_map}
+use Rattle.std.proofs.Common.{◌≡◌, ◌≢◌, ℕ, suc, zero, List, ◌∷◌, ◌++◌, length, take, Option, None, Some, refl, sym, ◌∙◌, ap, subst, arith}
+use Rattle.std.specs.Prelude.{option_map}
 use Rattle.std.proofs.lemmas.List.{append_cancel_left}
 use Rattle.std.proofs.Math.Seq.{take-length}
 use Rattle.std.specs.Fmt.{digits}
 use Rattle.eo_base.specs.Causes.{Rose}
 use Rattle.eo_base.specs.Faults.{number}
-use Rattle.eo_base.specs.FaultTexts.{text}
-use Rattle.eo_base.specs.declared.Fault.{Fault}
 use Rattle.eo_base.specs.declared.FaultName.{FaultName}
 use Rattle.eo_base.specs.declared.FaultName.TheVariants.{FileAbsent}
 use Rattle.eo_base.specs.declared.Status.{Status}
 use Rattle.eo_base.specs.declared.Status.TheVariants as status
 use Rattle.eo_io.specs.Library.{Files}
 use Rattle.eo_run.specs.Verdict as verdict
-use Rattle.eo_run.specs.Printed.{Due, two_digits, verdict_text, verdict_due}
+use Rattle.eo_run.specs.Printed.{Due, two_digits, verdict_text}
 use Rattle.eo_run.specs.Answer.{AnswerHasCause, answer_due, WritesDue}
 use Rattle.eo_run.specs.declared.Verdict.{Verdict}
 use Rattle.eo_run.specs.declared.Verdict.TheVariants as answer

@@ -1,7 +1,6 @@
 -- The words.
-use Rattle.std.proofs.Common.{◌≡◌, ℕ, suc, [], ◌∷◌, ◌<◌, ◌≤◌, get_or, arith, lit<, Bool, true, false, List, ◌++◌, length, take, drop, Option, None, Some, Bor, refl, sym, ◌∙◌, ap, subst}
-use Rattle.std.specs.Prelude.{◌==◌, codes, MatchOption, option_and_then, bytes_eq, if◌then◌else◌}
-use Rattle.std.specs.List.{starts_with}
+use Rattle.std.proofs.Common.{◌≡◌, ℕ, suc, [], ◌∷◌, ◌<◌, ◌≤◌, get_or, arith, lit<, true, false, List, length, drop, Option, None, Some, Bor, refl, sym, ◌∙◌, ap, subst}
+use Rattle.std.specs.Prelude.{codes, MatchOption, option_and_then, bytes_eq, if◌then◌else◌}
 use Rattle.std.specs.Option.{option_copied}
 use Rattle.std.specs.Str.Pattern.{FindsTextPrefix, StripsPrefix}
 use Rattle.std.specs.Str.{IsCharBoundary}

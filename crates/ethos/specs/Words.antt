@@ -1,5 +1,4 @@
 -- How the code reads the words.
-use Rattle.std.specs.Prelude.{ℕ, List}
 use Rattle.eo_run.specs.FirstForm as first
 use Rattle.ethos.specs.declared.words.FilePaths.{FilePaths}
 

@@ -10,7 +10,7 @@ ghost use Rattle.ethos.specs.Words.{paths_of};
 
 use crate::words::{FilePaths, read_words};
 use eo_base::{Status, Text};
-use eo_io::{Library, Paths, Sink, write_all};
+use eo_io::{HonestLibrary, Library, Paths, Sink, write_all};
 use eo_run::{CheckJob, check_files, print_verdict};
 use std::alloc::{AllocError, Global};
 
@@ -54,6 +54,21 @@ pub fn ethos_main<L: Library, W: Sink>(
             Err(_) => print_text(out, Status::OutOfMemory, OUT_OF_MEMORY),
         },
     }
+}
+
+/// Runs the program, as `ethos_main` does, over files in memory of which no call fails. It never
+/// ends with `ReadFault`.
+pub fn run_in_memory<W: Sink>(
+    alloc: Global,
+    words: &[Text],
+    files: &mut HonestLibrary,
+    out: &mut W,
+) -> Status
+    requires { ⟦<HonestLibrary as Library>⟧.open_files files.old ≡ [] }
+    ensures exact { IfSome (⟦<HonestLibrary as Library>⟧.told files.old) (λ told. Ends result (first_due told (first_words words.now)) (W.written out.old) (W.written out.new)) }
+    ensures no_read_fault { result ≢ Status.ReadFault }
+{
+    ethos_main(alloc, words, files, out)
 }
 
 /// Checks the files with these paths, and prints the verdict. `Err` is want of memory, and nothing

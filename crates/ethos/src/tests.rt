@@ -1,6 +1,6 @@
 ghost use Rattle.std.specs.Prelude.{◌≤◌};
 
-use crate::ethos_main;
+use crate::{ethos_main, run_in_memory};
 use eo_base::{Status, Text};
 use eo_io::{HonestLibrary, MemoryLibrary, MemorySink};
 use std::alloc::{AllocError, Global};
@@ -34,7 +34,7 @@ fn honest_run(
     files.add(b"r.smt2", reference)?;
     files.add(b"p.eo", proof)?;
     let mut out = MemorySink::new(alloc, ROOM)?;
-    let status = ethos_main(alloc, words(alloc)?.as_slice(), &mut files, &mut out);
+    let status = run_in_memory(alloc, words(alloc)?.as_slice(), &mut files, &mut out);
     Ok((status, out))
 }
 
@@ -110,7 +110,7 @@ fn usage_run(alloc: Global) -> Result<(Status, MemorySink), AllocError> {
     let mut out = MemorySink::new(alloc, ROOM)?;
     let mut words = Vec::new(alloc);
     words.push(Text::new(alloc, "ethos")?)?;
-    let status = ethos_main(alloc, words.as_slice(), &mut files, &mut out);
+    let status = run_in_memory(alloc, words.as_slice(), &mut files, &mut out);
     Ok((status, out))
 }
 
@@ -174,7 +174,7 @@ fn sink_run(alloc: Global, piece: usize, failing: u64) -> Result<(Status, Memory
     let mut out = MemorySink::new(alloc, ROOM)?;
     out.piece(piece);
     out.fail(failing)?;
-    let status = ethos_main(alloc, words(alloc)?.as_slice(), &mut files, &mut out);
+    let status = run_in_memory(alloc, words(alloc)?.as_slice(), &mut files, &mut out);
     Ok((status, out))
 }
 

@@ -1,4 +1,4 @@
-use Rattle.std.proofs.Common.{◌≡◌, ◌≢◌, arith, Some, None}
+use Rattle.std.proofs.Common.{arith, Some, None}
 use Rattle.eo_run.specs.FirstForm.{first_words}
 use Rattle.ethos.specs.Words.{paths_of}
 use Rattle.ethos.proofs.EndLemmas.{reading_ends, no_reading_ends, usage_ends}
