@@ -1,37 +1,37 @@
 //! The check of a proof against a reference file.
-ghost use Rattle.std.specs.Prelude.{◌≡◌, ◌≢◌, ◌<◌, ◌≤◌, ℕ, List, [], Bool, Some, None, false, length, unwrap_or, IsSome, IfOk, IfErr, IfSome};
-ghost use Rattle.eo_base.specs.Limits.{limits};
-ghost use Rattle.eo_base.specs.declared.FaultName.TheVariants.{FileAbsent};
-ghost use Rattle.eo_io.specs.Library.{file_at};
-ghost use Rattle.eo_sexp.specs.Flat.{spot_at};
-ghost use Rattle.eo_run.specs.Verdict as verdict;
-ghost use Rattle.eo_run.specs.FirstForm as first;
-ghost use Rattle.eo_run.specs.FirstForm.{first_verdict, judged, or_refused};
-ghost use Rattle.eo_run.specs.FirstCode.{IsSummary, AreSteps};
+ghost use Rattle.std.specs.Prelude.{◌≡◌, ◌≢◌, ◌<◌, ◌≤◌, ℕ, [], vec_len, None, false, unwrap_or, IsSome, IfOk, IfErr, IfSome, slice_get, length};
 ghost use Rattle.eo_run.specs.Answer.{Answers, AnswerHasCause, FileInRange};
-ghost use Rattle.eo_run.specs.Checking.{IsFirstAnswer, IsOfFiles, RefusesBy, RefusesLong, Asserts, with_assertions, proof_verdict};
+ghost use Rattle.eo_run.specs.Check.{verdict, checked};
+ghost use Rattle.eo_run.specs.Judging.{stop_verdict, RefusesRun, IsCheckAnswer, EndsRun};
+ghost use Rattle.eo_run.specs.Run.{run_file};
+ghost use Rattle.eo_run.specs.Step.{FromProof};
+ghost use Rattle.eo_run.specs.Stepping.{origin_of};
 
-use crate::contents::{Unread, read_file};
-use crate::first_form::{Asserted, Steps, end_of, read_assertions, read_steps};
+use crate::reading::{Stop, check_file};
+use crate::session::{Origin, Session};
 use crate::{CheckJob, Verdict};
-use eo_base::{Fault, FaultName, Place};
+use eo_base::{Fault, Place};
 use eo_io::{Library, Paths};
-use eo_sexp::{FlatRefused, Spot};
-use std::alloc::Global;
+use std::alloc::{AllocError, Global};
 
-/// The place of a file's first byte.
-const START: Spot = Spot { line: 1, offset: 0 };
+/// Bytes of one read.
+const PIECE: usize = 65_536;
 
-/// Checks the job's proof against its reference file, both in first form: the reference file holds
-/// `(assert S)` alone, the proof `(assume N S)` alone, where S is `true` or `false`, N is a symbol,
-/// and no N stands twice. Each has at most 2^40 bytes.
+/// Checks the job's proof against its reference file.
 ///
-/// The reference file is read whole and checked, and then the proof.
+/// The reference file holds `(assert S)` alone, and the proof `(assume N S)` alone, where S is
+/// `true` or `false`. Each file is read in pieces, and each command is checked as it comes: first
+/// those of the reference file, and then those of the proof.
 ///
-/// - `Refused` with `FileAbsent`: a file is not there; with `BadCommand`: it is not in first form.
-///   Both stand at its first byte.
-/// - `Refused` with `NotAsserted`, at the first assumption that the reference file does not assert.
-/// - `Refused` with `NoRefutation`, at the end of the proof: no assumption is `false`.
+/// - `Refused` with `FileAbsent`, at a file's first byte: it is not there.
+/// - `Refused` with a fault of the text, at its place: `BadByte`, `Unclosed`, `ExtraClose`,
+///   `TokenLong`, `CommandLong`, `Nesting`, `Width` or `FileLong`, once each command before it is
+///   accepted.
+/// - `Refused` at a command's first byte, for the first of these: `BadCommand`, it is no list that
+///   begins with a symbol; `UnknownCommand`, it is another command; `BadCommand`, it has another
+///   shape; `Redeclared`, a fact has the name N; `UnknownSymbol`, S is another s-expression;
+///   `NotAsserted`, the reference file does not assert S.
+/// - `Refused` with `NoRefutation`, behind the last byte of the proof: `false` is no fact.
 /// - `Correct`: none of these.
 /// - `ReadFault`: a call of the library failed.
 /// - `OutOfMemory`: there was no memory left.
@@ -49,7 +49,7 @@ pub fn check_files<L: Library>(
     requires closed_rules { job.now.closed ≡ false }
     requires no_paths { paths.old ≡ [] }
     requires none_open { L.open_files files.old ≡ [] }
-    ensures verdict { IfSome (L.told files.old) (λ told. Answers paths.new result (first_verdict told (unwrap_or job.now.reference []) job.now.proof)) }
+    ensures verdict { IfSome (L.told files.old) (λ told. Answers paths.new result (verdict told (unwrap_or job.now.reference []) job.now.proof)) }
     ensures cause { AnswerHasCause result (L.told files.old) (L.faults files.old) (L.faults files.new) }
     ensures place { FileInRange paths.new result }
     ensures no_load { (commands : ℕ) → result ≢ Verdict.Loaded commands }
@@ -60,21 +60,133 @@ pub fn check_files<L: Library>(
 {
     match &job.reference {
         None => unreachable!(),
-        Some(reference) => match read_reference(alloc, reference.as_bytes(), files, paths) {
-            Ok(asserted) => check_proof(alloc, job.proof.as_bytes(), asserted, files, paths),
-            Err(verdict) => verdict,
+        Some(reference) => {
+            let Ok(mut buffer) = new_buffer(alloc) else {
+                return Verdict::OutOfMemory;
+            };
+            let proof = job.proof.as_bytes();
+            check_paths(
+                alloc,
+                reference.as_bytes(),
+                proof,
+                files,
+                paths,
+                &mut buffer,
+            )
+        }
+    }
+}
+
+/// The verdict of a reference file and a proof by their paths, read into a buffer that is not empty.
+fn check_paths<L: Library>(
+    alloc: Global,
+    reference: &[u8],
+    proof: &[u8],
+    files: &mut L,
+    paths: &mut Paths,
+    buffer: &mut [u8],
+) -> Verdict
+    requires none_open { L.open_files files.old ≡ [] }
+    requires buffer { 0 < length buffer.old }
+    ensures verdict { IfSome (L.told files.old) (λ told. Answers paths.new result (verdict told reference.now proof.now)) }
+    ensures cause { AnswerHasCause result (L.told files.old) (L.faults files.old) (L.faults files.new) }
+    ensures place { FileInRange paths.new result }
+    ensures kind { IsCheckAnswer result }
+    ensures same { L.told files.new ≡ L.told files.old }
+    ensures closed { L.open_files files.new ≡ [] }
+    ensures later { L.faults files.old ≤ L.faults files.new }
+{
+    let mut session = Session::new(alloc);
+    match check_path(
+        alloc,
+        reference,
+        Origin::Reference,
+        files,
+        &mut session,
+        paths,
+        buffer,
+    ) {
+        Ok(_) => check_proof(alloc, proof, files, &mut session, paths, buffer),
+        Err(verdict) => verdict,
+    }
+}
+
+/// The verdict of a proof, behind its reference file.
+fn check_proof<L: Library>(
+    alloc: Global,
+    path: &[u8],
+    files: &mut L,
+    session: &mut Session,
+    paths: &mut Paths,
+    buffer: &mut [u8],
+) -> Verdict
+    requires none_open { L.open_files files.old ≡ [] }
+    requires buffer { 0 < length buffer.old }
+    ensures verdict { IfSome (L.told files.old) (λ told. Answers paths.new result (checked told path.now (run_file told path.now FromProof session.old))) }
+    ensures cause { AnswerHasCause result (L.told files.old) (L.faults files.old) (L.faults files.new) }
+    ensures place { FileInRange paths.new result }
+    ensures kind { IsCheckAnswer result }
+    ensures same { L.told files.new ≡ L.told files.old }
+    ensures closed { L.open_files files.new ≡ [] }
+    ensures later { L.faults files.old ≤ L.faults files.new }
+{
+    match check_path(alloc, path, Origin::Proof, files, session, paths, buffer) {
+        Err(verdict) => verdict,
+        Ok(place) => match session.end() {
+            None => Verdict::Correct,
+            Some(name) => Verdict::Refused(Fault { name, place }),
         },
     }
 }
 
-/// The verdict that refuses a file at a place.
-fn refuse(name: FaultName, path: &[u8], at: Spot, paths: &mut Paths) -> Verdict
-    ensures answer { Answers paths.new result (verdict.Refused (record { name = name; file = path.now; line = at.line; offset = at.offset })) }
-    ensures place { FileInRange paths.new result }
-    ensures kind { RefusesBy name result }
+/// Reads the file with this path, and checks its commands. Answers the place behind its last byte.
+fn check_path<L: Library>(
+    alloc: Global,
+    path: &[u8],
+    from: Origin,
+    files: &mut L,
+    session: &mut Session,
+    paths: &mut Paths,
+    buffer: &mut [u8],
+) -> Result<Place, Verdict>
+    requires none_open { L.open_files files.old ≡ [] }
+    requires buffer { 0 < length buffer.old }
+    ensures runs { IfOk result (λ place. IfSome (L.told files.old) (λ told. EndsRun told path.now (origin_of from) session.old session.new paths.new place)) }
+    ensures refused { IfErr result (λ v. IfSome (L.told files.old) (λ told. RefusesRun told path.now (origin_of from) session.old paths.new v)) }
+    ensures cause { IfErr result (λ v. AnswerHasCause v (L.told files.old) (L.faults files.old) (L.faults files.new)) }
+    ensures there { IfOk result (λ place. IsSome (slice_get paths.new place.file)) }
+    ensures place { IfErr result (FileInRange paths.new) }
+    ensures kind { IfErr result IsCheckAnswer }
+    ensures same { L.told files.new ≡ L.told files.old }
+    ensures closed { L.open_files files.new ≡ [] }
+    ensures later { L.faults files.old ≤ L.faults files.new }
 {
-    match paths.add(path) {
-        Ok(file) => Verdict::Refused(Fault {
+    let Ok(file) = paths.add(path) else {
+        return Err(Verdict::OutOfMemory);
+    };
+    match check_file(alloc, path, from, files, session, buffer) {
+        Ok(at) => Ok(Place {
+            file,
+            line: at.line,
+            offset: at.offset,
+        }),
+        Err(stop) => Err(refuse(stop, file)),
+    }
+}
+
+/// Room for the bytes of one read. `Err` is want of memory.
+fn new_buffer(alloc: Global) -> Result<Vec<u8>, AllocError>
+    ensures { IfOk result (λ buffer. 0 < vec_len buffer) }
+{
+    vec![in alloc; 0u8; PIECE]
+}
+
+/// The verdict of a file, by its number among the paths, that is not read to its end.
+fn refuse(stop: Stop, file: usize) -> Verdict
+    ensures { result ≡ stop_verdict stop file }
+{
+    match stop {
+        Stop::Fault { name, at } => Verdict::Refused(Fault {
             name,
             place: Place {
                 file,
@@ -82,101 +194,7 @@ fn refuse(name: FaultName, path: &[u8], at: Spot, paths: &mut Paths) -> Verdict
                 offset: at.offset,
             },
         }),
-        Err(_) => Verdict::OutOfMemory,
-    }
-}
-
-/// Reads a file whole, or answers the verdict of one that cannot be read or is too long.
-fn contents<L: Library>(
-    alloc: Global,
-    path: &[u8],
-    files: &mut L,
-    paths: &mut Paths,
-) -> Result<Vec<u8>, Verdict>
-    requires { length (L.open_files files.old) < 18 }
-    ensures whole { IfOk result (λ bytes. IfSome (L.told files.old) (λ told. file_at told path.now ≡ Some bytes.items)) }
-    ensures short { IfOk result (λ bytes. length bytes.items ≤ limits.file) }
-    ensures unread { IfErr result (λ v. IfSome (L.told files.old) (λ told. (go : List ℕ → verdict.Verdict) → RefusesLong path.now go → Answers paths.new v (or_refused FileAbsent path.now (file_at told path.now) go))) }
-    ensures place { IfErr result (FileInRange paths.new) }
-    ensures kind { IfErr result IsFirstAnswer }
-    ensures cause { IfErr result (λ v. AnswerHasCause v (L.told files.old) (L.faults files.old) (L.faults files.new)) }
-    ensures same { L.told files.new ≡ L.told files.old }
-    ensures closed { L.open_files files.new ≡ L.open_files files.old }
-    ensures later { L.faults files.old ≤ L.faults files.new }
-{
-    match read_file(alloc, path, files) {
-        Ok(bytes) => Ok(bytes),
-        Err(Unread::Absent) => Err(refuse(FaultName::FileAbsent, path, START, paths)),
-        Err(Unread::Long) => Err(refuse(FaultName::BadCommand, path, START, paths)),
-        Err(Unread::Failed) => Err(Verdict::ReadFault),
-        Err(Unread::NoMemory) => Err(Verdict::OutOfMemory),
-    }
-}
-
-/// Which formulas the reference file asserts, or the verdict that it gives at once.
-fn read_reference<L: Library>(
-    alloc: Global,
-    path: &[u8],
-    files: &mut L,
-    paths: &mut Paths,
-) -> Result<Asserted, Verdict>
-    requires { length (L.open_files files.old) < 18 }
-    ensures read { IfOk result (λ a. IfSome (L.told files.old) (λ told. Asserts told path.now a)) }
-    ensures refused { IfErr result (λ v. IfSome (L.told files.old) (λ told. (go : List Bool → verdict.Verdict) → Answers paths.new v (with_assertions told path.now go))) }
-    ensures place { IfErr result (FileInRange paths.new) }
-    ensures kind { IfErr result IsFirstAnswer }
-    ensures cause { IfErr result (λ v. AnswerHasCause v (L.told files.old) (L.faults files.old) (L.faults files.new)) }
-    ensures same { L.told files.new ≡ L.told files.old }
-    ensures closed { L.open_files files.new ≡ L.open_files files.old }
-    ensures later { L.faults files.old ≤ L.faults files.new }
-{
-    let bytes = contents(alloc, path, files, paths)?;
-    match read_assertions(alloc, bytes.as_slice()) {
-        Ok(asserted) => Ok(asserted),
-        Err(FlatRefused::Form) => Err(refuse(FaultName::BadCommand, path, START, paths)),
-        Err(FlatRefused::Memory(_)) => Err(Verdict::OutOfMemory),
-    }
-}
-
-/// The verdict of a proof under the assertions of the reference file.
-fn check_proof<L: Library>(
-    alloc: Global,
-    path: &[u8],
-    asserted: Asserted,
-    files: &mut L,
-    paths: &mut Paths,
-) -> Verdict
-    requires { length (L.open_files files.old) < 18 }
-    ensures verdict { IfSome (L.told files.old) (λ told. (formulas : List Bool) → IsSummary formulas asserted → Answers paths.new result (proof_verdict told path.now formulas)) }
-    ensures place { FileInRange paths.new result }
-    ensures kind { IsFirstAnswer result }
-    ensures cause { AnswerHasCause result (L.told files.old) (L.faults files.old) (L.faults files.new) }
-    ensures same { L.told files.new ≡ L.told files.old }
-    ensures closed { L.open_files files.new ≡ L.open_files files.old }
-    ensures later { L.faults files.old ≤ L.faults files.new }
-{
-    let bytes = match contents(alloc, path, files, paths) {
-        Ok(bytes) => bytes,
-        Err(verdict) => return verdict,
-    };
-    match read_steps(alloc, bytes.as_slice(), asserted) {
-        Ok(steps) => judge(path, bytes.as_slice(), steps, paths),
-        Err(FlatRefused::Form) => refuse(FaultName::BadCommand, path, START, paths),
-        Err(FlatRefused::Memory(_)) => Verdict::OutOfMemory,
-    }
-}
-
-/// The verdict of a proof with these assumptions.
-fn judge(path: &[u8], bytes: &[u8], steps: Steps, paths: &mut Paths) -> Verdict
-    requires { IfSome steps.unasserted (λ at. at.line ≡ (spot_at bytes.now at.offset).line) }
-    ensures verdict { (formulas : List Bool) (a : Asserted) (assumed : List first.Assumption) → IsSummary formulas a → AreSteps a assumed steps → Answers paths.new result (judged path.now bytes.now formulas assumed) }
-    ensures place { FileInRange paths.new result }
-    ensures kind { IsFirstAnswer result }
-    ensures files { IsOfFiles result }
-{
-    match steps.unasserted {
-        Some(at) => refuse(FaultName::NotAsserted, path, at, paths),
-        None if steps.refutes => Verdict::Correct,
-        None => refuse(FaultName::NoRefutation, path, end_of(bytes), paths),
+        Stop::ReadFault => Verdict::ReadFault,
+        Stop::Memory => Verdict::OutOfMemory,
     }
 }

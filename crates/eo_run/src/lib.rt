@@ -5,9 +5,10 @@
 #![tactic(auto)]
 
 mod checking;
-mod contents;
-mod first_form;
 mod printing;
+mod reading;
+mod session;
+mod shape;
 
 pub use checking::check_files;
 use eo_base::{Fault, Text};

@@ -10,6 +10,22 @@ pub mod Settled
 pub mod Steady
 pub mod Whole
 pub mod Telling
+pub mod TokenTurns
+pub mod TokenEnds
+pub mod OpenFrames
+pub mod OwnedViews
+pub mod ReaderTurns
+pub mod TokenBegins
+pub mod ReaderSteps
+pub mod LimitFacts
+pub mod CommandTurns
+pub mod FedBytes
+pub mod FedBetween
+pub mod MachineSteps
+pub mod FedPieces
+pub mod Counting
+pub mod FedAnswers
+pub mod FedEnds
+pub mod Callers
 mod Vectors
-pub mod FlatSteps
-pub mod FlatPlaces
+pub mod Naming

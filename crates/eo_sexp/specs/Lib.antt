@@ -1,10 +1,13 @@
+pub mod Answering
 pub mod Collecting
 pub mod Commands
 pub mod Cutting
-pub mod Flat
-pub mod FlatCode
-pub mod FlatReading
 pub mod Lexicon
+pub mod Machine
+pub mod OpenLists
+pub mod Owned
+pub mod Reader
 pub mod Sexp
 pub mod SexpCode
 pub mod Texts
+pub mod Token

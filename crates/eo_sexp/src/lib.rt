@@ -2,13 +2,18 @@
 #![tactic(auto)]
 
 ghost use Rattle.eo_base.specs.Limits.{limits};
+ghost use Rattle.eo_sexp.specs.Answering.{AnswersAlone};
 ghost use Rattle.eo_sexp.specs.Cutting.{ReadsInPieces};
 
+mod classes;
+mod incremental;
+mod owned;
+mod reader;
+mod token;
+
 use eo_base::FaultName;
-
-mod flat;
-
-pub use flat::{FlatCommand, FlatCommands, FlatRefused, Words, read_flat};
+pub use incremental::Collector;
+pub use owned::{Bytes, OwnedSexp, OwnedSexps};
 
 /// What an s-expression is.
 #[derive(Clone, Copy, Debug, PartialEq, Eq)]
@@ -50,4 +55,9 @@ pub enum Finished {
 /// A law: a file is read as a whole, however it is cut into pieces.
 pub fn pieces_law()
     ensures { ReadsInPieces limits }
+{}
+
+/// A law: what the answers of a collector tell by themselves.
+pub fn answers_law()
+    ensures { AnswersAlone limits }
 {}

@@ -9,7 +9,8 @@ use Rattle.eo_io.specs.Library.{Files}
 use Rattle.eo_run.specs.Verdict as verdict
 use Rattle.eo_run.specs.Printed.{Due, verdict_due, verdict_status, usage_due, read_fault_due, out_of_memory_due}
 use Rattle.eo_run.specs.Answer.{Denotes, Answers, AnswerHasCause, answer_due, refusal_of, WritesDue}
-use Rattle.eo_run.specs.FirstForm.{FirstWords, first_verdict}
+use Rattle.eo_run.specs.Check as check
+use Rattle.ethos.specs.CheckWords.{FirstWords}
 use Rattle.eo_run.specs.declared.Verdict.{Verdict}
 use Rattle.eo_run.specs.declared.Verdict.TheVariants as answer
 use Rattle.ethos.specs.Ends.{Ends, EndHasCause}
@@ -83,10 +84,10 @@ answer_ends paths answer.ReadFault v s w x e h = read_fault_ends s (verdict_due 
 answer_ends paths answer.OutOfMemory v s w x e h = out_of_memory_ends s (verdict_due v) w x h
 
 pub told_ends : (told : Option Files) (reference proof : List ℕ) (paths : List (List ℕ)) (a : Verdict) (s : Status) (w x : Option (List ℕ))
-    → IfSome told (λ files. Answers paths a (first_verdict files reference proof)) → WritesDue s (answer_due paths a) w x
-    → IfSome told (λ files. Ends s (verdict_due (first_verdict files reference proof)) w x)
+    → IfSome told (λ files. Answers paths a (check.verdict files reference proof)) → WritesDue s (answer_due paths a) w x
+    → IfSome told (λ files. Ends s (verdict_due (check.verdict files reference proof)) w x)
 told_ends None reference proof paths a s w x h writes = tt
-told_ends (Some files) reference proof paths a s w x h writes = answer_ends paths a (first_verdict files reference proof) s w x h writes
+told_ends (Some files) reference proof paths a s w x h writes = answer_ends paths a (check.verdict files reference proof) s w x h writes
 
 -- an answer other than a fault of reading has no such status
 read_fault_is : {F : Type 0} (told : Option F) (paths : List (List ℕ)) (a : Verdict) (before now : ℕ) → status.ReadFault ≡ (answer_due paths a).status → AnswerHasCause a told before now → Rose before now
@@ -129,12 +130,12 @@ no_usage paths a status.Usage w x h = λ _. no_usage_due paths a (sym h.0)
 
 -- the words name the files of the job
 pub words_end : (told : Option Files) (s : Status) (w x : Option (List ℕ)) (words : FirstWords) (reference : Option (List ℕ)) (proof : List ℕ) → reference ≡ Some words.reference → proof ≡ words.proof
-    → IfSome told (λ files. Ends s (verdict_due (first_verdict files (unwrap_or reference []) proof)) w x) → IfSome told (λ files. Ends s (first_due files (Some words)) w x)
+    → IfSome told (λ files. Ends s (verdict_due (check.verdict files (unwrap_or reference []) proof)) w x) → IfSome told (λ files. Ends s (first_due files (Some words)) w x)
 unfolding first_due
 words_end None s w x words reference proof e e' h = tt
 words_end (Some files) s w x words reference proof e e' h =
-    subst (λ (r : List ℕ). Ends s (verdict_due (first_verdict files r words.proof)) w x) (ap (λ o. unwrap_or o []) e)
-    (subst (λ (p : List ℕ). Ends s (verdict_due (first_verdict files (unwrap_or reference []) p)) w x) e' h)
+    subst (λ (r : List ℕ). Ends s (verdict_due (check.verdict files r words.proof)) w x) (ap (λ o. unwrap_or o []) e)
+    (subst (λ (p : List ℕ). Ends s (verdict_due (check.verdict files (unwrap_or reference []) p)) w x) e' h)
 
 -- the words have this reading
 pub reading_ends : (told : Option Files) (s : Status) (w x : Option (List ℕ)) (reading other : Option FirstWords) → reading ≡ other

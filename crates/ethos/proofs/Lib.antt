@@ -1,3 +1,4 @@
 mod WordLemmas
 mod EndLemmas
 mod AbsentLemmas
+mod WordVectors

@@ -5,7 +5,7 @@ use Rattle.std.specs.Option.{option_copied}
 use Rattle.std.specs.Str.Pattern.{FindsTextPrefix, StripsPrefix}
 use Rattle.std.specs.Str.{IsCharBoundary}
 use Rattle.std.proofs.lemmas.Str.Pattern.{starts_text}
-use Rattle.eo_run.specs.FirstForm.{reference_path, first_paths, first_words}
+use Rattle.ethos.specs.CheckWords.{reference_path, first_paths, first_words}
 
 pub reference_is : (word : List ℕ) (r : Option (Bor (List ℕ))) → MatchOption r (FindsTextPrefix (codes "--reference=") word None) (λ x. StripsPrefix (FindsTextPrefix (codes "--reference=")) word x.now)
     → option_copied r ≡ reference_path word

@@ -1,3 +1,4 @@
+pub mod CheckWords
 pub mod Ends
 pub mod FirstProgram
 pub mod Words

@@ -1,5 +1,5 @@
 -- How the code reads the words.
-use Rattle.eo_run.specs.FirstForm as first
+use Rattle.ethos.specs.CheckWords as first
 use Rattle.ethos.specs.declared.words.FilePaths.{FilePaths}
 
 -- the paths that the words name

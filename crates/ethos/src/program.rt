@@ -3,7 +3,8 @@ ghost use Rattle.std.specs.Prelude.{◌≡◌, ◌≢◌, ◌≤◌, [], None, S
 ghost use Rattle.eo_base.specs.Causes.{Rose};
 ghost use Rattle.eo_run.specs.Printed.{verdict_due, usage_due};
 ghost use Rattle.eo_run.specs.Answer.{WritesDue};
-ghost use Rattle.eo_run.specs.FirstForm.{first_words, first_verdict};
+ghost use Rattle.eo_run.specs.Check as checks;
+ghost use Rattle.ethos.specs.CheckWords.{first_words};
 ghost use Rattle.ethos.specs.Ends.{Ends, EndHasCause, UsageFits, AbsentHasCause};
 ghost use Rattle.ethos.specs.FirstProgram.{first_due};
 ghost use Rattle.ethos.specs.Words.{paths_of};
@@ -120,7 +121,7 @@ fn check_job<L: Library, W: Sink>(
     requires closed_rules { job.now.closed ≡ false }
     requires no_paths { table.old ≡ [] }
     requires none_open { L.open_files files.old ≡ [] }
-    ensures exact { IfSome (L.told files.old) (λ told. Ends result (verdict_due (first_verdict told (unwrap_or job.now.reference []) job.now.proof)) (W.written out.old) (W.written out.new)) }
+    ensures exact { IfSome (L.told files.old) (λ told. Ends result (verdict_due (checks.verdict told (unwrap_or job.now.reference []) job.now.proof)) (W.written out.old) (W.written out.new)) }
     ensures cause { EndHasCause result (L.faults files.old) (L.faults files.new) (W.faults out.old) (W.faults out.new) }
     ensures usage { result ≢ Status.Usage }
     ensures absent { AbsentHasCause (L.told files.old) (W.written out.old) (W.written out.new) (L.faults files.old) (L.faults files.new) }

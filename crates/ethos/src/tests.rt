@@ -85,7 +85,7 @@ fn verdicts_of_files(rt: HostRuntime) {
         (
             b"(assert (not true))".as_slice(),
             none,
-            b"refused F11 BadCommand r.smt2:1:0\n".as_slice(),
+            b"refused F13 UnknownSymbol r.smt2:1:0\n".as_slice(),
             Status::Refused,
         ),
     ];
@@ -193,5 +193,111 @@ fn failing_and_short_writes(rt: HostRuntime) {
             assert!(&rt; out.bytes() == b"correct\n".as_slice());
         }
         Err(AllocError) => assert!(&rt; false),
+    }
+}
+
+/// The line for a reference file and a proof, with reads of at most so many bytes.
+fn pieced_line(
+    alloc: Global,
+    piece: usize,
+    reference: &[u8],
+    proof: &[u8],
+) -> Result<MemorySink, AllocError>
+    requires { 1 ≤ piece }
+{
+    let mut files = MemoryLibrary::new(alloc)?;
+    files.add(b"r.smt2", reference)?;
+    files.add(b"p.eo", proof)?;
+    files.piece(piece);
+    let mut out = MemorySink::new(alloc, ROOM)?;
+    ethos_main(alloc, words(alloc)?.as_slice(), &mut files, &mut out);
+    Ok(out)
+}
+
+/// Whether the two files give this line, whole and with reads of 1 and of 3 bytes.
+fn prints(alloc: Global, reference: &[u8], proof: &[u8], line: &[u8]) -> bool {
+    for piece in [1usize, 3, 65_536] {
+        match pieced_line(alloc, piece, reference, proof) {
+            Ok(out) if out.bytes() == line => {}
+            _ => return false,
+        }
+    }
+    true
+}
+
+#[test]
+fn proofs_in_the_whole_lexicon(rt: HostRuntime) {
+    let rows: [(&[u8], &[u8]); 17] = [
+        (b"(include \"b", b"refused F02 Unclosed p.eo:1:11\n"),
+        (b"(assume @p1 true))", b"refused F03 ExtraClose p.eo:1:17\n"),
+        (b"unsat\n", b"refused F41 NoRefutation p.eo:2:6\n"),
+        (b"unsat unsat", b"refused F11 BadCommand p.eo:1:6\n"),
+        (b"()x", b"refused F03 ExtraClose p.eo:1:2\n"),
+        (
+            b"(\n(assume @p1 true)\n",
+            b"refused F02 Unclosed p.eo:3:20\n",
+        ),
+        (
+            b"(assume @p1 |true|) ; c",
+            b"refused F41 NoRefutation p.eo:1:23\n",
+        ),
+        (
+            b"unsat\n(\n(assume a true)\n(assume a maybe)\n)\n",
+            b"refused F12 Redeclared p.eo:4:24\n",
+        ),
+        (b"(assume a maybe)", b"refused F13 UnknownSymbol p.eo:1:0\n"),
+        (
+            b"(assume a \"true\")",
+            b"refused F13 UnknownSymbol p.eo:1:0\n",
+        ),
+        (
+            b"(assume a (true))",
+            b"refused F13 UnknownSymbol p.eo:1:0\n",
+        ),
+        (
+            b"\r\n(assume a false)",
+            b"refused F28 NotAsserted p.eo:2:2\n",
+        ),
+        (b"(assume :a true)", b"refused F11 BadCommand p.eo:1:0\n"),
+        (
+            b"(assume a true true)",
+            b"refused F11 BadCommand p.eo:1:0\n",
+        ),
+        (b"(assert true)", b"refused F10 UnknownCommand p.eo:1:0\n"),
+        (b"assume", b"refused F11 BadCommand p.eo:1:0\n"),
+        (b"(assume a true){", b"refused F01 BadByte p.eo:1:15\n"),
+    ];
+    for (proof, line) in rows {
+        assert!(&rt; prints(rt.alloc(), b"(assert true)\n", proof, line));
+    }
+}
+
+/// Whether a proof of so many `(` gives this line.
+fn opens_print(alloc: Global, count: usize, line: &[u8]) -> Result<bool, AllocError> {
+    let proof = vec![in alloc; b'('; count]?;
+    Ok(prints(alloc, b"(assert true)\n", &proof, line))
+}
+
+#[test]
+fn nested_lists(rt: HostRuntime) {
+    let unclosed = opens_print(rt.alloc(), 513, b"refused F02 Unclosed p.eo:1:513\n");
+    assert!(&rt; unclosed == Ok(true));
+    let too_deep = opens_print(rt.alloc(), 514, b"refused F07 Nesting p.eo:1:513\n");
+    assert!(&rt; too_deep == Ok(true));
+}
+
+#[test]
+fn a_proof_that_is_cut(rt: HostRuntime) {
+    let proof: [u8; 19] = *b"(assume @p1 false)\n";
+    for length in 0..20usize {
+        let end = if length < 19 { length } else { 19 };
+        match pieced_line(rt.alloc(), 3, b"(assert false)\n", &proof[..end]) {
+            Ok(out) => match end {
+                0 => assert!(&rt; out.bytes() == b"refused F41 NoRefutation p.eo:1:0\n".as_slice()),
+                18 | 19 => assert!(&rt; out.bytes() == b"correct\n".as_slice()),
+                _ => assert!(&rt; out.bytes().starts_with(b"refused F02 Unclosed p.eo:1:")),
+            },
+            Err(AllocError) => assert!(&rt; false),
+        }
     }
 }

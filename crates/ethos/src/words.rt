@@ -3,7 +3,7 @@ ghost use Rattle.std.specs.Prelude.{◌≡◌, ◌==◌, ◌&&◌, not, option_m
 ghost use Rattle.std.specs.List.{list_all, slice_split};
 ghost use Rattle.std.specs.Option.{option_copied};
 ghost use Rattle.eo_io.specs.Paths.{is_slash};
-ghost use Rattle.eo_run.specs.FirstForm as first;
+ghost use Rattle.ethos.specs.CheckWords as first;
 ghost use Rattle.ethos.specs.Words.{paths_of};
 
 use eo_base::Text;

@@ -1,5 +1,5 @@
 use Rattle.std.proofs.Common.{arith, Some, None}
-use Rattle.eo_run.specs.FirstForm.{first_words}
+use Rattle.ethos.specs.CheckWords.{first_words}
 use Rattle.ethos.specs.Words.{paths_of}
 use Rattle.ethos.proofs.EndLemmas.{reading_ends, no_reading_ends, usage_ends}
 use Rattle.ethos.proofs.AbsentLemmas.{absent_by_letter, absent_after_nothing}

@@ -2,7 +2,7 @@ use Rattle.std.proofs.Common.{refl, rules}
 use Rattle.std.proofs.lemmas.Iterator.Search.{all_from_yields_List}
 use Rattle.std.proofs.lemmas.Iterator.Splits.{YieldsList-from_slice_split}
 use Rattle.eo_io.specs.Paths.{is_slash}
-use Rattle.eo_run.specs.FirstForm.{is_plain_part}
+use Rattle.ethos.specs.CheckWords.{is_plain_part}
 use Rattle.ethos.proofs.words.has_plain_parts.Goals as goal
 
 pub returns : goal.returns

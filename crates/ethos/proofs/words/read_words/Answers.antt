@@ -1,6 +1,6 @@
 use Rattle.std.proofs.Common.{sym, ap, ◌∙◌}
 use Rattle.std.specs.Prelude.{option_and_then, bytes_eq}
-use Rattle.eo_run.specs.FirstForm.{first_paths, reference_path}
+use Rattle.ethos.specs.CheckWords.{first_paths, reference_path}
 use Rattle.ethos.proofs.WordLemmas.{four_words, reference_read}
 use Rattle.ethos.proofs.words.read_words.Goals as goal
 

@@ -1,0 +1,131 @@
+-- Whole checks, and the line that is printed of each.
+use Rattle.std.specs.Prelude.{◌≡◌, refl, ℕ, List, [], ◌∷◌, ◌++◌, codes, replicate}
+use Rattle.eo_io.specs.Library.{Files}
+use Rattle.eo_run.proofs.Computed.{computed}
+use Rattle.eo_run.specs.Check.{verdict}
+use Rattle.eo_run.specs.Printed.{line, verdict_text}
+
+-- the files `r.smt2` and `p.eo`
+abbrev files : (reference proof : List ℕ) → Files
+files reference proof = (codes "r.smt2", reference) ∷ (codes "p.eo", proof) ∷ []
+
+-- the check of r.smt2 and p.eo with these bytes prints this line
+abbrev Prints : (reference proof text : List ℕ) → Type 0
+Prints reference proof text = verdict_text (verdict (files reference proof) (codes "r.smt2") (codes "p.eo")) ≡ line text
+
+assumed : Prints (line (codes "(assert false)")) (line (codes "(assume @p1 false)")) (codes "correct")
+unfolding computed
+assumed = refl
+
+not_asserted : Prints (line (codes "(assert true)")) (line (codes "(assume @p1 false)")) (codes "refused F28 NotAsserted p.eo:1:0")
+unfolding computed
+not_asserted = refl
+
+no_refutation : Prints (line (codes "(assert true)")) (line (codes "(assume @p1 true)")) (codes "refused F41 NoRefutation p.eo:2:18")
+unfolding computed
+no_refutation = refl
+
+no_bytes : Prints (line (codes "(assert true)")) ([]) (codes "refused F41 NoRefutation p.eo:1:0")
+unfolding computed
+no_bytes = refl
+
+no_bytes_either : Prints (line (codes "(assert false)")) ([]) (codes "refused F41 NoRefutation p.eo:1:0")
+unfolding computed
+no_bytes_either = refl
+
+-- the outer pair is not closed
+open_pair : Prints (line (codes "(assert false)")) (line (codes "(") ++ line (codes "(assume @p1 false)")) (codes "refused F02 Unclosed p.eo:3:21")
+unfolding computed
+open_pair = refl
+
+-- a token behind the outer pair
+behind_pair : Prints (line (codes "(assert false)")) (codes "()x") (codes "refused F03 ExtraClose p.eo:1:2")
+unfolding computed
+behind_pair = refl
+
+open_string : Prints (line (codes "(assert true)")) (codes "(include \"b") (codes "refused F02 Unclosed p.eo:1:11")
+unfolding computed
+open_string = refl
+
+extra_close : Prints (line (codes "(assert true)")) (codes "(assume @p1 true))") (codes "refused F03 ExtraClose p.eo:1:17")
+unfolding computed
+extra_close = refl
+
+-- the word `unsat` at the start
+unsat_alone : Prints (line (codes "(assert true)")) (line (codes "unsat")) (codes "refused F41 NoRefutation p.eo:2:6")
+unfolding computed
+unsat_alone = refl
+
+unsat_twice : Prints (line (codes "(assert true)")) (codes "unsat unsat") (codes "refused F11 BadCommand p.eo:1:6")
+unfolding computed
+unsat_twice = refl
+
+-- 513 times `(`, the first being the outer pair
+open_lists : Prints (line (codes "(assert true)")) (replicate 513 40) (codes "refused F02 Unclosed p.eo:1:513")
+unfolding computed
+open_lists = refl
+
+-- 514 times `(`
+deep_lists : Prints (line (codes "(assert true)")) (replicate 514 40) (codes "refused F07 Nesting p.eo:1:513")
+unfolding computed
+deep_lists = refl
+
+-- both wrappings, and quoted symbols
+wrapped : Prints (line (codes "(assert false)")) (line (codes "unsat") ++ line (codes "(") ++ line (codes "(assume |@p1| |false|)") ++ line (codes ")")) (codes "correct")
+unfolding computed
+wrapped = refl
+
+unknown_command : Prints (line (codes "(assert true)")) (codes "(frob)") (codes "refused F10 UnknownCommand p.eo:1:0")
+unfolding computed
+unknown_command = refl
+
+no_list : Prints (line (codes "(assert true)")) (codes "assume") (codes "refused F11 BadCommand p.eo:1:0")
+unfolding computed
+no_list = refl
+
+no_symbol : Prints (line (codes "(assert true)")) (codes "(:assume a true)") (codes "refused F11 BadCommand p.eo:1:0")
+unfolding computed
+no_symbol = refl
+
+no_name : Prints (line (codes "(assert true)")) (codes "(assume 1 true)") (codes "refused F11 BadCommand p.eo:1:0")
+unfolding computed
+no_name = refl
+
+one_formula_more : Prints (line (codes "(assert true)")) (codes "(assume a true true)") (codes "refused F11 BadCommand p.eo:1:0")
+unfolding computed
+one_formula_more = refl
+
+-- the name is tested before the formula
+repeated_name : Prints (line (codes "(assert true)")) (line (codes "(assume a true)") ++ line (codes "(assume |a| zz)")) (codes "refused F12 Redeclared p.eo:2:16")
+unfolding computed
+repeated_name = refl
+
+unknown_symbol : Prints (line (codes "(assert true)")) (codes "(assume a zz)") (codes "refused F13 UnknownSymbol p.eo:1:0")
+unfolding computed
+unknown_symbol = refl
+
+literal_formula : Prints (line (codes "(assert true)")) (codes "(assume a \"true\")") (codes "refused F13 UnknownSymbol p.eo:1:0")
+unfolding computed
+literal_formula = refl
+
+-- a reference file has assertions alone
+other_head : Prints (line (codes "(assert true)") ++ codes "(assume a true)") ([]) (codes "refused F10 UnknownCommand r.smt2:2:14")
+unfolding computed
+other_head = refl
+
+unknown_assertion : Prints (codes "(assert p)") ([]) (codes "refused F13 UnknownSymbol r.smt2:1:0")
+unfolding computed
+unknown_assertion = refl
+
+-- a fault of the text counts once the commands before it are accepted
+commands_first : Prints (line (codes "(assert true)")) (line (codes "(assume a false)") ++ 1 ∷ []) (codes "refused F28 NotAsserted p.eo:1:0")
+unfolding computed
+commands_first = refl
+
+absent : verdict_text (verdict ((codes "r.smt2", []) ∷ []) (codes "r.smt2") (codes "p.eo")) ≡ line (codes "refused F35 FileAbsent p.eo:1:0")
+unfolding computed
+absent = refl
+
+absent_reference : verdict_text (verdict [] (codes "r.smt2") (codes "p.eo")) ≡ line (codes "refused F35 FileAbsent r.smt2:1:0")
+unfolding computed
+absent_reference = refl

@@ -1,0 +1,14 @@
+use Rattle.std.proofs.Common.{refl, sym, ap, ◌∙◌, ◌∷◌, [], ◌++◌, subst}
+use Rattle.eo_base.specs.Limits.{limits}
+use Rattle.eo_sexp.specs.declared.incremental.State.TheVariants as state
+use Rattle.eo_sexp.specs.Reader.{Begins}
+use Rattle.eo_sexp.specs.Machine.{phase_of}
+use Rattle.eo_sexp.proofs.MachineSteps.{takes-begins, atom-pair, atom-first}
+use Rattle.eo_sexp.proofs.incremental.Machine.begin_atom.Goals as goal
+
+pub returns : goal.returns
+returns c =
+    let k = c.in_ok-keep.ensures in
+    takes-begins c.args.self.now (record c.keep.new.self { state = state.Begun }) c.args.x state.Begun c.requires.placed c.requires.nothing c.requires.between c.requires.inside
+    (atom-first _ c.requires.atom) (subst (Begins limits c.args.x) (sym k.reader) c.in_ok-begin_atom.ensures) refl
+    (k.begun ∙ ap (λ l. l ++ c.args.x ∷ []) c.requires.nothing) k.start k.here k.phase (atom-pair (phase_of c.args.self.now.phase) c.args.x c.requires.atom)

@@ -1,0 +1,6 @@
+use Rattle.std.proofs.Common.{refl, arith}
+use Rattle.eo_sexp.proofs.MachineSteps.{placed-none}
+use Rattle.eo_sexp.proofs.incremental.Machine.new.Goals as goal
+
+pub returns-clause-sound : goal.returns-clause-sound
+returns-clause-sound c = (c.new.ensures.items, placed-none _ c.new.ensures.items refl (omega arith))

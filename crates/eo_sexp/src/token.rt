@@ -1,0 +1,99 @@
+//! Tokens of more than one byte, a byte at a time.
+ghost use Rattle.std.specs.Prelude.{◌≡◌};
+ghost use Rattle.eo_base.specs.Limits.{limits};
+ghost use Rattle.eo_sexp.specs.Lexicon.{kind_of};
+ghost use Rattle.eo_sexp.specs.Token.{go_on, close, token_turn, may_end};
+
+use crate::Kind;
+use crate::classes::{is_quotable, is_text, is_word};
+use eo_base::FaultName;
+use eo_base::limits::TOKEN;
+
+/// How a token that is begun goes on.
+#[derive(Clone, Copy, Debug, PartialEq, Eq)]
+pub(crate) enum Token {
+    Word,
+    /// A string literal. `closed` tells that its last byte was a quote that no quote has doubled.
+    Text { closed: bool },
+    /// A quoted symbol.
+    Quoted,
+}
+
+/// What the next byte does to a token.
+#[derive(Clone, Copy, Debug, PartialEq, Eq)]
+pub(crate) enum TokenTurn {
+    /// The byte belongs to the token, which goes on so.
+    Goes(Token),
+    /// The token ended before the byte.
+    Ends,
+    /// The byte is the token's last.
+    Closes,
+    /// The byte is a fault.
+    Fault(FaultName),
+}
+
+// A byte more for a token of `size` bytes, which goes on as `token`.
+#[tactic(auto, unfolding(eo_base::specs::Limits::limits))]
+fn go_on(size: usize, token: Token) -> TokenTurn
+    ensures { result ≡ go_on limits size token }
+{
+    if size < TOKEN {
+        TokenTurn::Goes(token)
+    } else {
+        TokenTurn::Fault(FaultName::TokenLong)
+    }
+}
+
+// The last byte of a token behind `size` bytes.
+#[tactic(auto, unfolding(eo_base::specs::Limits::limits))]
+fn close(size: usize) -> TokenTurn
+    ensures { result ≡ close limits size }
+{
+    if size < TOKEN {
+        TokenTurn::Closes
+    } else {
+        TokenTurn::Fault(FaultName::TokenLong)
+    }
+}
+
+// The byte x behind `size` bytes of a token.
+#[tactic(auto, unfolding(crate::specs::Token::token_turn))]
+pub(crate) fn token_turn(token: Token, size: usize, x: u8) -> TokenTurn
+    ensures { result ≡ token_turn limits size token x }
+{
+    match token {
+        Token::Word if is_word(x) => go_on(size, Token::Word),
+        Token::Word => TokenTurn::Ends,
+        Token::Text { closed: true } if x == b'"' => go_on(size, Token::Text { closed: false }),
+        Token::Text { closed: true } => TokenTurn::Ends,
+        Token::Text { closed: false } if x == b'"' => go_on(size, Token::Text { closed: true }),
+        Token::Text { closed: false } if is_text(x) => go_on(size, Token::Text { closed: false }),
+        Token::Text { closed: false } => TokenTurn::Fault(FaultName::BadByte),
+        Token::Quoted if x == b'|' => close(size),
+        Token::Quoted if is_quotable(x) => go_on(size, Token::Quoted),
+        Token::Quoted => TokenTurn::Fault(FaultName::BadByte),
+    }
+}
+
+// Whether the end of the input ends the token.
+pub(crate) fn may_end(token: Token) -> bool
+    ensures { result ≡ may_end token }
+{
+    match token {
+        Token::Word => true,
+        Token::Text { closed } => closed,
+        Token::Quoted => false,
+    }
+}
+
+// The kind of a word.
+#[tactic(auto, unfolding(crate::specs::Lexicon::kind_of, crate::specs::Lexicon::begins_digit))]
+pub(crate) fn kind_of(word: &[u8]) -> Kind
+    ensures { result ≡ kind_of word.now }
+{
+    match word {
+        [b':', ..] => Kind::Keyword,
+        [b'#', ..] | [b'0'..=b'9', ..] | [b'-', b'0'..=b'9', ..] => Kind::Literal,
+        _ => Kind::Symbol,
+    }
+}
