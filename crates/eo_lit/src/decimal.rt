@@ -40,9 +40,9 @@ pub(crate) fn number_in(base: u8, digits: &[u8]) -> Option<u128>
     Some(value)
 }
 
-/// The value of a numeral: `0`, or digits of which the first is not `0`, where it has at most 128
-/// bits.
-pub(crate) fn numeral(digits: &[u8]) -> Option<u128>
+/// The value of a numeral (SMT-LIB 2.6, section 3.1): `0`, or digits of which the first is not
+/// `0`, where it has at most 128 bits.
+pub fn read_numeral(digits: &[u8]) -> Option<u128>
     ensures { result ≡ in_128_bits (numeral digits.now) }
 {
     match digits {

@@ -9,6 +9,7 @@ mod strings;
 #[cfg(test)]
 mod tests;
 
+pub use decimal::read_numeral;
 pub use literals::read_literal;
 pub use spelling::{write_literal, write_string};
 use std::alloc::AllocError;

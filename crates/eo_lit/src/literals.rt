@@ -3,7 +3,7 @@ ghost use Rattle.std.specs.Prelude.{◌≡◌, IfOk, IfSome, OnErr, None, Some, 
 ghost use Rattle.eo_lit.specs.Literals.{literal_value, hash_literal, numeral, positive, negative, bit_string};
 ghost use Rattle.eo_lit.specs.Reading.{lit, IsLiteral};
 
-use crate::decimal::{number_in, numeral};
+use crate::decimal::{number_in, read_numeral};
 use crate::hexadecimal::hexadecimal;
 use crate::{BadLiteral, LitRead};
 
@@ -51,7 +51,7 @@ fn from_zero(digits: &[u8]) -> Option<LitRead>
     ensures value { option_map lit result ≡ option_and_then positive (numeral digits.now) }
     ensures well_formed { IfSome result IsLiteral }
 {
-    let magnitude = numeral(digits)?;
+    let magnitude = read_numeral(digits)?;
     i128::try_from(magnitude).ok().map(LitRead::Num)
 }
 
@@ -61,7 +61,7 @@ fn below_zero(digits: &[u8]) -> Option<LitRead>
     ensures value { option_map lit result ≡ option_and_then negative (numeral digits.now) }
     ensures well_formed { IfSome result IsLiteral }
 {
-    let magnitude = numeral(digits)?;
+    let magnitude = read_numeral(digits)?;
     if magnitude == 0 {
         return None;
     }

@@ -76,7 +76,7 @@ impl Subst {
     }
 
     /// Lets a term stand for the parameter.
-    pub(crate) fn put(&mut self, i: u8, id: Id)
+    pub fn put(&mut self, i: u8, id: Id)
         requires { i < length self.old.values }
         ensures held { (ts : List Tree) → held ts self.new ≡ assign (held ts self.old) i (tree_at ts id) }
         ensures below { (n : ℕ) → AreBelow n self.old → id < n → AreBelow n self.new }

@@ -1,0 +1,24 @@
+use Rattle.std.proofs.Common.{length, sym, ap, ◌∙◌, subst}
+use Rattle.std.specs.List.{filter_map}
+use Rattle.eo_sig.specs.declared.records.Declared.TheVariants as declared
+use Rattle.eo_sig.specs.Reading.{Kept, signature, IsBelow, read_rule, rule_decl_of}
+use Rattle.eo_sig.proofs.Tables.{length_map}
+use Rattle.eo_sig.proofs.Readings.{adds_entry, rules_read, below_entry, free_rule}
+use Rattle.eo_sig.specs.Usable.{IsUsable}
+use Rattle.eo_sig.proofs.Usable.{usable_rule}
+use Rattle.eo_sig.proofs.signature.Signature.add_rule.Goals as goal
+
+pub returns-in-Ok-clause-number : goal.returns-in-Ok-clause-number
+returns-in-Ok-clause-number c = λ ts.
+    c.in-Ok.ensures.number ∙ sym (ap length (rules_read ts c.args.self.now.entries) ∙ length_map (read_rule ts) (filter_map rule_decl_of c.args.self.now.entries))
+
+pub returns-in-Ok-clause-below : goal.returns-in-Ok-clause-below
+returns-in-Ok-clause-below c = λ m h g. subst (IsBelow m) (sym c.in-Ok.ensures.kept) (below_entry m c.args.self.now (declared.Rule c.args.d) h g)
+
+pub keep_rule-requires : goal.keep_rule-requires
+keep_rule-requires c = free_rule c.args.self.now c.args.d.name c.requires.free
+
+pub returns-in-Ok-clause-usable : goal.returns-in-Ok-clause-usable
+returns-in-Ok-clause-usable c = λ ts o h.
+    subst (λ (k : Kept). IsUsable (signature ts k)) (sym c.in-Ok.ensures.kept)
+    (subst IsUsable (sym (adds_entry ts c.args.self.now (declared.Rule c.args.d)).signature) (usable_rule _ _ h o))

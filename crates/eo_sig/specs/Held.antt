@@ -1,0 +1,49 @@
+-- How a signature holds its declarations: tables of names beside the list, over any type of keys.
+use Rattle.std.specs.Prelude.{◌≡◌, ℕ, List, map, Option, Some, None, option_map, slice_get, filter_map, if◌then◌else◌}
+use Rattle.eo_sig.specs.declared.LiteralClass.{LiteralClass}
+use Rattle.eo_sig.specs.declared.LiteralClass.TheVariants as class
+use Rattle.eo_sig.specs.declared.records.ConstDecl.{ConstDecl}
+use Rattle.eo_sig.specs.declared.records.MacroDecl.{MacroDecl}
+use Rattle.eo_sig.specs.declared.records.ProgramDecl.{ProgramDecl}
+use Rattle.eo_sig.specs.declared.records.RuleDecl.{RuleDecl}
+use Rattle.eo_sig.specs.declared.records.Declared.{Declared}
+use Rattle.eo_sig.specs.declared.records.Declared.TheVariants as declared
+use Rattle.eo_sig.specs.Signature.{is_same_class}
+use Rattle.eo_sig.specs.Reading.{const_of, program_decl_of, rule_decl_of}
+
+-- the name of a declaration of one kind
+abbrev pub const_name : Declared → Option (List ℕ)
+const_name x = option_map (λ (d : ConstDecl). d.name) (const_of x)
+
+abbrev pub program_name : Declared → Option (List ℕ)
+program_name x = option_map (λ (d : ProgramDecl). d.name) (program_decl_of x)
+
+abbrev pub rule_name : Declared → Option (List ℕ)
+rule_name x = option_map (λ (d : RuleDecl). d.name) (rule_decl_of x)
+
+-- a declaration of the kind with its name
+abbrev pub tagged : (Declared → Option (List ℕ)) → Declared → Option (List ℕ × Option Declared)
+tagged pick d = option_map (λ w. (w, Some d)) (pick d)
+
+-- The table has the names of the declarations of one kind, in order, each with the place of its declaration.
+abbrev pub IsTable : {V : Type 0} → (V → List ℕ) → (Declared → Option (List ℕ)) → List Declared → List (V × ℕ) → Type 0
+IsTable {V} items pick es names = map (λ (e : V × ℕ). (items e.0, slice_get es e.1)) names ≡ filter_map (tagged pick) es
+
+-- the first type of a class of literals
+abbrev pub literal_id : LiteralClass → Declared → Option ℕ
+literal_id l (declared.Const d) = None
+literal_id l (declared.Program d) = None
+literal_id l (declared.Rule d) = None
+literal_id l (declared.Literal k t) = if is_same_class l k then Some t else None
+
+abbrev pub first_literal : LiteralClass → List Declared → Option ℕ
+first_literal l es = slice_get (filter_map (literal_id l) es) 0
+
+pub record IsKept {V : Type 0} (items : V → List ℕ) (es : List Declared) (cs ps rs : List (V × ℕ)) (ms : List (V × MacroDecl)) (n b s : Option ℕ) : Type 0 where
+  pub constants : IsTable items const_name es cs
+  pub programs : IsTable items program_name es ps
+  pub rules : IsTable items rule_name es rs
+  pub macros : map (λ (e : V × MacroDecl). items e.0) ms ≡ map (λ (e : V × MacroDecl). e.1.name) ms
+  pub numeral : n ≡ first_literal class.Numeral es
+  pub binary : b ≡ first_literal class.Binary es
+  pub string : s ≡ first_literal class.String es

@@ -1,0 +1,7 @@
+pub mod Signature
+pub mod Code
+pub mod Reading
+pub mod Held
+pub mod Refused
+pub mod ParamSet
+pub mod Usable

@@ -1,0 +1,38 @@
+//! What is declared: constants, macros, programs, rules and the types of the classes of literals,
+//! kept in order of declaration and found by name and by number.
+//!
+//! A declaration holds numbers of terms of one table. What it means is its reading over the trees
+//! of that table, which the call's contract names by `signature trees kept`.
+#![tactic(auto)]
+
+mod lists;
+mod param_set;
+mod patterns;
+mod records;
+mod refused;
+mod reserved;
+mod signature;
+mod types;
+
+pub use lists::{Cases, IdPairs, Params};
+pub use records::{
+    Attribute, Case, ConstDecl, Declaration, Declared, Entry, MacroDecl, Param, PremiseShape,
+    ProgramDecl, RuleDecl,
+};
+pub use refused::SigRefused;
+pub use reserved::is_reserved;
+pub use signature::{SigMark, Signature};
+
+/// A class of literals that gets one declared type.
+#[derive(Clone, Copy, Debug, PartialEq, Eq)]
+pub enum LiteralClass {
+    /// Integers.
+    Numeral,
+    /// Bit strings.
+    Binary,
+    /// Strings of characters.
+    String,
+}
+
+#[cfg(test)]
+mod tests;

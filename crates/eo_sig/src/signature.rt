@@ -1,0 +1,191 @@
+//! The signature: how it is kept, and what its names stand for.
+ghost use Rattle.std.specs.Prelude.{◌≡◌, ℕ, ◌<◌, ◌≤◌, List, [], length, take, true, None, IfOk, IfSome, OnOk, option_map};
+ghost use Rattle.eo_term.specs.Tree.{Tree};
+ghost use Rattle.eo_term.specs.Terms.{first_trees};
+ghost use Rattle.eo_sig.specs.Signature as sig;
+ghost use Rattle.eo_sig.specs.Reading.{signature, macros, constants_of, rules_of, IsBelow, IsWithin, first_kept, first_constant, with_entry, read_named};
+ghost use Rattle.eo_sig.specs.Usable.{IsUsable};
+
+mod declaring;
+mod keeping;
+mod numbered;
+
+use crate::{Attribute, ConstDecl, Declared, Entry, MacroDecl, Params, is_reserved};
+use eo_base::Name;
+use eo_term::{BOOL, Id, TYPE};
+use indexmap::IndexMap;
+use std::alloc::{AllocError, Global};
+use std::marker::Model;
+
+/// A place in the history of a signature's macros: how many there were.
+#[derive(Clone, Copy, Debug, PartialEq, Eq)]
+pub struct SigMark {
+    macros: usize,
+}
+
+impl Model for SigMark {
+    ghost use Rattle.std.specs.Prelude.{ℕ};
+
+    ghost Value = { ℕ };
+
+    ghost view = { λ a. a.macros };
+
+    ghost inverse = { λ n. record { macros = n } };
+}
+
+/// What is declared, in order of declaration, and the macros. Constants, programs and rules are
+/// each numbered from 0 in that order, and so are macros.
+///
+/// A name is looked up by its hash, without memory.
+#[derive(Drop)]
+pub struct Signature {
+    alloc: Global,
+    entries: Vec<Declared>,
+    // By name the places in `entries`, in order: the place in the map is the number.
+    constants: IndexMap<Vec<u8>, usize>,
+    programs: IndexMap<Vec<u8>, usize>,
+    rules: IndexMap<Vec<u8>, usize>,
+    macros: IndexMap<Vec<u8>, MacroDecl>,
+    numeral: Option<Id>,
+    binary: Option<Id>,
+    string: Option<Id>,
+}
+
+impl Model for Signature {
+    ghost use Rattle.std.specs.Prelude.{map};
+    ghost use Rattle.eo_sig.specs.Reading.{Kept};
+    ghost use Rattle.eo_sig.specs.Held.{IsKept};
+
+    ghost Value = { Kept };
+
+    ghost view = { λ a. record { entries = a.entries.items; macros = map (λ e. e.1) a.macros.entries } };
+
+    ghost invariant = { λ a. IsKept (λ w. w.items) a.entries.items a.constants.entries a.programs.entries a.rules.entries a.macros.entries a.numeral a.binary a.string };
+}
+
+impl Signature {
+    /// A signature that declares the constants `Type`, `Bool`, `true` and `false` alone, with the
+    /// numbers 0 to 3, without parameters and attribute. Their types are `Type`, `Type`, `Bool`
+    /// and `Bool`.
+    pub fn new(alloc: Global) -> Result<Signature, AllocError>
+        ensures kept { IfOk result (λ s. s ≡ first_kept) }
+        ensures signature { IfOk result (λ s. (ts : List Tree) → take 4 ts ≡ first_trees → signature ts s ≡ sig.first_signature) }
+        ensures usable { IfOk result (λ s. (ts : List Tree) → take 4 ts ≡ first_trees → IsUsable (signature ts s)) }
+        ensures below { IfOk result (λ s. IsBelow 4 s) }
+    {
+        let mut s = Signature::empty(alloc);
+        s.keep_first(b"Type", TYPE)?;
+        s.keep_first(b"Bool", TYPE)?;
+        s.keep_first(b"true", BOOL)?;
+        s.keep_first(b"false", BOOL)?;
+        Ok(s)
+    }
+
+    /// What the name stands for among constants, macros and programs, which share one space of
+    /// names.
+    pub fn lookup(&self, name: &[u8]) -> Option<Entry>
+        ensures named { (ts : List Tree) → option_map read_named result ≡ sig.lookup (signature ts self.now) (macros ts self.now) name.now }
+        ensures within { IfSome result (λ e. IsWithin self.now e) }
+    {
+        match self.constants.get_index_of(name) {
+            Some(n) => Some(Entry::Constant(n)),
+            None => match self.macros.get_index_of(name) {
+                Some(n) => Some(Entry::Macro(n)),
+                None => match self.programs.get_index_of(name) {
+                    Some(n) => Some(Entry::Program(n)),
+                    None => None,
+                },
+            },
+        }
+    }
+
+    /// The number of the rule with this name. Rules have a space of names of their own.
+    pub fn rule(&self, name: &[u8]) -> Option<usize>
+        ensures named { (ts : List Tree) → result ≡ sig.rule_named (signature ts self.now) name.now }
+        ensures within { IfSome result (λ n. n < length (rules_of self.now)) }
+    {
+        self.rules.get_index_of(name)
+    }
+
+    /// Whether a constant, a macro or a program may get the name: it is not reserved, and none of
+    /// them has it.
+    pub fn is_free(&self, name: &[u8]) -> bool
+        ensures { (ts : List Tree) → result ≡ sig.is_free (signature ts self.now) (macros ts self.now) name.now }
+    {
+        !is_reserved(name) && self.lookup(name).is_none()
+    }
+
+    /// Whether a rule may get the name: it is not reserved, and no rule has it.
+    pub fn is_free_rule(&self, name: &[u8]) -> bool
+        ensures { (ts : List Tree) → result ≡ sig.is_free_rule (signature ts self.now) name.now }
+    {
+        !is_reserved(name) && self.rule(name).is_none()
+    }
+
+    /// How many constants there are, which is the number of the next one.
+    pub fn constants(&self) -> usize
+        ensures count { result ≡ length (constants_of self.now) }
+        ensures value { (ts : List Tree) → result ≡ length (sig.constants (signature ts self.now)) }
+    {
+        self.constants.len()
+    }
+
+    /// How many programs there are, which is the number of the next one.
+    pub fn programs(&self) -> usize
+        ensures { (ts : List Tree) → result ≡ length (sig.programs (signature ts self.now)) }
+    {
+        self.programs.len()
+    }
+
+    /// A mark of the macros that there are.
+    pub fn mark(&self) -> SigMark
+        ensures { result ≡ length self.now.macros }
+    {
+        SigMark {
+            macros: self.macros.len(),
+        }
+    }
+
+    /// Drops the macros that were made since the mark. All else that was declared stays.
+    pub fn release(&mut self, m: SigMark)
+        requires { m ≤ length self.old.macros }
+        ensures entries { self.new.entries ≡ self.old.entries }
+        ensures macros { self.new.macros ≡ take m self.old.macros }
+        ensures below { (n : ℕ) → IsBelow n self.old → IsBelow n self.new }
+    {
+        self.macros.truncate(m.macros);
+    }
+
+    // A signature that declares nothing.
+    fn empty(alloc: Global) -> Signature
+        ensures { result ≡ record { entries = []; macros = [] } }
+    {
+        Signature {
+            alloc,
+            entries: Vec::new(alloc),
+            constants: IndexMap::new(alloc),
+            programs: IndexMap::new(alloc),
+            rules: IndexMap::new(alloc),
+            macros: IndexMap::new(alloc),
+            numeral: None,
+            binary: None,
+            string: None,
+        }
+    }
+
+    // Declares one of the first constants.
+    fn keep_first(&mut self, name: &[u8], ty: Id) -> Result<(), AllocError>
+        requires { sig.constant_named (signature [] self.old) name.now ≡ None }
+        ensures { OnOk result (self.new ≡ with_entry (first_constant name.now ty) self.old) }
+    {
+        let d = ConstDecl {
+            name: Name::new(self.alloc, name)?,
+            params: Params::new(self.alloc)?,
+            ty,
+            attribute: Attribute::Plain,
+            from_reference: false,
+        };
+        self.keep_constant(d)?;
+        Ok(())
+    }
+}

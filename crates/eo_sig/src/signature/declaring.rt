@@ -1,0 +1,178 @@
+//! Calls that declare.
+ghost use Rattle.std.specs.Prelude.{◌≡◌, ℕ, ◌<◌, List, length, map, true, None, not, is_none, IfOk, OnOk, OnErr};
+ghost use Rattle.eo_term.specs.Tree.{Tree};
+ghost use Rattle.eo_term.specs.Terms.{tree_at};
+ghost use Rattle.eo_sig.specs.Signature as sig;
+ghost use Rattle.eo_sig.specs.declared.records.Declared.TheVariants as declared;
+ghost use Rattle.eo_sig.specs.Reading.{signature, read_parameter, read_constant, read_macro, read_program, read_rule, read_premises, IsBelow, ConstBelow, MacroBelow, ProgramBelow, RuleBelow, with_entry, with_macro, IsFree, IsFreeRule, Adds, AddsMacro};
+ghost use Rattle.eo_sig.specs.Refused.{Tells};
+ghost use Rattle.eo_sig.specs.Usable.{IsUsable};
+
+use super::Signature;
+use crate::patterns::{cases_are_bound, cases_may_hold, rule_is_bound, rule_is_plain};
+use crate::types::{ends_at_right, implicit_occur, may_be_type, may_type};
+use crate::{ConstDecl, LiteralClass, MacroDecl, PremiseShape, ProgramDecl, RuleDecl, SigRefused};
+use eo_term::{Id, Table};
+
+impl Signature {
+    /// Declares a constant, whose name is to be free and whose terms are terms of the table, and
+    /// answers its number.
+    ///
+    /// `BadPattern` comes exactly where its type or a parameter's type holds an operator that no
+    /// declared type may hold, or its terminator is no value. Else `UnboundParam` comes exactly
+    /// where an implicit parameter occurs in no type of an argument outside every operator.
+    /// `Memory` is want of memory.
+    pub fn declare(&mut self, table: &Table, d: ConstDecl) -> Result<usize, SigRefused>
+        requires free { IsFree self.old d.name }
+        requires live { ConstBelow (length table.now.trees) d }
+        ensures tells { Tells result (sig.constant_fault (read_constant table.now.trees d)) }
+        ensures kept { OnOk result (self.new ≡ with_entry (declared.Const d) self.old) }
+        ensures adds { IfOk result (λ n. (ts : List Tree) → Adds ts self.old (sig.IsConstant (read_constant ts d)) self.new) }
+        ensures number { IfOk result (λ n. (ts : List Tree) → n ≡ length (sig.constants (signature ts self.old))) }
+        ensures usable { OnOk result (IsUsable (signature table.now.trees self.old) → IsUsable (signature table.now.trees self.new)) }
+        ensures below { OnOk result ((m : ℕ) → IsBelow m self.old → ConstBelow m d → IsBelow m self.new) }
+        ensures err { OnErr result (self.new ≡ self.old) }
+    {
+        if !d.may_hold(table) {
+            return Err(SigRefused::BadPattern);
+        }
+        if !implicit_occur(table, d.ty, d.params.as_slice()) {
+            return Err(SigRefused::UnboundParam);
+        }
+        match self.keep_constant(d) {
+            Ok(n) => Ok(n),
+            Err(e) => Err(SigRefused::Memory(e)),
+        }
+    }
+
+    /// Defines a macro, whose name is to be free, and answers its number. `Memory`, which is want
+    /// of memory, is the only refusal.
+    pub fn define(&mut self, d: MacroDecl) -> Result<usize, SigRefused>
+        requires free { IsFree self.old d.name }
+        ensures tells { Tells result None }
+        ensures kept { OnOk result (self.new ≡ with_macro d self.old) }
+        ensures adds { IfOk result (λ n. (ts : List Tree) → AddsMacro ts self.old (read_macro ts d) self.new) }
+        ensures number { IfOk result (λ n. n ≡ length self.old.macros) }
+        ensures below { OnOk result ((m : ℕ) → IsBelow m self.old → MacroBelow m d → IsBelow m self.new) }
+        ensures err { OnErr result (self.new ≡ self.old) }
+    {
+        match self.keep_macro(d) {
+            Ok(n) => Ok(n),
+            Err(e) => Err(SigRefused::Memory(e)),
+        }
+    }
+
+    /// Adds a program, whose name is to be free, whose terms are terms of the table, and which has
+    /// at most 64 arguments, and answers its number.
+    ///
+    /// `BadPattern` comes exactly where a pattern of a case holds an operator. Else `UnboundParam`
+    /// comes exactly where the body of a case uses a parameter that does not occur in the case's
+    /// patterns. `Memory` is want of memory.
+    pub fn add_program(&mut self, table: &Table, d: ProgramDecl) -> Result<usize, SigRefused>
+        requires free { IsFree self.old d.name }
+        requires live { ProgramBelow (length table.now.trees) d }
+        ensures tells { Tells result (sig.program_fault (read_program table.now.trees d)) }
+        ensures kept { OnOk result (self.new ≡ with_entry (declared.Program d) self.old) }
+        ensures adds { IfOk result (λ n. (ts : List Tree) → Adds ts self.old (sig.IsProgram (read_program ts d)) self.new) }
+        ensures number { IfOk result (λ n. (ts : List Tree) → n ≡ length (sig.programs (signature ts self.old))) }
+        ensures usable { OnOk result ((ts : List Tree) → IsUsable (signature ts self.old) → IsUsable (signature ts self.new)) }
+        ensures below { OnOk result ((m : ℕ) → IsBelow m self.old → ProgramBelow m d → IsBelow m self.new) }
+        ensures err { OnErr result (self.new ≡ self.old) }
+    {
+        if !cases_may_hold(table, d.cases.as_slice()) {
+            return Err(SigRefused::BadPattern);
+        }
+        if !cases_are_bound(table, d.cases.as_slice()) {
+            return Err(SigRefused::UnboundParam);
+        }
+        match self.keep_program(d) {
+            Ok(n) => Ok(n),
+            Err(e) => Err(SigRefused::Memory(e)),
+        }
+    }
+
+    /// Adds a rule, whose name is to be free among rules and whose terms are terms of the table,
+    /// and answers its number.
+    ///
+    /// `BadPattern` comes exactly where a pattern holds an operator, a parameter's type holds an
+    /// operator that no declared type may hold, or premises are joined by a constant that has no
+    /// terminator at the right. Else `UnboundParam` comes exactly where a requirement or the
+    /// conclusion uses a parameter that gets no value: one that occurs in no pattern, and not
+    /// outside every operator in the type of a later parameter that gets one. `Memory` is want of
+    /// memory.
+    pub fn add_rule(&mut self, table: &Table, d: RuleDecl) -> Result<usize, SigRefused>
+        requires free { IsFreeRule self.old d.name }
+        requires live { RuleBelow (length table.now.trees) d }
+        ensures tells { Tells result (sig.rule_fault (signature table.now.trees self.old) (read_rule table.now.trees d)) }
+        ensures kept { OnOk result (self.new ≡ with_entry (declared.Rule d) self.old) }
+        ensures adds { IfOk result (λ n. (ts : List Tree) → Adds ts self.old (sig.IsRule (read_rule ts d)) self.new) }
+        ensures number { IfOk result (λ n. (ts : List Tree) → n ≡ length (sig.rules (signature ts self.old))) }
+        ensures usable { OnOk result ((ts : List Tree) → sig.are_ordered 0 (map (read_parameter ts) d.params) ≡ true → IsUsable (signature ts self.old) → IsUsable (signature ts self.new)) }
+        ensures below { OnOk result ((m : ℕ) → IsBelow m self.old → RuleBelow m d → IsBelow m self.new) }
+        ensures err { OnErr result (self.new ≡ self.old) }
+    {
+        let holds = rule_is_plain(table, &d)
+            && may_type(table, d.params.as_slice())
+            && self.can_join(&d.premises);
+        if !holds {
+            return Err(SigRefused::BadPattern);
+        }
+        if !rule_is_bound(table, &d) {
+            return Err(SigRefused::UnboundParam);
+        }
+        match self.keep_rule(d) {
+            Ok(n) => Ok(n),
+            Err(e) => Err(SigRefused::Memory(e)),
+        }
+    }
+
+    /// Gives a class of literals its type, a term of the table in which parameter 0 stands for
+    /// the literal.
+    ///
+    /// `Redeclared` comes exactly where the class has a type. Else `BadPattern` comes exactly
+    /// where the type holds an operator that no declared type may hold. `Memory` is want of
+    /// memory.
+    pub fn set_literal_type(
+        &mut self,
+        table: &Table,
+        class: LiteralClass,
+        ty: Id,
+    ) -> Result<(), SigRefused>
+        requires { ty < length table.now.trees }
+        ensures tells { Tells result (sig.literal_type_fault (signature table.now.trees self.old) class (tree_at table.now.trees ty)) }
+        ensures kept { OnOk result (self.new ≡ with_entry (declared.Literal class ty) self.old) }
+        ensures adds { OnOk result ((ts : List Tree) → Adds ts self.old (sig.IsLiteralType class (tree_at ts ty)) self.new) }
+        ensures usable { OnOk result ((ts : List Tree) → IsUsable (signature ts self.old) → IsUsable (signature ts self.new)) }
+        ensures below { OnOk result ((m : ℕ) → IsBelow m self.old → ty < m → IsBelow m self.new) }
+        ensures err { OnErr result (self.new ≡ self.old) }
+    {
+        if self.literal_type(class).is_some() {
+            return Err(SigRefused::Redeclared);
+        }
+        if !may_be_type(table, ty) {
+            return Err(SigRefused::BadPattern);
+        }
+        match self.keep_literal(class, ty) {
+            Ok(()) => Ok(()),
+            Err(e) => Err(SigRefused::Memory(e)),
+        }
+    }
+
+    // Whether premises may be matched so: what joins them is a constant with a terminator at the
+    // right.
+    fn can_join(&self, premises: &PremiseShape) -> bool
+        ensures { (ts : List Tree) → result ≡ sig.can_join (signature ts self.now) (read_premises ts premises.now) }
+    {
+        match premises {
+            PremiseShape::Each(_) => true,
+            PremiseShape::Joined { with, .. } => self.has_terminator(*with),
+        }
+    }
+
+    // Whether the number is that of a constant with a terminator at the right.
+    fn has_terminator(&self, n: usize) -> bool
+        ensures { (ts : List Tree) → result ≡ not (is_none (sig.terminator (signature ts self.now) n)) }
+    {
+        n < self.constants.len() && ends_at_right(&self.constant(n).attribute)
+    }
+}

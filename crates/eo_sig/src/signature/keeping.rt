@@ -1,0 +1,88 @@
+//! One more entry in the list, and beside it in the table of its kind.
+ghost use Rattle.std.specs.Prelude.{◌≡◌, [], length, None, IfOk, OnOk, OnErr};
+ghost use Rattle.eo_sig.specs.Signature as sig;
+ghost use Rattle.eo_sig.specs.declared.records.Declared.TheVariants as declared;
+ghost use Rattle.eo_sig.specs.Reading.{signature, macros, constants_of, programs_of, rules_of, with_entry, with_macro};
+
+use super::Signature;
+use crate::{ConstDecl, Declared, LiteralClass, MacroDecl, ProgramDecl, RuleDecl};
+use eo_term::Id;
+use std::alloc::AllocError;
+
+impl Signature {
+    /// Appends a constant whose name no constant has.
+    pub(super) fn keep_constant(&mut self, d: ConstDecl) -> Result<usize, AllocError>
+        requires { sig.constant_named (signature [] self.old) d.name ≡ None }
+        ensures kept { OnOk result (self.new ≡ with_entry (declared.Const d) self.old) }
+        ensures number { IfOk result (λ n. n ≡ length (constants_of self.old)) }
+        ensures err { OnErr result (self.new ≡ self.old) }
+    {
+        let number = self.constants.len();
+        let place = self.entries.len();
+        let key = d.name.as_bytes().to_vec(self.alloc)?;
+        self.constants.reserve(1)?;
+        self.entries.push(Declared::Const(d))?;
+        self.constants.insert(key, place).unwrap();
+        Ok(number)
+    }
+
+    /// Appends a program whose name no program has.
+    pub(super) fn keep_program(&mut self, d: ProgramDecl) -> Result<usize, AllocError>
+        requires { sig.program_named (signature [] self.old) d.name ≡ None }
+        ensures kept { OnOk result (self.new ≡ with_entry (declared.Program d) self.old) }
+        ensures number { IfOk result (λ n. n ≡ length (programs_of self.old)) }
+        ensures err { OnErr result (self.new ≡ self.old) }
+    {
+        let number = self.programs.len();
+        let place = self.entries.len();
+        let key = d.name.as_bytes().to_vec(self.alloc)?;
+        self.programs.reserve(1)?;
+        self.entries.push(Declared::Program(d))?;
+        self.programs.insert(key, place).unwrap();
+        Ok(number)
+    }
+
+    /// Appends a rule whose name no rule has.
+    pub(super) fn keep_rule(&mut self, d: RuleDecl) -> Result<usize, AllocError>
+        requires { sig.rule_named (signature [] self.old) d.name ≡ None }
+        ensures kept { OnOk result (self.new ≡ with_entry (declared.Rule d) self.old) }
+        ensures number { IfOk result (λ n. n ≡ length (rules_of self.old)) }
+        ensures err { OnErr result (self.new ≡ self.old) }
+    {
+        let number = self.rules.len();
+        let place = self.entries.len();
+        let key = d.name.as_bytes().to_vec(self.alloc)?;
+        self.rules.reserve(1)?;
+        self.entries.push(Declared::Rule(d))?;
+        self.rules.insert(key, place).unwrap();
+        Ok(number)
+    }
+
+    /// Appends a macro whose name no macro has.
+    pub(super) fn keep_macro(&mut self, d: MacroDecl) -> Result<usize, AllocError>
+        requires { sig.macro_named (macros [] self.old) d.name ≡ None }
+        ensures kept { OnOk result (self.new ≡ with_macro d self.old) }
+        ensures number { IfOk result (λ n. n ≡ length self.old.macros) }
+        ensures err { OnErr result (self.new ≡ self.old) }
+    {
+        let number = self.macros.len();
+        let key = d.name.as_bytes().to_vec(self.alloc)?;
+        self.macros.insert(key, d)?;
+        Ok(number)
+    }
+
+    /// Appends the type of a class of literals that has none.
+    pub(super) fn keep_literal(&mut self, class: LiteralClass, ty: Id) -> Result<(), AllocError>
+        requires { sig.literal_type (signature [] self.old) class ≡ None }
+        ensures kept { OnOk result (self.new ≡ with_entry (declared.Literal class ty) self.old) }
+        ensures err { OnErr result (self.new ≡ self.old) }
+    {
+        self.entries.push(Declared::Literal { class, ty })?;
+        match class {
+            LiteralClass::Numeral => self.numeral = Some(ty),
+            LiteralClass::Binary => self.binary = Some(ty),
+            LiteralClass::String => self.string = Some(ty),
+        }
+        Ok(())
+    }
+}
