@@ -1,0 +1,5 @@
+pub mod Every
+pub mod Places
+pub mod Texts
+pub mod Owned
+pub mod ByWord

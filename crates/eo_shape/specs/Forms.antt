@@ -1,0 +1,16 @@
+-- The shape by which each of the program's forms of commands goes.
+use Rattle.std.specs.Prelude.{List, Option}
+use Rattle.eo_sexp.specs.Sexp.{Sexp}
+use Rattle.eo_shape.specs.declared.shaping.Form.{Form}
+use Rattle.eo_shape.specs.declared.shaping.Form.TheVariants as form
+use Rattle.eo_shape.specs.Shapes as shapes
+
+abbrev pub shape_by : Form → List Sexp → Option shapes.Command
+shape_by form.DeclareConst = shapes.declare_const
+shape_by form.DeclareFun = shapes.declare_fun
+shape_by form.DeclareSort = shapes.declare_sort
+shape_by form.DeclareParameterized = shapes.declare_parameterized
+shape_by form.DeclareLiterals = shapes.declare_literals
+shape_by form.Define = shapes.define
+shape_by form.Assume = shapes.named_formula shapes.Assume
+shape_by form.Assert = shapes.assert

@@ -1,0 +1,40 @@
+-- The parts of a command as the program has them, which borrow, and those of the definitions for which they stand.
+use Rattle.std.specs.Prelude.{map}
+use Rattle.eo_base.specs.declared.FaultName.{FaultName}
+use Rattle.eo_base.specs.declared.FaultName.TheVariants as fault
+use Rattle.eo_sexp.specs.Owned.{owned}
+use Rattle.eo_shape.specs.declared.ParameterShape as code_parameter
+use Rattle.eo_shape.specs.declared.AttributeShape as code_attribute
+use Rattle.eo_shape.specs.declared.AttributeShape.TheVariants as attribute
+use Rattle.eo_shape.specs.declared.Command as code_command
+use Rattle.eo_shape.specs.declared.Command.TheVariants as command
+use Rattle.eo_shape.specs.declared.ShapeRefused.{ShapeRefused}
+use Rattle.eo_shape.specs.declared.ShapeRefused.TheVariants as refused
+use Rattle.eo_shape.specs.Shapes.{ParameterShape, AttributeShape, NoAttribute, RightNilShape, LeftNilShape, RightShape, LeftShape, ChainShape, PairsShape, BinderShape, Command, DeclareConst, DeclareFun, DeclareSort, DeclareParameterized, DeclareLiterals, Define, Assume, Assert}
+
+abbrev pub read_parameter : code_parameter.ParameterShape → ParameterShape
+read_parameter p = record { name = p.name.now; type = owned p.ty.now; implicit = p.implicit; list = p.list }
+
+abbrev pub read_attribute : code_attribute.AttributeShape → AttributeShape
+read_attribute attribute.None = NoAttribute
+read_attribute (attribute.RightNil n) = RightNilShape (owned n.now)
+read_attribute (attribute.LeftNil n) = LeftNilShape (owned n.now)
+read_attribute attribute.Right = RightShape
+read_attribute attribute.Left = LeftShape
+read_attribute (attribute.Chain g) = ChainShape (owned g.now)
+read_attribute (attribute.Pairs g) = PairsShape (owned g.now)
+read_attribute (attribute.Binder b) = BinderShape (owned b.now)
+
+abbrev pub read_command : code_command.Command → Command
+read_command (command.DeclareConst name ty a) = DeclareConst name.now (owned ty.now) (read_attribute a)
+read_command (command.DeclareFun name inputs output) = DeclareFun name.now (map owned inputs.now) (owned output.now)
+read_command (command.DeclareSort name arity) = DeclareSort name.now arity
+read_command (command.DeclareParameterized name params ty a) = DeclareParameterized name.now params (owned ty.now) (read_attribute a)
+read_command (command.DeclareLiterals class ty) = DeclareLiterals class (owned ty.now)
+read_command (command.Define name params body) = Define name.now params (owned body.now)
+read_command (command.Assume name formula) = Assume name.now (owned formula.now)
+read_command (command.Assert formula) = Assert (owned formula.now)
+
+abbrev pub fault_of : ShapeRefused → FaultName
+fault_of refused.UnknownCommand = fault.UnknownCommand
+fault_of refused.BadCommand = fault.BadCommand

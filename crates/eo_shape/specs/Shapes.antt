@@ -1,0 +1,168 @@
+-- The shape of each command. A command is a list that begins with a symbol, the word of the command.
+use Rattle.std.specs.Prelude.{ℕ, Bool, true, false, not, ◌&&◌, nat_le, if◌then◌else◌, List, [], ◌∷◌, Option, Some, None, option_map, option_and_then, bytes_eq, codes, Err}
+use Rattle.eo_base.specs.declared.FaultName.TheVariants.{UnknownCommand, BadCommand}
+use Rattle.eo_base.specs.Checks.{Checked, ◌>>=◌, value_or}
+use Rattle.eo_sexp.specs.declared.Kind.TheVariants as kind
+use Rattle.eo_sexp.specs.Sexp.{Sexp, Atom, Listed, Next, children_of}
+use Rattle.eo_sig.specs.declared.LiteralClass.{LiteralClass}
+use Rattle.eo_sig.specs.declared.LiteralClass.TheVariants.{Numeral, Binary, String}
+use Rattle.eo_shape.specs.Words.{symbol_of, keyword_of, numeral_of, is_some_word}
+
+-- ---- parts
+
+-- (x T), with `:implicit` and `:list` behind it
+pub record ParameterShape : Type 0 where
+  pub name : List ℕ
+  pub type : Sexp
+  pub implicit : Bool
+  pub list : Bool
+
+pub data AttributeShape : Type 0 where
+  NoAttribute : AttributeShape
+  RightNilShape : (terminator : Sexp) → AttributeShape
+  LeftNilShape : (terminator : Sexp) → AttributeShape
+  RightShape : AttributeShape
+  LeftShape : AttributeShape
+  ChainShape : (joiner : Sexp) → AttributeShape
+  PairsShape : (joiner : Sexp) → AttributeShape
+  BinderShape : (collector : Sexp) → AttributeShape
+
+pub data Command : Type 0 where
+  DeclareConst : (name : List ℕ) (type : Sexp) (attribute : AttributeShape) → Command
+  DeclareFun : (name : List ℕ) (inputs : List Sexp) (output : Sexp) → Command
+  DeclareSort : (name : List ℕ) (arity : ℕ) → Command
+  DeclareParameterized : (name : List ℕ) (parameters : List ParameterShape) (type : Sexp) (attribute : AttributeShape) → Command
+  DeclareLiterals : (class : LiteralClass) (type : Sexp) → Command
+  Define : (name : List ℕ) (parameters : List ParameterShape) (body : Sexp) → Command
+  Assume : (name : List ℕ) (formula : Sexp) → Command
+  -- in reference files alone
+  Assert : (formula : Sexp) → Command
+
+-- ---- lists of parts
+
+-- the parts of each, where each has the shape
+abbrev pub every : {A B : Type 0} → (A → Option B) → List A → Option (List B)
+every f [] = Some []
+every f (x ∷ xs) = option_and_then (λ y. option_map (λ ys. y ∷ ys) (every f xs)) (f x)
+
+abbrev pub list_of : Sexp → Option (List Sexp)
+list_of (Listed inside span) = Some (children_of inside)
+list_of s = None
+
+abbrev pub list_of_each : {B : Type 0} → (Sexp → Option B) → Sexp → Option (List B)
+list_of_each f s = option_and_then (every f) (list_of s)
+
+abbrev pub is_keyword : List ℕ → Sexp → Bool
+is_keyword word s = is_some_word word (keyword_of s)
+
+-- ---- parameters and attributes
+
+-- each mark at most once
+abbrev pub with_marks : ParameterShape → List Sexp → Option ParameterShape
+with_marks p [] = Some p
+with_marks p (s ∷ rest) =
+    if is_keyword (codes ":implicit") s && not p.implicit then with_marks (record p { implicit = true }) rest
+    else if is_keyword (codes ":list") s && not p.list then with_marks (record p { list = true }) rest
+    else None
+
+abbrev pub parameter_of : List Sexp → Option ParameterShape
+parameter_of (x ∷ t ∷ marks) = option_and_then (λ name. with_marks (record { name = name; type = t; implicit = false; list = false }) marks) (symbol_of x)
+parameter_of ss = None
+
+abbrev pub parameters_of : Sexp → Option (List ParameterShape)
+parameters_of s = list_of_each (λ p. option_and_then parameter_of (list_of p)) s
+
+abbrev pub marked_attribute : Sexp → Option AttributeShape
+marked_attribute k =
+    if is_keyword (codes ":right-assoc") k then Some RightShape
+    else if is_keyword (codes ":left-assoc") k then Some LeftShape
+    else None
+
+abbrev pub valued_attribute : Sexp → Sexp → Option AttributeShape
+valued_attribute k v =
+    if is_keyword (codes ":right-assoc-nil") k then Some (RightNilShape v)
+    else if is_keyword (codes ":left-assoc-nil") k then Some (LeftNilShape v)
+    else if is_keyword (codes ":chainable") k then Some (ChainShape v)
+    else if is_keyword (codes ":pairwise") k then Some (PairsShape v)
+    else if is_keyword (codes ":binder") k then Some (BinderShape v)
+    else None
+
+abbrev pub attribute_of : List Sexp → Option AttributeShape
+attribute_of [] = Some NoAttribute
+attribute_of (k ∷ []) = marked_attribute k
+attribute_of (k ∷ v ∷ []) = valued_attribute k v
+attribute_of ss = None
+
+-- ---- one command each, by what follows its word
+
+abbrev pub declare_const : List Sexp → Option Command
+declare_const (s ∷ t ∷ rest) = option_and_then (λ name. option_map (DeclareConst name t) (attribute_of rest)) (symbol_of s)
+declare_const ss = None
+
+abbrev pub declare_fun : List Sexp → Option Command
+declare_fun (s ∷ inputs ∷ output ∷ []) = option_and_then (λ name. option_map (λ ts. DeclareFun name ts output) (list_of inputs)) (symbol_of s)
+declare_fun ss = None
+
+abbrev pub arity_of : Sexp → Option ℕ
+arity_of s = option_and_then (λ n. if nat_le n 64 then Some n else None) (numeral_of s)
+
+abbrev pub declare_sort : List Sexp → Option Command
+declare_sort (s ∷ n ∷ []) = option_and_then (λ name. option_map (DeclareSort name) (arity_of n)) (symbol_of s)
+declare_sort ss = None
+
+abbrev pub declare_parameterized : List Sexp → Option Command
+declare_parameterized (s ∷ ps ∷ t ∷ rest) =
+    option_and_then (λ name. option_and_then (λ parameters. option_map (DeclareParameterized name parameters t) (attribute_of rest)) (parameters_of ps)) (symbol_of s)
+declare_parameterized ss = None
+
+abbrev pub class_named : List ℕ → Option LiteralClass
+class_named word =
+    if bytes_eq word (codes "<numeral>") then Some Numeral
+    else if bytes_eq word (codes "<binary>") then Some Binary
+    else if bytes_eq word (codes "<string>") then Some String
+    else None
+
+abbrev pub declare_literals : List Sexp → Option Command
+declare_literals (c ∷ t ∷ []) = option_map (λ class. DeclareLiterals class t) (option_and_then class_named (symbol_of c))
+declare_literals ss = None
+
+abbrev pub define : List Sexp → Option Command
+define (s ∷ ps ∷ body ∷ []) = option_and_then (λ name. option_map (λ parameters. Define name parameters body) (parameters_of ps)) (symbol_of s)
+define ss = None
+
+abbrev pub named_formula : (List ℕ → Sexp → Command) → List Sexp → Option Command
+named_formula command (s ∷ t ∷ []) = option_map (λ name. command name t) (symbol_of s)
+named_formula command ss = None
+
+abbrev pub assert : List Sexp → Option Command
+assert (t ∷ []) = Some (Assert t)
+assert ss = None
+
+-- ---- the words of commands
+
+abbrev pub Form : Type 0
+Form = List ℕ × (List Sexp → Option Command)
+
+-- in signatures and proofs (Ethos manual, full syntax of the commands)
+abbrev pub forms : List Form
+forms =
+    (codes "declare-const", declare_const) ∷ (codes "declare-fun", declare_fun) ∷ (codes "declare-sort", declare_sort)
+    ∷ (codes "declare-parameterized-const", declare_parameterized) ∷ (codes "declare-consts", declare_literals)
+    ∷ (codes "define", define) ∷ (codes "assume", named_formula Assume) ∷ []
+
+-- in reference files (SMT-LIB 2.6, section 4.2 "Commands")
+abbrev pub reference_forms : List Form
+reference_forms = (codes "assert", assert) ∷ []
+
+abbrev pub form_of : List Form → List ℕ → Option (List Sexp → Option Command)
+form_of [] word = None
+form_of (f ∷ fs) word = if bytes_eq f.0 word then Some f.1 else form_of fs word
+
+abbrev pub shaped_by : List Form → List ℕ → List Sexp → Checked Command
+shaped_by fs word parts = value_or UnknownCommand (form_of fs word) >>= λ shape. value_or BadCommand (shape parts)
+
+-- The command that an s-expression is, or what is wrong with its shape.
+unfoldable pub command_of : (in_reference : Bool) → Sexp → Checked Command
+command_of in_reference (Listed (Next (Atom kind.Symbol word at) parts) span) =
+    shaped_by (if in_reference then reference_forms else forms) word (children_of parts)
+command_of in_reference s = Err BadCommand

@@ -1,0 +1,109 @@
+//! The shape of each command: an s-expression as a command by its parts, which borrow from it.
+#![tactic(auto)]
+
+mod attributes;
+mod commands;
+mod parameters;
+mod shaping;
+mod words;
+
+use eo_sexp::OwnedSexp;
+use eo_sig::LiteralClass;
+pub use parameters::ParameterShapes;
+pub use shaping::command_of;
+pub use words::symbol;
+
+/// A parameter: a name and a type, with at most one of each mark.
+#[derive(Clone, Copy, Debug)]
+pub struct ParameterShape<'a> {
+    /// The name.
+    pub name: &'a [u8],
+    /// The type.
+    pub ty: &'a OwnedSexp,
+    /// Whether it is marked `:implicit`.
+    pub implicit: bool,
+    /// Whether it is marked `:list`.
+    pub list: bool,
+}
+
+/// How a constant folds its arguments (Ethos manual, attributes of constants).
+#[derive(Clone, Copy, Debug)]
+pub enum AttributeShape<'a> {
+    /// Nothing is said.
+    None,
+    /// `:right-assoc-nil` with its terminator.
+    RightNil(&'a OwnedSexp),
+    /// `:left-assoc-nil` with its terminator.
+    LeftNil(&'a OwnedSexp),
+    /// `:right-assoc`
+    Right,
+    /// `:left-assoc`
+    Left,
+    /// `:chainable` with what joins.
+    Chain(&'a OwnedSexp),
+    /// `:pairwise` with what joins.
+    Pairs(&'a OwnedSexp),
+    /// `:binder` with what collects the variables.
+    Binder(&'a OwnedSexp),
+}
+
+/// A command by its parts.
+#[derive(Debug, Drop)]
+pub enum Command<'a> {
+    /// `(declare-const NAME TYPE ATTRIBUTE)`
+    DeclareConst {
+        name: &'a [u8],
+        ty: &'a OwnedSexp,
+        attribute: AttributeShape<'a>,
+    },
+    /// `(declare-fun NAME (INPUT ..) OUTPUT)`
+    DeclareFun {
+        name: &'a [u8],
+        inputs: &'a [OwnedSexp],
+        output: &'a OwnedSexp,
+    },
+    /// `(declare-sort NAME ARITY)`, with an arity of at most 64.
+    DeclareSort {
+        name: &'a [u8],
+        arity: u8,
+    },
+    /// `(declare-parameterized-const NAME (PARAMETER ..) TYPE ATTRIBUTE)`
+    DeclareParameterized {
+        name: &'a [u8],
+        params: ParameterShapes<'a>,
+        ty: &'a OwnedSexp,
+        attribute: AttributeShape<'a>,
+    },
+    /// `(declare-consts CLASS TYPE)`
+    DeclareLiterals {
+        class: LiteralClass,
+        ty: &'a OwnedSexp,
+    },
+    /// `(define NAME (PARAMETER ..) BODY)`
+    Define {
+        name: &'a [u8],
+        params: ParameterShapes<'a>,
+        body: &'a OwnedSexp,
+    },
+    /// `(assume NAME FORMULA)`
+    Assume {
+        name: &'a [u8],
+        formula: &'a OwnedSexp,
+    },
+    /// `(assert FORMULA)`, in a reference file alone.
+    Assert {
+        formula: &'a OwnedSexp,
+    },
+}
+
+/// Why an s-expression is no command.
+#[derive(Clone, Copy, Debug, PartialEq, Eq)]
+pub enum ShapeRefused {
+    /// Its word is no command's word where it stands.
+    UnknownCommand,
+    /// It is no list that begins with a symbol, or its parts have a wrong shape.
+    BadCommand,
+}
+
+#[cfg(test)]
+mod tests;

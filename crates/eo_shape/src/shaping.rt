@@ -1,0 +1,117 @@
+//! The command that an s-expression is.
+ghost use Rattle.std.specs.Prelude.{◌≡◌, Ok, Err, IfOk, IfErr, map, option_map, if◌then◌else◌};
+ghost use Rattle.eo_sexp.specs.Owned.{owned};
+ghost use Rattle.eo_shape.specs.Forms.{shape_by};
+ghost use Rattle.eo_shape.specs.Reading.{read_command, fault_of};
+ghost use Rattle.eo_shape.specs.Shapes.{command_of, form_of, forms, reference_forms};
+
+use crate::commands::{
+    assert, assume, declare_const, declare_fun, declare_literals, declare_parameterized,
+    declare_sort, define,
+};
+use crate::words::symbol;
+use crate::{Command, ShapeRefused};
+use eo_sexp::OwnedSexp;
+
+/// The commands, by their words.
+#[derive(Clone, Copy)]
+pub(crate) enum Form {
+    DeclareConst,
+    DeclareFun,
+    DeclareSort,
+    DeclareParameterized,
+    DeclareLiterals,
+    Define,
+    Assume,
+    Assert,
+}
+
+/// The command that the s-expression is, in a reference file, or else in a signature or a proof
+/// (Ethos manual, full syntax of the commands; SMT-LIB 2.6, section 4.2 "Commands").
+///
+/// It is `BadCommand` where the s-expression is no list that begins with a symbol. Else it is
+/// `UnknownCommand` where the symbol is no command's word there. Else it is `BadCommand` where what
+/// follows the word has a wrong shape.
+pub fn command_of(s: &OwnedSexp, in_reference: bool) -> Result<Command<'_>, ShapeRefused>
+    ensures shape { IfOk result (λ c. command_of in_reference (owned s.now) ≡ Ok (read_command c)) }
+    ensures refused { IfErr result (λ e. command_of in_reference (owned s.now) ≡ Err (fault_of e)) }
+{
+    let Some((head, parts)) = s.children().split_first() else {
+        return Err(ShapeRefused::BadCommand);
+    };
+    let Some(word) = symbol(head) else {
+        return Err(ShapeRefused::BadCommand);
+    };
+    let Some(form) = form_named(word, in_reference) else {
+        return Err(ShapeRefused::UnknownCommand);
+    };
+    match shaped(form, parts) {
+        Some(command) => Ok(command),
+        None => Err(ShapeRefused::BadCommand),
+    }
+}
+
+/// The command of this word.
+fn form_named(word: &[u8], in_reference: bool) -> Option<Form>
+    ensures { option_map shape_by result ≡ form_of (if in_reference then reference_forms else forms) word.now }
+{
+    if in_reference {
+        reference_form(word)
+    } else {
+        proof_form(word)
+    }
+}
+
+/// The command of this word in a reference file.
+fn reference_form(word: &[u8]) -> Option<Form>
+    ensures { option_map shape_by result ≡ form_of reference_forms word.now }
+{
+    if word == b"assert".as_slice() {
+        return Some(Form::Assert);
+    }
+    None
+}
+
+/// The command of this word in a signature or a proof.
+fn proof_form(word: &[u8]) -> Option<Form>
+    ensures { option_map shape_by result ≡ form_of forms word.now }
+{
+    if word == b"declare-const".as_slice() {
+        return Some(Form::DeclareConst);
+    }
+    if word == b"declare-fun".as_slice() {
+        return Some(Form::DeclareFun);
+    }
+    if word == b"declare-sort".as_slice() {
+        return Some(Form::DeclareSort);
+    }
+    if word == b"declare-parameterized-const".as_slice() {
+        return Some(Form::DeclareParameterized);
+    }
+    if word == b"declare-consts".as_slice() {
+        return Some(Form::DeclareLiterals);
+    }
+    if word == b"define".as_slice() {
+        return Some(Form::Define);
+    }
+    if word == b"assume".as_slice() {
+        return Some(Form::Assume);
+    }
+    None
+}
+
+/// The command of this form with these parts, where they have its shape.
+fn shaped(form: Form, parts: &[OwnedSexp]) -> Option<Command<'_>>
+    ensures { option_map read_command result ≡ shape_by form (map owned parts.now) }
+{
+    match form {
+        Form::DeclareConst => declare_const(parts),
+        Form::DeclareFun => declare_fun(parts),
+        Form::DeclareSort => declare_sort(parts),
+        Form::DeclareParameterized => declare_parameterized(parts),
+        Form::DeclareLiterals => declare_literals(parts),
+        Form::Define => define(parts),
+        Form::Assume => assume(parts),
+        Form::Assert => assert(parts),
+    }
+}

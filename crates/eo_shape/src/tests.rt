@@ -1,0 +1,217 @@
+//! Shapes of commands, by hand.
+use crate::{AttributeShape, Command, ParameterShapes, ShapeRefused, command_of};
+use eo_sexp::{Collector, Fed, OwnedSexp};
+use std::alloc::Global;
+use std::fmt::Write;
+use std::process::Abort;
+use std::test::Fail;
+
+// The s-expression of a text that is one list.
+fn sexp(rt: &impl Abort, alloc: Global, text: &str) -> Result<OwnedSexp, Fail> {
+    let mut collector = Collector::new(alloc, false)?;
+    let here = collector.here();
+    assert!(rt; here.offset < 1000 && text.len() < 1000);
+    match collector.feed(text.as_bytes()) {
+        Fed::Command { .. } => Ok(collector.take()),
+        _ => panic!(rt; "no list"),
+    }
+}
+
+fn write_bytes(out: &mut String, bytes: &[u8]) -> Result<(), Fail> {
+    for b in bytes {
+        out.push(*b as char)?;
+    }
+    out.push(' ')?;
+    Ok(())
+}
+
+fn write_attribute(out: &mut String, attribute: &AttributeShape<'_>) -> Result<(), Fail> {
+    let (word, value) = match attribute {
+        AttributeShape::None => ("none ", None),
+        AttributeShape::RightNil(s) => ("right-nil ", Some(s)),
+        AttributeShape::LeftNil(s) => ("left-nil ", Some(s)),
+        AttributeShape::Right => ("right ", None),
+        AttributeShape::Left => ("left ", None),
+        AttributeShape::Chain(s) => ("chain ", Some(s)),
+        AttributeShape::Pairs(s) => ("pairs ", Some(s)),
+        AttributeShape::Binder(s) => ("binder ", Some(s)),
+    };
+    out.push_str(word)?;
+    match value {
+        Some(s) => write_bytes(out, s.text()),
+        None => Ok(()),
+    }
+}
+
+fn write_parameters(out: &mut String, params: &ParameterShapes<'_>) -> Result<(), Fail> {
+    for i in 0..params.len() {
+        let p = params.get(i);
+        write_bytes(out, p.name)?;
+        write_bytes(out, p.ty.text())?;
+        if p.implicit {
+            out.push_str("implicit ")?;
+        }
+        if p.list {
+            out.push_str("list ")?;
+        }
+    }
+    Ok(())
+}
+
+// The parts of a command in order, with the bytes of each atom.
+fn write_command(out: &mut String, command: Command<'_>) -> Result<(), Fail> {
+    match command {
+        Command::DeclareConst {
+            name,
+            ty,
+            attribute,
+        } => {
+            write_bytes(out, name)?;
+            write_bytes(out, ty.text())?;
+            write_attribute(out, &attribute)
+        }
+        Command::DeclareFun {
+            name,
+            inputs,
+            output,
+        } => {
+            write_bytes(out, name)?;
+            for input in inputs {
+                write_bytes(out, input.text())?;
+            }
+            write_bytes(out, output.text())
+        }
+        Command::DeclareSort { name, arity } => {
+            write_bytes(out, name)?;
+            Ok(write!(out, "{arity} ")?)
+        }
+        Command::DeclareParameterized {
+            name,
+            params,
+            ty,
+            attribute,
+        } => {
+            write_bytes(out, name)?;
+            write_parameters(out, &params)?;
+            write_bytes(out, ty.text())?;
+            write_attribute(out, &attribute)
+        }
+        Command::DeclareLiterals { class, ty } => {
+            write!(out, "{class:?} ")?;
+            write_bytes(out, ty.text())
+        }
+        Command::Define { name, params, body } => {
+            write_bytes(out, name)?;
+            write_parameters(out, &params)?;
+            write_bytes(out, body.text())
+        }
+        Command::Assume { name, formula } => {
+            write_bytes(out, name)?;
+            write_bytes(out, formula.text())
+        }
+        Command::Assert { formula } => write_bytes(out, formula.text()),
+    }
+}
+
+#[test]
+fn shapes(rt: HostRuntime) -> Result<(), Fail> {
+    for (text, in_reference, want) in [
+        ("(declare-const c T)", false, "c T none "),
+        ("(declare-const |c d| T :left-assoc)", false, "c d T left "),
+        ("(declare-const c T :right-assoc)", false, "c T right "),
+        (
+            "(declare-const c T :right-assoc-nil n)",
+            false,
+            "c T right-nil n ",
+        ),
+        (
+            "(declare-const c T :left-assoc-nil n)",
+            false,
+            "c T left-nil n ",
+        ),
+        (
+            "(declare-const c T :chainable and)",
+            false,
+            "c T chain and ",
+        ),
+        ("(declare-const c T :pairwise and)", false, "c T pairs and "),
+        ("(declare-const c T :binder @l)", false, "c T binder @l "),
+        ("(declare-fun f (A B) C)", false, "f A B C "),
+        ("(declare-fun f () C)", false, "f C "),
+        ("(declare-sort S 64)", false, "S 64 "),
+        (
+            "(declare-parameterized-const c ((x A :implicit) (y B :list :implicit) (z C)) T)",
+            false,
+            "c x A implicit y B implicit list z C T none ",
+        ),
+        ("(declare-consts <numeral> Int)", false, "Numeral Int "),
+        ("(declare-consts <binary> B)", false, "Binary B "),
+        ("(declare-consts <string> S)", false, "String S "),
+        ("(define m ((x T :list)) x)", false, "m x T list x "),
+        ("(assume a f)", false, "a f "),
+        ("(assert f)", true, "f "),
+    ] {
+        let s = sexp(&rt, rt.alloc(), text)?;
+        let mut out = String::new(rt.alloc());
+        match command_of(&s, in_reference) {
+            Ok(command) => write_command(&mut out, command)?,
+            Err(_) => out.push_str("refused")?,
+        }
+        assert_eq!(rt; out.as_str(), want, "at {text}");
+    }
+    Ok(())
+}
+
+#[test]
+fn wrong_shapes(rt: HostRuntime) -> Result<(), Fail> {
+    for (text, in_reference, want) in [
+        ("()", false, ShapeRefused::BadCommand),
+        ("((assume) a f)", false, ShapeRefused::BadCommand),
+        ("(\"assume\" a f)", false, ShapeRefused::BadCommand),
+        ("(assumed a f)", false, ShapeRefused::UnknownCommand),
+        ("(assume a f)", true, ShapeRefused::UnknownCommand),
+        ("(assert f)", false, ShapeRefused::UnknownCommand),
+        ("(assert)", true, ShapeRefused::BadCommand),
+        ("(assume a)", false, ShapeRefused::BadCommand),
+        ("(assume (a) f)", false, ShapeRefused::BadCommand),
+        ("(declare-const c)", false, ShapeRefused::BadCommand),
+        (
+            "(declare-const c T :chainable)",
+            false,
+            ShapeRefused::BadCommand,
+        ),
+        (
+            "(declare-const c T :left-assoc n)",
+            false,
+            ShapeRefused::BadCommand,
+        ),
+        (
+            "(declare-const c T left-assoc)",
+            false,
+            ShapeRefused::BadCommand,
+        ),
+        ("(declare-fun f A C)", false, ShapeRefused::BadCommand),
+        ("(declare-sort S 65)", false, ShapeRefused::BadCommand),
+        ("(declare-sort S 01)", false, ShapeRefused::BadCommand),
+        ("(declare-sort S -1)", false, ShapeRefused::BadCommand),
+        (
+            "(declare-consts <decimal> R)",
+            false,
+            ShapeRefused::BadCommand,
+        ),
+        (
+            "(define m ((x T :list :list)) x)",
+            false,
+            ShapeRefused::BadCommand,
+        ),
+        ("(define m ((x)) x)", false, ShapeRefused::BadCommand),
+        ("(define m (x) x)", false, ShapeRefused::BadCommand),
+    ] {
+        let s = sexp(&rt, rt.alloc(), text)?;
+        match command_of(&s, in_reference) {
+            Ok(_) => panic!(rt; "a command at {text}"),
+            Err(e) => assert_eq!(rt; e, want, "at {text}"),
+        }
+    }
+    Ok(())
+}
