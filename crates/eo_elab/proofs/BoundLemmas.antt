@@ -1,0 +1,104 @@
+-- Parameters that are read one after another.
+use Rattle.std.proofs.Common.{◌≡◌, ℕ, zero, suc, drop, Option, Some, ◌<◌, ◌≤◌, Bool, true, false, not, ◌||◌, List, [], ◌∷◌, ◌++◌, map, length, All, refl, sym, ap, ◌∙◌, arith}
+use Rattle.std.specs.Prelude.{Ok, Err, bytes_eq, slice_get}
+use Rattle.std.proofs.lemmas.Option.{none-some, same_Some}
+use Rattle.std.specs.List.{list_any}
+use Rattle.std.proofs.lemmas.List.{map-append, length-map}
+use Rattle.std.proofs.lemmas.List.Elements.{All-head, All-tail, All-weaker, All-append}
+use Rattle.eo_base.specs.declared.FaultName.{FaultName}
+use Rattle.eo_base.specs.declared.FaultName.TheVariants.{Redeclared}
+use Rattle.eo_base.specs.Checks.{Checked, ◌>>=◌, require}
+use Rattle.eo_sexp.specs.Sexp.{Sexp}
+use Rattle.eo_sig.specs.declared.records.Param.{Param}
+use Rattle.eo_sig.specs.Reading.{read_parameter, Kept, IsBelow, signature, macros}
+use Rattle.eo_sig.proofs.Same.{stays_grown}
+use Rattle.eo_sig.specs.Signature.{Parameter}
+use Rattle.eo_shape.specs.Shapes.{ParameterShape}
+use Rattle.eo_term.specs.Terms.{Terms, tree_at, Grows}
+use Rattle.eo_term.specs.Tree.{Tree, Par}
+use Rattle.eo_elab.specs.declared.locals.LocalName.{LocalName}
+use Rattle.eo_elab.specs.declared.parameters.Bound as code
+use Rattle.eo_elab.specs.Declarations.{Bound, bind, unbound, is_bound, with_parameter}
+use Rattle.eo_elab.specs.Declaring.{read_bound}
+use Rattle.eo_elab.specs.Meaning.{Context, Local, meaning}
+use Rattle.eo_elab.specs.Names.{local, read_locals, AreBelow}
+use Rattle.eo_elab.specs.Walk.{context, IsReady, Keeps}
+use Rattle.eo_elab.proofs.FoldLemmas.{locals_grown, names_more}
+
+-- ---- one parameter
+
+module _ (c : Context) (b : Bound) (p : ParameterShape) (ps : List ParameterShape) where
+  abbrev taken : Tree → Bound
+  taken t = with_parameter b (record { name = p.name; type = t; implicit = p.implicit; list = p.list })
+
+  abbrev step : Bool → Checked Tree → Checked Bound
+  step has m = require (not has) Redeclared >>= λ _. m >>= λ t. bind c (taken t) ps
+
+  pub bind-known : is_bound b p.name ≡ true → bind c b (p ∷ ps) ≡ Err Redeclared
+  unfolding ◌>>=◌ require
+  bind-known e = ap (λ has. step has (meaning c b.locals p.type)) e
+
+  pub bind-refused : (fault : FaultName) → is_bound b p.name ≡ false → meaning c b.locals p.type ≡ Err fault → bind c b (p ∷ ps) ≡ Err fault
+  unfolding ◌>>=◌ require
+  bind-refused fault e m = ap (λ has. step has (meaning c b.locals p.type)) e ∙ ap (step false) m
+
+  pub bind-taken : (t : Tree) (new : Bound) → is_bound b p.name ≡ false → meaning c b.locals p.type ≡ Ok t → new ≡ taken t → bind c b (p ∷ ps) ≡ bind c new ps
+  unfolding ◌>>=◌ require
+  bind-taken t new e m n = ap (λ has. step has (meaning c b.locals p.type)) e ∙ ap (step false) m ∙ ap (λ z. bind c z ps) (sym n)
+
+-- the names of parameters do not rest on the terms
+pub bound-names : (ts : List Tree) (name : List ℕ) (ps : List Param) → list_any (λ p. bytes_eq p.name name) (map (read_parameter ts) ps) ≡ list_any (λ p. bytes_eq p.name name) ps
+bound-names ts name [] = refl
+bound-names ts name (p ∷ ps) = ap (λ rest. bytes_eq p.name name || rest) (bound-names ts name ps)
+
+-- ---- in a table that has grown
+
+pub parameters-grown : (n : ℕ) (ts us : List Tree) (ps : List Param) → ((i : ℕ) → i < n → tree_at us i ≡ tree_at ts i) → All (λ (p : Param). p.ty < n) ps → map (read_parameter us) ps ≡ map (read_parameter ts) ps
+parameters-grown n ts us [] same h = refl
+parameters-grown n ts us (p ∷ ps) same h =
+    let own = same p.ty (All-head (λ (x : Param). x.ty < n) p ps h) in
+    let rest = parameters-grown n ts us ps same (All-tail (λ (x : Param). x.ty < n) p ps h) in
+    λ k. record { name = p.name; type = own k; implicit = p.implicit; list = p.list } ∷ rest k
+
+pub parameters-more : (n m : ℕ) (ps : List Param) → n ≤ m → All (λ (p : Param). p.ty < n) ps → All (λ (p : Param). p.ty < m) ps
+parameters-more n m ps l h = All-weaker (λ (x : Param). x.ty < n) (λ (x : Param). x.ty < m) (λ x q. omega arith) ps h
+
+-- all names stand for what they stood for
+pub keeps-grown : (k : Kept) (ls : List LocalName) (old new : Terms) → IsReady (length old.trees) k ls → Grows old new → Keeps k ls old.trees new.trees
+keeps-grown k ls old new ready g =
+    let stays = stays_grown k old new ready.below g in
+    record {
+      context = λ i. record { signature = stays.signature i; macros = stays.macros i; setting = (context old.trees k).setting };
+      names = locals_grown ls old.trees new.trees (length old.trees) ready.names g.tree;
+      ready = record { below = stays.below; names = names_more ls (length old.trees) (length new.trees) g.more_trees ready.names };
+    }
+
+pub bound-grown : (b : code.Bound) (old new : Terms) → All (λ (p : Param). p.ty < length old.trees) b.params → AreBelow (length old.trees) b.locals → Grows old new → read_bound new.trees b ≡ read_bound old.trees b
+bound-grown b old new below names g =
+    let ps = parameters-grown (length old.trees) old.trees new.trees b.params g.tree below in
+    let ls = locals_grown b.locals old.trees new.trees (length old.trees) names g.tree in
+    λ i. record { parameters = ps i; locals = ls i }
+
+-- with a parameter more, whose name stands for the parameter of the next number
+pub bound-more : (b : code.Bound) (ts : List Tree) (p : Param) (id : ℕ) (t : Tree) → tree_at ts p.ty ≡ t → tree_at ts id ≡ Par (length b.params)
+    → read_bound ts (record { params = b.params ++ p ∷ []; locals = local p.name id p.list ∷ b.locals }) ≡ with_parameter (read_bound ts b) (record { name = p.name; type = t; implicit = p.implicit; list = p.list })
+bound-more b ts p id t e n =
+    let ps = map-append (read_parameter ts) b.params (p ∷ []) in
+    let number = n ∙ ap Par (sym (length-map b.params (read_parameter ts))) in
+    λ i. record {
+      parameters = (ps ∙ (λ j. map (read_parameter ts) b.params ++ record { name = p.name; type = e j; implicit = p.implicit; list = p.list } ∷ [])) i;
+      locals = record { name = p.name; tree = number i; list = p.list } ∷ read_locals ts b.locals;
+    }
+
+-- ---- all parameters
+
+pub drop-at : {X : Type 0} (xs : List X) (i : ℕ) (x : X) → slice_get xs i ≡ Some x → drop i xs ≡ x ∷ drop (suc i) xs
+drop-at [] i x e = absurd (none-some x e)
+drop-at (y ∷ ys) zero x e = ap (λ z. z ∷ ys) (same_Some y x e)
+drop-at (y ∷ ys) (suc i) x e = drop-at ys i x e
+
+-- one parameter more was read, over a table that had grown
+pub bind-next : (k : Kept) (old now : Terms) (shapes : List ParameterShape) (i : ℕ) (p : ParameterShape) (b : Bound) (r : Checked Bound) → IsReady (length old.trees) k [] → Grows old now → slice_get shapes i ≡ Some p
+    → bind (context old.trees k) b (drop i shapes) ≡ bind (context old.trees k) unbound shapes → bind (context now.trees k) b (p ∷ drop (suc i) shapes) ≡ r → bind (context old.trees k) unbound shapes ≡ r
+bind-next k old now shapes i p b r ready g e before next =
+    sym before ∙ ap (bind (context old.trees k) b) (drop-at shapes i p e) ∙ ap (λ c. bind c b (p ∷ drop (suc i) shapes)) (sym (keeps-grown k [] old now ready g).context) ∙ next

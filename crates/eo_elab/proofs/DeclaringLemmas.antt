@@ -1,0 +1,128 @@
+-- What a command declares, by its parts.
+use Rattle.std.proofs.Common.{◌≡◌, ℕ, ◌<◌, ◌≤◌, Bool, true, false, List, [], ◌∷◌, ◌++◌, map, length, refl, ap, sym, ◌∙◌, nat_le, cond, rules, tests}
+use Rattle.std.specs.Prelude.{Ok, Err}
+use Rattle.eo_base.specs.declared.FaultName.{FaultName}
+use Rattle.eo_base.specs.declared.FaultName.TheVariants.{Redeclared, Parameters, TermHeight}
+use Rattle.eo_base.specs.Checks.{Checked, ◌>>=◌, require}
+use Rattle.eo_base.specs.Limits.{parameters_limit, height_limit}
+use Rattle.eo_sexp.specs.Sexp.{Sexp}
+use Rattle.eo_shape.specs.Shapes.{ParameterShape, AttributeShape}
+use Rattle.eo_sig.specs.Signature.{Attribute, Plain, Constant, Macro}
+use Rattle.eo_term.specs.Refused.{IsTall}
+use Rattle.eo_term.specs.Tree.{Tree, Arr, height, is_tall}
+use Rattle.eo_term.specs.declared.table.TermRefused.{TermRefused}
+use Rattle.eo_term.specs.declared.table.TermRefused.TheVariants as refused
+use Rattle.eo_elab.specs.Refused.{is_memory, fault_of, of_term}
+use Rattle.eo_elab.specs.Declarations.{Bound, bind, unbound, is_free_name, is_free_or_reference, not_tall, meanings, attribute, constant, macro, plain_constant, function_type, bound_type, declared_const, declared_fun, declared_parameterized, defined}
+use Rattle.eo_elab.specs.Declaring.{typed, typed_over, type_of_function}
+use Rattle.eo_elab.specs.Meaning.{Context, Local, arrow, meaning}
+use Rattle.eo_elab.proofs.CheckedLemmas.{then-ok, then-err, require-yes, require-no}
+
+pub low : (t : Tree) → is_tall t ≡ false → not_tall t ≡ Ok t
+low t e = ap (λ b. cond b (Err TermHeight) (Ok t)) e
+
+pub high : (t : Tree) → is_tall t ≡ true → not_tall t ≡ Err TermHeight
+high t e = ap (λ b. cond b (Err TermHeight) (Ok t)) e
+
+pub low-height : (t : Tree) → height t ≤ height_limit → is_tall t ≡ false
+low-height t h = search (rules, tests)
+
+-- the type of a function, by its inputs and then its output
+pub arrow-onto : (c : Context) (ts : List Tree) (t : Tree) → arrow (ts ++ t ∷ []) ≡ function_type c ts t
+arrow-onto c [] t = refl
+arrow-onto c (a ∷ []) t = refl
+arrow-onto c (a ∷ b ∷ ts) t = ap (Arr a) (arrow-onto c (b ∷ ts) t)
+
+-- the fault of a term that was not made, which is its height where it is not want of memory
+pub term-fault : {A : Type 0} (e : TermRefused) (spec : Checked A) → (IsTall {X = ℕ} (Err e) → spec ≡ Err TermHeight) → is_memory (of_term e) ≡ false → spec ≡ Err (fault_of (of_term e))
+term-fault refused.Tall spec f h = f tt
+term-fault (refused.Memory m) spec f h = absurd cc
+
+abbrev pub both : Tree → Attribute → Checked (Tree × Attribute)
+both t a = Ok (t, a)
+
+module _ (c : Context) (name : List ℕ) where
+  module _ (type : Sexp) (shape : AttributeShape) where
+    const-typed : (m : Checked Tree) (n : Checked Attribute) → (m >>= λ t. n >>= λ a. plain_constant c name t a) ≡ ((m >>= λ t. n >>= λ a. both t a) >>= λ r. plain_constant c name r.0 r.1)
+    unfolding ◌>>=◌
+    const-typed (Ok t) (Ok a) = refl
+    const-typed (Ok t) (Err fault) = refl
+    const-typed (Err fault) n = refl
+
+    const-parts : is_free_or_reference c name ≡ true → declared_const c name type shape ≡ (typed c [] type shape >>= λ r. plain_constant c name r.0 r.1)
+    unfolding declared_const
+    const-parts e = require-yes (is_free_or_reference c name) Redeclared _ e ∙ const-typed (meaning c [] type) (attribute c [] shape)
+
+    pub const-link : (r : Tree × Attribute) → is_free_or_reference c name ≡ true → typed c [] type shape ≡ Ok r → declared_const c name type shape ≡ plain_constant c name r.0 r.1
+    const-link r e h = const-parts e ∙ then-ok (λ r. plain_constant c name r.0 r.1) _ _ h
+
+    pub const-fault : (fault : FaultName) → is_free_or_reference c name ≡ true → typed c [] type shape ≡ Err fault → declared_const c name type shape ≡ Err fault
+    const-fault fault e h = const-parts e ∙ then-err (λ r. plain_constant c name r.0 r.1) _ _ h
+
+    -- over parameters
+    over-typed : (b : Bound) (m : Checked Tree) (n : Checked Attribute) → (m >>= λ t. not_tall (bound_type c 0 b.parameters t) >>= λ w. n >>= λ a. Ok (constant c name b.parameters w a)) ≡ ((m >>= λ t. not_tall (bound_type c 0 b.parameters t) >>= λ w. n >>= λ a. both w a) >>= λ r. Ok (constant c name b.parameters r.0 r.1))
+    unfolding ◌>>=◌
+    over-typed b (Err fault) n = refl
+    over-typed b (Ok t) n = by (not_tall (bound_type c 0 b.parameters t)) n
+      where
+        by : (w : Checked Tree) (n : Checked Attribute) → (w >>= λ w. n >>= λ a. Ok (constant c name b.parameters w a)) ≡ ((w >>= λ w. n >>= λ a. both w a) >>= λ r. Ok (constant c name b.parameters r.0 r.1))
+        by (Err fault) n = refl
+        by (Ok w) (Err fault) = refl
+        by (Ok w) (Ok a) = refl
+
+  module _ (inputs : List Sexp) (output : Sexp) where
+    fun-typed : (m : Checked (List Tree)) (n : Checked Tree) → (m >>= λ ts. n >>= λ t. not_tall (function_type c ts t) >>= λ w. plain_constant c name w Plain) ≡ ((m >>= λ ts. n >>= λ t. not_tall (function_type c ts t)) >>= λ w. plain_constant c name w Plain)
+    unfolding ◌>>=◌
+    fun-typed (Ok ts) (Ok t) = refl
+    fun-typed (Ok ts) (Err fault) = refl
+    fun-typed (Err fault) n = refl
+
+    fun-parts : is_free_or_reference c name ≡ true → declared_fun c name inputs output ≡ (type_of_function c inputs output >>= λ w. plain_constant c name w Plain)
+    unfolding declared_fun
+    fun-parts e = require-yes (is_free_or_reference c name) Redeclared _ e ∙ fun-typed (meanings c [] inputs) (meaning c [] output)
+
+    pub fun-link : (t : Tree) → is_free_or_reference c name ≡ true → type_of_function c inputs output ≡ Ok t → declared_fun c name inputs output ≡ plain_constant c name t Plain
+    fun-link t e h = fun-parts e ∙ then-ok (λ w. plain_constant c name w Plain) _ _ h
+
+    pub fun-fault : (fault : FaultName) → is_free_or_reference c name ≡ true → type_of_function c inputs output ≡ Err fault → declared_fun c name inputs output ≡ Err fault
+    fun-fault fault e h = fun-parts e ∙ then-err (λ w. plain_constant c name w Plain) _ _ h
+
+-- ---- with parameters
+
+pub few-yes : (n : ℕ) → n ≤ parameters_limit → nat_le n parameters_limit ≡ true
+few-yes n h = search (rules, tests)
+
+pub few-no : (n : ℕ) → parameters_limit < n → nat_le n parameters_limit ≡ false
+few-no n h = search (rules, tests)
+
+module _ (c : Context) (name : List ℕ) (shapes : List ParameterShape) where
+  module _ (body : Sexp) where
+    abbrev pub body_read : Bound → Checked Macro
+    body_read b = meaning c b.locals body >>= λ t. Ok (macro c name b.parameters t)
+
+    pub defined-many : is_free_or_reference c name ≡ true → parameters_limit < length shapes → defined c name shapes body ≡ Err Parameters
+    unfolding defined
+    defined-many e h = require-yes _ Redeclared _ e ∙ require-no _ Parameters _ (few-no (length shapes) h)
+
+    pub defined-parts : is_free_or_reference c name ≡ true → length shapes ≤ parameters_limit → defined c name shapes body ≡ (bind c unbound shapes >>= body_read)
+    unfolding defined
+    defined-parts e h = require-yes _ Redeclared _ e ∙ require-yes _ Parameters _ (few-yes (length shapes) h)
+
+  module _ (type : Sexp) (shape : AttributeShape) where
+    abbrev pub type_read : Bound → Checked Constant
+    type_read b =
+        meaning c b.locals type >>= λ t. not_tall (bound_type c 0 b.parameters t) >>= λ w. attribute c b.locals shape >>= λ a. Ok (constant c name b.parameters w a)
+
+    pub parameterized-many : is_free_name c name ≡ true → parameters_limit < length shapes → declared_parameterized c name shapes type shape ≡ Err Parameters
+    unfolding declared_parameterized
+    parameterized-many e h = require-yes _ Redeclared _ e ∙ require-no _ Parameters _ (few-no (length shapes) h)
+
+    parameterized-parts : is_free_name c name ≡ true → length shapes ≤ parameters_limit → declared_parameterized c name shapes type shape ≡ (bind c unbound shapes >>= type_read)
+    unfolding declared_parameterized
+    parameterized-parts e h = require-yes _ Redeclared _ e ∙ require-yes _ Parameters _ (few-yes (length shapes) h)
+
+    pub parameterized-unbound : (fault : FaultName) → is_free_name c name ≡ true → length shapes ≤ parameters_limit → bind c unbound shapes ≡ Err fault → declared_parameterized c name shapes type shape ≡ Err fault
+    parameterized-unbound fault e h n = parameterized-parts e h ∙ then-err type_read (bind c unbound shapes) fault n
+
+    pub parameterized-over : (b : Bound) → is_free_name c name ≡ true → length shapes ≤ parameters_limit → bind c unbound shapes ≡ Ok b → declared_parameterized c name shapes type shape ≡ (typed_over c b type shape >>= λ r. Ok (constant c name b.parameters r.0 r.1))
+    parameterized-over b e h n = parameterized-parts e h ∙ then-ok type_read (bind c unbound shapes) b n ∙ over-typed c name type shape b (meaning c b.locals type) (attribute c b.locals shape)

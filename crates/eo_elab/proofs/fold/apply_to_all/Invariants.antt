@@ -1,0 +1,12 @@
+use Rattle.std.proofs.Common.{◌≡◌, ◌<◌, length, map, drop}
+use Rattle.eo_term.specs.Terms.{Terms, tree_at, Grows}
+use Rattle.eo_elab.specs.Folding.{applied}
+use Rattle.eo_elab.proofs.fold.apply_to_all.Given as goal
+
+abbrev pub invariant-loop-a : goal.invariant-loop-a
+invariant-loop-a l = record {
+  live : l.made < length l.table.trees;
+  grows : Grows l.fn.table l.table;
+  grown : (t : Terms) → Grows t l.fn.table → Grows t l.table;
+  tree : applied (tree_at l.table.trees l.made) (map (tree_at l.fn.table.trees) (drop l.a-index l.args)) ≡ applied (tree_at l.fn.table.trees l.fn.f) (map (tree_at l.fn.table.trees) l.args);
+}

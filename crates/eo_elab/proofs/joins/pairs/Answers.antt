@@ -1,0 +1,54 @@
+use Rattle.std.proofs.Common.{◌+◌, ◌-◌, ◌<◌, List, ◌++◌, length, map, drop, ap, sym, append_assoc, ◌∙◌, arith}
+use Rattle.std.specs.List.{list_any}
+use Rattle.std.proofs.lemmas.Result.{err_from_is_err_and}
+use Rattle.std.proofs.lemmas.List.Elements.{All-take, All-drop, All-weaker}
+use Rattle.eo_term.specs.Tree.{Tree, is_tall}
+use Rattle.eo_term.specs.Terms.{tree_at}
+use Rattle.eo_elab.specs.Folding.{applied_to_two, all_pairs}
+use Rattle.eo_elab.proofs.FoldLemmas.{all_at}
+use Rattle.eo_elab.proofs.JoinLemmas.{pairs_grown, pairs_at, pairs_tall}
+use Rattle.eo_elab.proofs.joins.pairs.Goals as goal
+
+pub returns-in_err-add_pairs-clause-tall : goal.returns-in_err-add_pairs-clause-tall
+returns-in_err-add_pairs-clause-tall c =
+    let e = err_from_is_err_and c.from_residual-in_err-add_pairs.result c.from_residual-in_err-add_pairs.ensures.1 in
+    rw (e.1, e.2) (λ h.
+    let ts = c.args.table.now.trees in
+    let v = c.loop-i.invariant in
+    let i = c.loop-i.i in
+    let args = c.args.args.now in
+    let a = c.index-args-i.result in
+    let f : Tree = tree_at ts c.args.f in
+    let now = c.loop-i.table.trees in
+    let live : a < length ts = all_at (λ j. j < length ts) args i a c.requires.args (omega arith) c.index-args-i.is in
+    pairs_tall f ts args i a (map (tree_at now) c.loop-i.made) (omega arith) c.index-args-i.is v.trees
+    (ap (list_any is_tall) (sym (pairs_grown (length ts) ts now v.grows.tree c.args.f a args (i + 1) c.requires.f live c.requires.args)) ∙ c.in_err-add_pairs.ensures.tall h))
+
+pub loop-i-preserved : goal.loop-i-preserved
+loop-i-preserved c =
+    let ts = c.args.table.now.trees in
+    let v = c.loop-i.invariant in
+    let i = c.loop-i.i in
+    let args = c.args.args.now in
+    let a = c.index-args-i.result in
+    let f : Tree = tree_at ts c.args.f in
+    let now = c.loop-i.table.trees in
+    let live : a < length ts = all_at (λ j. j < length ts) args i a c.requires.args (omega arith) c.index-args-i.is in
+    let made = map (tree_at now) c.loop-i.made in
+    let rest : List Tree = all_pairs f (drop (i + 1) (map (tree_at ts) args)) in
+    let new : List Tree = map (applied_to_two f (tree_at ts a)) (map (tree_at ts) (drop (i + 1) args)) in
+    record {
+      live = c.in_ok-add_pairs.ensures.live;
+      grows = c.add_pairs.ensures.grown c.args.table.now v.grows;
+      grown = λ s h. c.add_pairs.ensures.grown s (v.grown s h);
+      trees = ap (λ us. us ++ rest) (c.in_ok-add_pairs.ensures.trees ∙ ap (λ us. made ++ us) (pairs_grown (length ts) ts now v.grows.tree c.args.f a args (i + 1) c.requires.f live c.requires.args))
+          ∙ append_assoc made new rest ∙ (λ k. made ++ sym (pairs_at f ts args i a (omega arith) c.index-args-i.is) k) ∙ v.trees;
+    }
+
+pub add_pairs-requires-clause-others : goal.add_pairs-requires-clause-others
+add_pairs-requires-clause-others c =
+    let n = length c.args.table.now.trees in
+    let m = length c.loop-i.table.trees in
+    let args = c.args.args.now in
+    let k = c.loop-i.i + 1 in
+    All-take (λ j. j < m) (length args - k) (drop k args) (All-drop (λ j. j < m) k args (All-weaker (λ j. j < n) (λ j. j < m) (λ j q. omega (arith, q, c.loop-i.invariant.grows.more_trees)) args c.requires.args))

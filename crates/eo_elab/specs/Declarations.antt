@@ -1,0 +1,182 @@
+-- What a declaring command declares, or its first fault. The checks of a whole declaration (patterns, unbound parameters) and of types follow when it is added.
+use Rattle.std.specs.Prelude.{ℕ, zero, suc, Bool, false, not, ◌||◌, nat_le, if◌then◌else◌, List, [], ◌∷◌, ◌++◌, length, Option, Some, None, is_none, slice_get, bytes_eq, codes, Ok, Err}
+use Rattle.std.specs.List.{list_any}
+use Rattle.std.specs.Option.{option_map_or}
+use Rattle.eo_base.specs.declared.FaultName.TheVariants.{Redeclared, UnknownSymbol, TermHeight, Parameters}
+use Rattle.eo_base.specs.Checks.{Checked, ◌>>=◌, require, no_fault, Passed}
+use Rattle.eo_base.specs.Limits.{parameters_limit}
+use Rattle.eo_sexp.specs.Sexp.{Sexp}
+use Rattle.eo_sig.specs.declared.LiteralClass.{LiteralClass}
+use Rattle.eo_sig.specs.Signature.{Parameter, Attribute, Plain, RightNil, LeftNil, Right, Left, Chain, Pairs, Binder, Constant, Macro, Program, Rule, Named, NamesConstant, NamesMacro, NamesProgram, lookup, constant_at, is_free, literal_type, constant_fault}
+use Rattle.eo_term.specs.Tree.{Tree, Con, Par, Arr, Qar, type_tree, is_tall}
+use Rattle.eo_elab.specs.Meaning.{Context, Local, is_reference, meaning}
+use Rattle.eo_shape.specs.Shapes.{ParameterShape, AttributeShape, NoAttribute, RightNilShape, LeftNilShape, RightShape, LeftShape, ChainShape, PairsShape, BinderShape, Command, DeclareConst, DeclareFun, DeclareSort, DeclareParameterized, DeclareLiterals, Define}
+
+pub data Declaration : Type 0 where
+  AConstant : (constant : Constant) → Declaration
+  ALiteralType : (class : LiteralClass) (type : Tree) → Declaration
+  AMacro : (macro : Macro) → Declaration
+  AProgram : (program : Program) → Declaration
+  ARule : (rule : Rule) → Declaration
+
+-- the meanings of terms in order
+unfoldable pub meanings : Context → List Local → List Sexp → Checked (List Tree)
+meanings c locals [] = Ok []
+meanings c locals (s ∷ ss) = meaning c locals s >>= λ t. meanings c locals ss >>= λ ts. Ok (t ∷ ts)
+
+-- ---- names
+
+module _ (c : Context) where
+  abbrev pub is_free_name : List ℕ → Bool
+  is_free_name name = is_free c.signature c.macros name
+
+  abbrev pub is_named_by_reference : Option Named → Bool
+  is_named_by_reference None = false
+  is_named_by_reference (Some (NamesConstant k)) = option_map_or (λ d. d.from_reference) (constant_at c.signature k) false
+  is_named_by_reference (Some (NamesMacro m)) = option_map_or (λ d. d.from_reference) (slice_get c.macros m) false
+  is_named_by_reference (Some (NamesProgram p)) = false
+
+  -- a name that the reference file declared
+  abbrev pub is_reference_name : List ℕ → Bool
+  is_reference_name name = is_named_by_reference (lookup c.signature c.macros name)
+
+  -- a name that may be declared, or one of the reference file, which is compared at the end
+  abbrev pub is_free_or_reference : List ℕ → Bool
+  is_free_or_reference name = is_free_name name || is_reference_name name
+
+-- ---- parts
+
+abbrev pub not_tall : Tree → Checked Tree
+not_tall t = if is_tall t then Err TermHeight else Ok t
+
+-- parameters that were read, and their names as locals
+pub record Bound : Type 0 where
+  pub parameters : List Parameter
+  pub locals : List Local
+
+abbrev pub unbound : Bound
+unbound = record { parameters = []; locals = [] }
+
+abbrev pub is_bound : Bound → List ℕ → Bool
+is_bound b name = list_any (λ p. bytes_eq p.name name) b.parameters
+
+-- one parameter more; its number is its place
+abbrev pub with_parameter : Bound → Parameter → Bound
+with_parameter b p = record {
+  parameters = b.parameters ++ p ∷ [];
+  locals = record { name = p.name; tree = Par (length b.parameters); list = p.list } ∷ b.locals;
+}
+
+abbrev pub few : ℕ → Checked Passed
+few n = require (nat_le n parameters_limit) Parameters
+
+module _ (c : Context) where
+  -- A parameter's type may use earlier parameters.
+  abbrev pub bind : Bound → List ParameterShape → Checked Bound
+  bind b [] = Ok b
+  bind b (p ∷ ps) =
+      require (not (is_bound b p.name)) Redeclared >>= λ _. meaning c b.locals p.type >>= λ t.
+      bind (with_parameter b (record { name = p.name; type = t; implicit = p.implicit; list = p.list })) ps
+
+  -- the number of a constant, where a term means one
+  abbrev pub constant_number : Tree → Checked ℕ
+  constant_number (Con k) = Ok k
+  constant_number t = Err UnknownSymbol
+
+  abbrev pub constant_meant : List Local → Sexp → Checked ℕ
+  constant_meant locals s = meaning c locals s >>= constant_number
+
+  abbrev pub attribute : List Local → AttributeShape → Checked Attribute
+  attribute locals NoAttribute = Ok Plain
+  attribute locals (RightNilShape n) = meaning c locals n >>= λ t. Ok (RightNil t)
+  attribute locals (LeftNilShape n) = meaning c locals n >>= λ t. Ok (LeftNil t)
+  attribute locals RightShape = Ok Right
+  attribute locals LeftShape = Ok Left
+  attribute locals (ChainShape g) = constant_meant locals g >>= λ k. Ok (Chain k)
+  attribute locals (PairsShape g) = constant_meant locals g >>= λ k. Ok (Pairs k)
+  attribute locals (BinderShape b) = constant_meant locals b >>= λ k. Ok (Binder k)
+
+  -- ---- constants
+
+  abbrev pub constant : List ℕ → List Parameter → Tree → Attribute → Constant
+  constant name parameters type a =
+      record { name = name; parameters = parameters; type = type; attribute = a; from_reference = is_reference c.setting }
+
+  -- a constant whose terminator is a value and whose type holds what it may
+  abbrev pub plain_constant : List ℕ → Tree → Attribute → Checked Constant
+  plain_constant name type a = let d = constant name [] type a in no_fault (constant_fault d) >>= λ _. Ok d
+
+  -- (declare-const S T attr)
+  unfoldable pub declared_const : List ℕ → Sexp → AttributeShape → Checked Constant
+  declared_const name type shape =
+      require (is_free_or_reference c name) Redeclared >>= λ _. meaning c [] type >>= λ t.
+      attribute [] shape >>= λ a. plain_constant name t a
+
+  abbrev pub function_type : List Tree → Tree → Tree
+  function_type [] output = output
+  function_type (t ∷ ts) output = Arr t (function_type ts output)
+
+  -- (declare-fun S (T ..) T)
+  unfoldable pub declared_fun : List ℕ → List Sexp → Sexp → Checked Constant
+  declared_fun name inputs output =
+      require (is_free_or_reference c name) Redeclared >>= λ _. meanings c [] inputs >>= λ ts. meaning c [] output >>= λ t.
+      not_tall (function_type ts t) >>= λ type. plain_constant name type Plain
+
+  abbrev pub sort_type : ℕ → Tree
+  sort_type zero = type_tree
+  sort_type (suc n) = Arr type_tree (sort_type n)
+
+  -- (declare-sort S n)
+  unfoldable pub declared_sort : List ℕ → ℕ → Checked Constant
+  declared_sort name arity = require (is_free_or_reference c name) Redeclared >>= λ _. plain_constant name (sort_type arity) Plain
+
+  -- a Qar for each explicit parameter in order, the first of which has number i
+  abbrev pub bound_type : ℕ → List Parameter → Tree → Tree
+  bound_type i [] t = t
+  bound_type i (p ∷ ps) t = if p.implicit then bound_type (suc i) ps t else Qar i p.type (bound_type (suc i) ps t)
+
+  -- (declare-parameterized-const S (p ..) T attr)
+  unfoldable pub declared_parameterized : List ℕ → List ParameterShape → Sexp → AttributeShape → Checked Constant
+  declared_parameterized name shapes type shape =
+      require (is_free_name c name) Redeclared >>= λ _. few (length shapes) >>= λ _. bind unbound shapes >>= λ b.
+      meaning c b.locals type >>= λ t. not_tall (bound_type 0 b.parameters t) >>= λ whole.
+      attribute b.locals shape >>= λ a. Ok (constant name b.parameters whole a)
+
+  -- ---- types of literals
+
+  abbrev pub self : List Local
+  self = record { name = codes "eo::self"; tree = Par 0; list = false } ∷ []
+
+  -- (declare-consts C T)
+  unfoldable pub declared_literals : LiteralClass → Sexp → Checked Tree
+  declared_literals class type = require (is_none (literal_type c.signature class)) Redeclared >>= λ _. meaning c self type
+
+  -- ---- macros
+
+  abbrev pub macro : List ℕ → List Parameter → Tree → Macro
+  macro name parameters tree =
+      record { name = name; parameters = parameters; tree = tree; from_reference = is_reference c.setting }
+
+  -- (define S (p ..) t)
+  unfoldable pub defined : List ℕ → List ParameterShape → Sexp → Checked Macro
+  defined name shapes body =
+      require (is_free_or_reference c name) Redeclared >>= λ _. few (length shapes) >>= λ _. bind unbound shapes >>= λ b.
+      meaning c b.locals body >>= λ t. Ok (macro name b.parameters t)
+
+-- ---- each declaring command
+
+abbrev pub as_constant : Constant → Checked Declaration
+as_constant d = Ok (AConstant d)
+
+abbrev pub as_macro : Macro → Checked Declaration
+as_macro m = Ok (AMacro m)
+
+-- What a declaring command declares. Other commands declare nothing.
+unfoldable pub declaration : Context → Command → Option (Checked Declaration)
+declaration c (DeclareConst name type shape) = Some (declared_const c name type shape >>= as_constant)
+declaration c (DeclareFun name inputs output) = Some (declared_fun c name inputs output >>= as_constant)
+declaration c (DeclareSort name arity) = Some (declared_sort c name arity >>= as_constant)
+declaration c (DeclareParameterized name shapes type shape) = Some (declared_parameterized c name shapes type shape >>= as_constant)
+declaration c (DeclareLiterals class type) = Some (declared_literals c class type >>= λ t. Ok (ALiteralType class t))
+declaration c (Define name shapes body) = Some (defined c name shapes body >>= as_macro)
+declaration c command = None

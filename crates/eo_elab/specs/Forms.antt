@@ -1,0 +1,75 @@
+-- What a list is by its head, over the terms of a table.
+use Rattle.std.specs.Prelude.{ℕ, Bool, List, ◌++◌, map, Option, Some, None, if◌then◌else◌}
+use Rattle.eo_sexp.specs.Sexp.{Sexp, Atom, Listed, Sexps, NoSexp, Next}
+use Rattle.eo_term.specs.Tree.{Tree}
+use Rattle.eo_sig.specs.Signature.{Signature, Attribute, Plain, RightNil, LeftNil, Right, Left, Chain, Pairs, Binder}
+use Rattle.eo_elab.specs.declared.usage.Use.{Use}
+use Rattle.eo_elab.specs.declared.usage.Use.TheVariants as use_
+use Rattle.eo_elab.specs.declared.plan.Form.{Form}
+use Rattle.eo_elab.specs.declared.plan.Form.TheVariants as form
+use Rattle.eo_elab.specs.Folding.{folded}
+use Rattle.eo_elab.specs.Meaning.{Context, Local, Reader, ◌>>=◌, give, read, built, Parts, tree_application, begins_with_pairs, means, means_all, in_let, in_binder, annotated}
+use Rattle.eo_elab.specs.Usage.{made_of, UseBelow, Suits}
+
+-- the readings of a head and its arguments
+abbrev pub parts_of : Context → List Local → Sexp → Sexps → Parts
+parts_of c locals h args = record {
+  head = means c locals h;
+  arguments = means_all c locals args;
+  in_let = in_let c locals args;
+  in_binder = in_binder c locals args;
+  annotated = annotated c locals args;
+}
+
+-- the arguments that are used so
+abbrev pub arguments_for : Parts → Use → Reader (List Tree)
+arguments_for parts (use_.Plainly f) = parts.arguments
+arguments_for parts use_.Underscore = parts.arguments
+arguments_for parts use_.Arrow = parts.arguments
+arguments_for parts (use_.Fold k) = parts.arguments
+arguments_for parts (use_.Bind binder collector) = parts.in_binder collector
+arguments_for parts (use_.Macro tree) = parts.arguments
+arguments_for parts (use_.Operator code) = parts.arguments
+
+-- the arguments are read, and then used
+abbrev pub arguments_used : List Tree → Context → List Local → Parts → Use → Reader Tree
+arguments_used ts c locals parts u = arguments_for parts u >>= made_of ts c locals u
+
+-- the head is read, and then what it is tells of the arguments
+abbrev pub headed : Context → List Local → Sexps → Parts → Reader Tree
+headed c locals args parts = parts.head >>= tree_application c locals args parts
+
+abbrev pub formed : List Tree → Context → List Local → Sexps → Parts → Form → Reader Tree
+formed ts c locals args parts form.Let = parts.in_let
+formed ts c locals args parts form.Head = headed c locals args parts
+formed ts c locals args parts (form.Arguments u) = arguments_used ts c locals parts u
+
+-- its terms are below n, and it may be had with so many arguments
+abbrev pub FormFits : (n count : ℕ) → Form → Type 0
+FormFits n count form.Let = Unit {0}
+FormFits n count form.Head = Unit {0}
+FormFits n count (form.Arguments u) = UseBelow n u × Suits u count
+
+-- the name of a pair, and what stands beside it
+abbrev pub pair_of : Sexp → Option (List ℕ × Sexp)
+pair_of (Listed (Next (Atom k name at) (Next t NoSexp)) span) = Some (name, t)
+pair_of s = None
+
+-- the constant that makes the list of the variables, where a constant with this attribute binds some
+abbrev pub collector_of : Attribute → Sexps → Option ℕ
+collector_of Plain args = None
+collector_of (RightNil nil) args = None
+collector_of (LeftNil nil) args = None
+collector_of Right args = None
+collector_of Left args = None
+collector_of (Chain g) args = None
+collector_of (Pairs g) args = None
+collector_of (Binder collector) args = if begins_with_pairs args then Some collector else None
+
+-- the trees that are read, behind those that are given
+abbrev pub all_after : List Tree → Reader (List Tree) → Reader (List Tree)
+all_after before m = m >>= λ ts. give (before ++ ts)
+
+-- the list of these variables, which another constant makes
+abbrev pub list_of : Signature → (Tree → Bool) → ℕ → List (List ℕ × Tree) → Reader Tree
+list_of S is_list collector vs = read (folded S is_list collector (map (λ v. v.1) vs)) >>= built

@@ -1,0 +1,131 @@
+//! The meaning of an atom.
+ghost use Rattle.std.specs.Prelude.{◌≡◌, ℕ, ◌<◌, Ok, Err, length, false, IfOk, IfErr, option_map};
+ghost use Rattle.eo_base.specs.Checks.{value_or};
+ghost use Rattle.eo_base.specs.declared.FaultName.TheVariants.{BadLiteral};
+ghost use Rattle.eo_lit.specs.Literals.{literal_value, string_value};
+ghost use Rattle.eo_term.specs.Tree.{Str};
+ghost use Rattle.eo_term.specs.Terms.{Terms, tree_at, Grows};
+ghost use Rattle.eo_elab.specs.Meaning.{atom, tree_alone, literal_tree};
+ghost use Rattle.eo_sexp.specs.declared.Kind.TheVariants as kinds;
+ghost use Rattle.eo_elab.specs.Symbols.{read_meant, IsLive};
+ghost use Rattle.eo_elab.specs.Names.{read_locals};
+ghost use Rattle.eo_elab.specs.Refused.{is_memory, fault_of};
+ghost use Rattle.eo_elab.specs.Scopes.{bound_in};
+ghost use Rattle.eo_elab.specs.Walk.{context, IsReady};
+
+use crate::ElabRefused;
+use crate::leaves::{constant, leaf};
+use crate::scope::Scope;
+use crate::symbols::{Meant, Word, name_meant, word_of};
+use eo_lit::{LitRead, StringRefused, read_literal, read_string};
+use eo_sexp::Kind;
+use eo_sig::Signature;
+use eo_term::{Id, Node, Table};
+use std::alloc::Global;
+
+/// The meaning of an atom: a literal or a string is its value, and a symbol is the term that its
+/// name stands for.
+///
+/// `BadLiteral`: a literal or a string without an accepted value. `BadArity`: a program, a macro
+/// with parameters, an operator, or one of `_`, `->` and `let`. `UnknownSymbol`: any other symbol
+/// that stands for nothing, and a keyword.
+#[tactic(auto, unfolding(crate::specs::Meaning::atom))]
+pub(crate) fn atom(
+    alloc: Global,
+    kind: Kind,
+    text: &[u8],
+    scope: &Scope<'_>,
+    sig: &Signature,
+    table: &mut Table,
+) -> Result<Id, ElabRefused>
+    requires { IsReady (length table.old.trees) sig.now (bound_in scope.now) }
+    ensures live { IfOk result (λ i. i < length table.new.trees) }
+    ensures tree { IfOk result (λ i. atom (context table.old.trees sig.now) (read_locals table.old.trees (bound_in scope.now)) kind text.now ≡ Ok (tree_at table.new.trees i)) }
+    ensures fault { IfErr result (λ e. is_memory e ≡ false → atom (context table.old.trees sig.now) (read_locals table.old.trees (bound_in scope.now)) kind text.now ≡ Err (fault_of e)) }
+    ensures grows { Grows table.old table.new }
+    ensures grown { (t : Terms) → Grows t table.old → Grows t table.new }
+{
+    match kind {
+        Kind::Symbol => symbol(text, scope, sig, table),
+        Kind::Literal => literal(text, table),
+        Kind::String => string(alloc, text, table),
+        Kind::Keyword => Err(ElabRefused::UnknownSymbol),
+        Kind::List => Err(ElabRefused::UnknownSymbol),
+    }
+}
+
+// A symbol alone.
+#[tactic(auto, unfolding(crate::specs::Meaning::atom))]
+fn symbol(
+    name: &[u8],
+    scope: &Scope<'_>,
+    sig: &Signature,
+    table: &mut Table,
+) -> Result<Id, ElabRefused>
+    requires { IsReady (length table.old.trees) sig.now (bound_in scope.now) }
+    ensures live { IfOk result (λ i. i < length table.new.trees) }
+    ensures tree { IfOk result (λ i. atom (context table.old.trees sig.now) (read_locals table.old.trees (bound_in scope.now)) kinds.Symbol name.now ≡ Ok (tree_at table.new.trees i)) }
+    ensures fault { IfErr result (λ e. is_memory e ≡ false → atom (context table.old.trees sig.now) (read_locals table.old.trees (bound_in scope.now)) kinds.Symbol name.now ≡ Err (fault_of e)) }
+    ensures grows { Grows table.old table.new }
+    ensures grown { (t : Terms) → Grows t table.old → Grows t table.new }
+{
+    match word_of(name) {
+        Word::Name => term_of(sig, name_meant(name, scope, sig), table),
+        Word::Underscore => Err(ElabRefused::BadArity),
+        Word::Arrow => Err(ElabRefused::BadArity),
+        Word::Let => Err(ElabRefused::BadArity),
+    }
+}
+
+// What stands for a term by itself.
+fn term_of(sig: &Signature, meant: Meant, table: &mut Table) -> Result<Id, ElabRefused>
+    requires { IsLive (length table.old.trees) sig.now meant }
+    ensures live { IfOk result (λ i. i < length table.new.trees) }
+    ensures tree { IfOk result (λ i. tree_alone (read_meant table.old.trees sig.now meant) ≡ Ok (tree_at table.new.trees i)) }
+    ensures fault { IfErr result (λ e. is_memory e ≡ false → tree_alone (read_meant table.old.trees sig.now meant) ≡ Err (fault_of e)) }
+    ensures grows { Grows table.old table.new }
+    ensures grown { (t : Terms) → Grows t table.old → Grows t table.new }
+{
+    match meant {
+        Meant::Term(id) => Ok(id),
+        Meant::Constant(k) => Ok(constant(table, k)?),
+        Meant::Macro(_) => Err(ElabRefused::BadArity),
+        Meant::Operator(_, _) => Err(ElabRefused::BadArity),
+        Meant::Nothing => Err(ElabRefused::UnknownSymbol),
+    }
+}
+
+// The value of a literal word.
+#[tactic(auto, unfolding(eo_base::specs::Checks::value_or))]
+fn literal(word: &[u8], table: &mut Table) -> Result<Id, ElabRefused>
+    ensures live { IfOk result (λ i. i < length table.new.trees) }
+    ensures tree { IfOk result (λ i. value_or BadLiteral (option_map literal_tree (literal_value word.now)) ≡ Ok (tree_at table.new.trees i)) }
+    ensures fault { IfErr result (λ e. is_memory e ≡ false → value_or BadLiteral (option_map literal_tree (literal_value word.now)) ≡ Err (fault_of e)) }
+    ensures grows { Grows table.old table.new }
+    ensures grown { (t : Terms) → Grows t table.old → Grows t table.new }
+{
+    let node = match read_literal(word) {
+        Ok(LitRead::Num(value)) => Node::Num(value),
+        Ok(LitRead::Bits { width, value }) => Node::Bits { width, value },
+        Err(_) => return Err(ElabRefused::BadLiteral),
+    };
+    Ok(leaf(table, node)?)
+}
+
+// The value of a string literal, from the bytes between its quotes.
+#[tactic(auto, unfolding(eo_base::specs::Checks::value_or))]
+fn string(alloc: Global, body: &[u8], table: &mut Table) -> Result<Id, ElabRefused>
+    ensures live { IfOk result (λ i. i < length table.new.trees) }
+    ensures tree { IfOk result (λ i. value_or BadLiteral (option_map Str (string_value body.now)) ≡ Ok (tree_at table.new.trees i)) }
+    ensures fault { IfErr result (λ e. is_memory e ≡ false → value_or BadLiteral (option_map Str (string_value body.now)) ≡ Err (fault_of e)) }
+    ensures grows { Grows table.old table.new }
+    ensures grown { (t : Terms) → Grows t table.old → Grows t table.new }
+{
+    let characters = match read_string(alloc, body) {
+        Ok(characters) => characters,
+        Err(StringRefused::Bad) => return Err(ElabRefused::BadLiteral),
+        Err(StringRefused::Memory(e)) => return Err(ElabRefused::Memory(e)),
+    };
+    let text = table.text(characters.as_slice())?;
+    Ok(leaf(table, Node::Str(text))?)
+}

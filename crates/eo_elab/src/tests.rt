@@ -1,0 +1,3 @@
+mod declarations;
+mod terms;
+mod world;

@@ -1,0 +1,173 @@
+//! What commands declare, in the order of their checks.
+use super::world::{Answer, World};
+use std::alloc::Global;
+use std::process::Abort;
+use std::test::Fail;
+
+fn outcomes(rt: &impl Abort, world: &mut World) -> Result<(), Fail> {
+    for (text, want) in [
+        ("(declare-const p Bool)", Answer::Done),
+        (
+            "(declare-const f (-> Bool Bool Bool) :right-assoc-nil true)",
+            Answer::Done,
+        ),
+        ("(declare-fun g (Bool Bool) Type)", Answer::Done),
+        ("(declare-sort s 2)", Answer::Done),
+        ("(define m ((x Bool) (y Bool :list)) (f x y))", Answer::Done),
+        ("(declare-consts <numeral> Bool)", Answer::Done),
+        (
+            "(declare-consts <binary> (s (eo::len eo::self) Bool))",
+            Answer::Done,
+        ),
+        (
+            "(declare-parameterized-const c ((x Type) (y x :list)) (-> x Bool))",
+            Answer::Done,
+        ),
+        (
+            "(declare-const h (-> Bool Bool Bool) :chainable f)",
+            Answer::Done,
+        ),
+        // the shape before the name
+        ("(declare-const p)", Answer::BadCommand),
+        ("(declare-const p zz :right-assoc true)", Answer::BadCommand),
+        ("(declare-sort p 65)", Answer::BadCommand),
+        ("(declare-consts <decimal> zz)", Answer::BadCommand),
+        // a name that is taken or reserved, before all else
+        ("(declare-const p yy)", Answer::Redeclared),
+        ("(declare-const m zz)", Answer::Redeclared),
+        ("(declare-const true zz)", Answer::Redeclared),
+        ("(declare-const ! zz)", Answer::Redeclared),
+        ("(declare-const eo::new zz)", Answer::Redeclared),
+        ("(declare-fun p (zz) Bool)", Answer::Redeclared),
+        ("(declare-sort p 1)", Answer::Redeclared),
+        (
+            "(declare-parameterized-const p ((x zz)) Bool)",
+            Answer::Redeclared,
+        ),
+        ("(define p ((x zz)) x)", Answer::Redeclared),
+        ("(declare-consts <numeral> zz)", Answer::Redeclared),
+        // the parameters, in order
+        ("(define n ((x Bool) (x zz)) yy)", Answer::Redeclared),
+        ("(define n ((x zz) (x Bool)) p)", Answer::UnknownSymbol),
+        ("(define n ((x y) (y Type)) p)", Answer::UnknownSymbol),
+        (
+            "(declare-parameterized-const n ((x Bool) (x zz)) yy)",
+            Answer::Redeclared,
+        ),
+        // terms from left to right
+        (
+            "(declare-const n zz :right-assoc-nil 1.5)",
+            Answer::UnknownSymbol,
+        ),
+        (
+            "(declare-const n (-> Bool) :right-assoc-nil zz)",
+            Answer::BadArity,
+        ),
+        ("(declare-const n () :right-assoc-nil zz)", Answer::BadArity),
+        (
+            "(declare-const n 1.5 :right-assoc-nil zz)",
+            Answer::BadLiteral,
+        ),
+        (
+            "(declare-const n Bool :right-assoc-nil 1.5)",
+            Answer::BadLiteral,
+        ),
+        (
+            "(declare-const n Bool :chainable (f p))",
+            Answer::UnknownSymbol,
+        ),
+        ("(declare-const n Bool :binder zz)", Answer::UnknownSymbol),
+        ("(declare-fun n (Bool zz) 1.5)", Answer::UnknownSymbol),
+        ("(declare-fun n (Bool) 1.5)", Answer::BadLiteral),
+        ("(declare-consts <string> zz)", Answer::UnknownSymbol),
+        ("(define n ((x Bool)) (m x))", Answer::BadArity),
+        // types and terminators that may not stand there
+        (
+            "(declare-const n (eo::typeof p) :left-assoc-nil zz)",
+            Answer::UnknownSymbol,
+        ),
+        ("(declare-const n (eo::typeof p))", Answer::BadPattern),
+        (
+            "(declare-fun n (Bool) (eo::list_len f p))",
+            Answer::BadPattern,
+        ),
+        (
+            "(declare-const n Bool :right-assoc-nil (eo::add 1 2))",
+            Answer::BadPattern,
+        ),
+        (
+            "(declare-const n Bool :left-assoc-nil (eo::add 1 2))",
+            Answer::BadPattern,
+        ),
+        (
+            "(declare-consts <string> (eo::typeof eo::self))",
+            Answer::BadPattern,
+        ),
+        (
+            "(declare-parameterized-const n ((x Type :implicit)) Bool)",
+            Answer::UnboundParam,
+        ),
+        // nothing of these is declared
+        ("(declare-const n (s (eo::add 1 2) Bool))", Answer::Done),
+        ("(declare-consts <string> Bool)", Answer::Done),
+    ] {
+        assert_eq!(rt; world.declare(text)?, want, "{text}");
+    }
+    Ok(())
+}
+
+fn types(rt: &impl Abort, world: &mut World) -> Result<(), Fail> {
+    for (text, name, ty) in [
+        (
+            "(declare-fun h2 (Bool Type) Bool)",
+            "h2",
+            "(-> Bool (-> Type Bool))",
+        ),
+        ("(declare-fun h0 () Bool)", "h0", "Bool "),
+        ("(declare-sort s0 0)", "s0", "Type "),
+        ("(declare-sort s2 2)", "s2", "(-> Type (-> Type Type))"),
+        (
+            "(declare-const |a b| (-> Bool Bool))",
+            "a b",
+            "(-> Bool Bool)",
+        ),
+    ] {
+        world.declare(text)?;
+        assert!(rt; world.has_type(name, ty)?, "{text}");
+    }
+    Ok(())
+}
+
+// A macro of this name with so many parameters, whose type is the last word.
+fn with_parameters(alloc: Global, name: &str, count: usize, ty: &str) -> Result<String, Fail> {
+    let mut text = String::from_str(alloc, "(define ")?;
+    text.push_str(name)?;
+    text.push_str(" (")?;
+    for i in 0..count {
+        write!(text, "(x{i} {ty})")?;
+    }
+    text.push_str(") true)")?;
+    Ok(text)
+}
+
+fn many(rt: &impl Abort, alloc: Global, world: &mut World) -> Result<(), Fail> {
+    for (name, count, ty, want) in [
+        ("few", 64, "Bool", Answer::Done),
+        ("few", 65, "zz", Answer::Redeclared),
+        ("many", 65, "zz", Answer::Parameters),
+        ("many", 64, "zz", Answer::UnknownSymbol),
+    ] {
+        let text = with_parameters(alloc, name, count, ty)?;
+        assert_eq!(rt; world.declare(text.as_str())?, want, "{name} of {count}");
+    }
+    Ok(())
+}
+
+#[test]
+fn declarations_are_checked_in_order(rt: HostRuntime) -> Result<(), Fail> {
+    let mut world = World::new(rt.alloc())?;
+    outcomes(&rt, &mut world)?;
+    types(&rt, &mut world)?;
+    many(&rt, rt.alloc(), &mut world)?;
+    Ok(())
+}
