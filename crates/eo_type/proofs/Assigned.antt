@@ -1,0 +1,43 @@
+-- Assignments that hold nothing, and parameters of arguments.
+use Rattle.std.proofs.Common.{◌≡◌, ℕ, zero, suc, ◌<◌, Bool, true, false, ◌||◌, List, [], ◌∷◌, Option, Some, None, slice_get, All, refl, sym, ap, subst, arith}
+use Rattle.std.specs.Option.{option_flatten, option_map}
+use Rattle.std.proofs.lemmas.List.Elements.{All-head, All-tail, All-weaker}
+use mathlib.Core.Path.{fun_ext}
+use Rattle.eo_term.specs.Tree.{Tree, Trees, NoTree, More, occurs, occurs_in_all}
+use Rattle.eo_term.specs.Terms.{tree_at}
+use Rattle.eo_term.specs.Arguments.{count_of, argument_at}
+use Rattle.eo_term.proofs.Values.{clash}
+use Rattle.eo_pattern.specs.Matching.{Assignment, empty, Matches, matching}
+use Rattle.eo_pattern.specs.Slots.{Slots, SlotBelow, AreBelow, AreEmpty, held}
+use Rattle.eo_pattern.proofs.Match.{matching_matches}
+
+slot_empty : (n : ℕ) (o : Option ℕ) → o ≡ None → SlotBelow n o
+slot_empty n o e = subst (SlotBelow n) (sym e) tt
+
+pub empty_below : (n : ℕ) (s : Slots) → AreEmpty s → AreBelow n s
+empty_below n s h = record { slots = All-weaker (λ (o : Option ℕ). o ≡ None) (SlotBelow n) (slot_empty n) s.values h }
+
+nothing_at : (vs : List (Option ℕ)) (i : ℕ) → All (λ (o : Option ℕ). o ≡ None) vs → option_flatten (slice_get vs i) ≡ None
+nothing_at [] i h = refl
+nothing_at (v ∷ vs) zero h = All-head (λ (o : Option ℕ). o ≡ None) v vs h
+nothing_at (v ∷ vs) (suc i) h = nothing_at vs i (All-tail (λ (o : Option ℕ). o ≡ None) v vs h)
+
+pub empty_held : (ts : List Tree) (s : Slots) → AreEmpty s → held ts s ≡ empty
+empty_held ts s h = fun_ext (λ i. ap (option_map (tree_at ts)) (nothing_at s.values i h))
+
+-- what nothing matches
+pub no_matching : (before : Assignment) (ps ts : List Tree) → ((σ : Assignment) → Matches before ps ts σ → ⊥) → matching before ps ts ≡ None
+no_matching before ps ts h = by (matching before ps ts) refl
+  where
+    by : (o : Option Assignment) → matching before ps ts ≡ o → o ≡ None
+    by None e = refl
+    by (Some σ) e = absurd (h σ (matching_matches before ps ts σ e))
+
+-- a number above the parameters of each argument is above those of all
+pub above_all : (j n : ℕ) (ts : Trees) → ((k : ℕ) → k < count_of ts → occurs j (argument_at ts k) ≡ true → j < n) → occurs_in_all j ts ≡ true → j < n
+above_all j n NoTree h o = clash o
+above_all j n (More t ts) h o = by (occurs j t) (h 0 (omega arith)) (above_all j n ts (λ k l. h (suc k) (omega arith))) o
+  where
+    by : (b : Bool) → (b ≡ true → j < n) → (occurs_in_all j ts ≡ true → j < n) → (b || occurs_in_all j ts) ≡ true → j < n
+    by true f g q = f refl
+    by false f g q = g q

@@ -1,0 +1,8 @@
+mod Vectors
+pub mod SettleLemmas
+pub mod Grows
+pub mod Walk
+pub mod Heights
+pub mod SettleSteps
+pub mod Assigned
+pub mod Fitting

@@ -1,0 +1,4 @@
+pub mod Types
+pub mod Outcomes
+pub mod Known
+pub mod Parts

@@ -1,0 +1,147 @@
+//! Types of applications: an argument's type is matched, and what is found is put in.
+ghost use Rattle.std.specs.Prelude.{◌≡◌, ℕ, ◌<◌, [], ◌∷◌, length, true, None, Some, IsTrue, IsFalse, IfOk, IfErr, OnOk};
+ghost use Rattle.eo_term.specs.Tree.{occurs};
+ghost use Rattle.eo_term.specs.Terms.{Terms, tree_at, Grows};
+ghost use Rattle.eo_pattern.specs.Matching.{empty, assign, put, matching};
+ghost use Rattle.eo_pattern.specs.Slots.{held, AreBelow, AreEmpty};
+ghost use Rattle.eo_type.specs.Types.{Typed, settled, applied};
+ghost use Rattle.eo_type.specs.Outcomes.{Stops};
+
+use crate::refused::Stop;
+use crate::settling::settle_term;
+use eo_pattern::{Subst, match_terms, substitute};
+use eo_term::{Id, Node, Table};
+use std::alloc::{AllocError, Global};
+
+/// The type of a function of the type `fun` applied to `arg`, whose type is `ty`.
+pub(crate) fn applied(
+    alloc: Global,
+    table: &mut Table,
+    fun: Id,
+    ty: Id,
+    arg: Id,
+) -> Result<Id, Stop>
+    requires fun { fun < length table.old.trees }
+    requires ty { ty < length table.old.trees }
+    requires arg { arg < length table.old.trees }
+    ensures live { IfOk result (λ i. i < length table.new.trees) }
+    ensures typed { IfOk result (λ i. applied (tree_at table.old.trees fun) (tree_at table.old.trees ty) (tree_at table.old.trees arg) ≡ Typed (tree_at table.new.trees i)) }
+    ensures stop { IfErr result (λ e. Stops e (applied (tree_at table.old.trees fun) (tree_at table.old.trees ty) (tree_at table.old.trees arg))) }
+    ensures grows { Grows table.old table.new }
+    ensures grown { (t : Terms) → Grows t table.old → Grows t table.new }
+{
+    let mut subst = Subst::new(alloc)?;
+    applied_with(alloc, table, &mut subst, fun, ty, arg)
+}
+
+// The same, with an assignment that holds nothing.
+fn applied_with(
+    alloc: Global,
+    table: &mut Table,
+    subst: &mut Subst,
+    fun: Id,
+    ty: Id,
+    arg: Id,
+) -> Result<Id, Stop>
+    requires empty { AreEmpty subst.old }
+    requires fun { fun < length table.old.trees }
+    requires ty { ty < length table.old.trees }
+    requires arg { arg < length table.old.trees }
+    ensures live { IfOk result (λ i. i < length table.new.trees) }
+    ensures typed { IfOk result (λ i. applied (tree_at table.old.trees fun) (tree_at table.old.trees ty) (tree_at table.old.trees arg) ≡ Typed (tree_at table.new.trees i)) }
+    ensures stop { IfErr result (λ e. Stops e (applied (tree_at table.old.trees fun) (tree_at table.old.trees ty) (tree_at table.old.trees arg))) }
+    ensures grows { Grows table.old table.new }
+    ensures grown { (t : Terms) → Grows t table.old → Grows t table.new }
+{
+    match table.node(fun) {
+        Node::Arr { from, to } => {
+            if !meets(table, subst, from, ty)? {
+                return Err(Stop::Untyped);
+            }
+            Ok(settled(alloc, table, subst, to)?)
+        }
+        Node::Qar { par, ty: from, to } => {
+            if !meets(table, subst, from, ty)? {
+                return Err(Stop::Untyped);
+            }
+            assign(table, subst, par, arg)?;
+            Ok(settled(alloc, table, subst, to)?)
+        }
+        Node::Con(_) => Err(Stop::Untyped),
+        Node::Num(_) => Err(Stop::Untyped),
+        Node::Bits { .. } => Err(Stop::Untyped),
+        Node::Str(_) => Err(Stop::Untyped),
+        Node::Par(_) => Err(Stop::Untyped),
+        Node::Var { .. } => Err(Stop::Untyped),
+        Node::App { .. } => Err(Stop::Untyped),
+        Node::Op { .. } => Err(Stop::Untyped),
+    }
+}
+
+/// A type with what is held put in, settled.
+pub(crate) fn settled(alloc: Global, table: &mut Table, subst: &Subst, ty: Id) -> Result<Id, Stop>
+    requires live { ty < length table.old.trees }
+    requires below { AreBelow (length table.old.trees) subst.now }
+    ensures live { IfOk result (λ i. i < length table.new.trees) }
+    ensures typed { IfOk result (λ i. settled (put (held table.old.trees subst.now) (tree_at table.old.trees ty)) ≡ Typed (tree_at table.new.trees i)) }
+    ensures stop { IfErr result (λ e. Stops e (settled (put (held table.old.trees subst.now) (tree_at table.old.trees ty)))) }
+    ensures grows { Grows table.old table.new }
+    ensures grown { (t : Terms) → Grows t table.old → Grows t table.new }
+{
+    let made = substitute(table, subst, ty)?;
+    Ok(settle_term(alloc, table, made)?)
+}
+
+/// Lets a term stand for the parameter.
+pub(crate) fn assign(table: &Table, subst: &mut Subst, par: u8, id: Id) -> Result<(), AllocError>
+    requires live { id < length table.now.trees }
+    requires below { AreBelow (length table.now.trees) subst.old }
+    ensures held { OnOk result (held table.now.trees subst.new ≡ assign (held table.now.trees subst.old) par (tree_at table.now.trees id)) }
+    ensures below { OnOk result (AreBelow (length table.now.trees) subst.new) }
+{
+    let _len = table.len();
+    subst.reserve(usize::from(par) + 1, 0)?;
+    subst.put(par, id);
+    Ok(())
+}
+
+// Whether a type matches the pattern. What stands for the pattern's parameters is then held.
+fn meets(table: &Table, subst: &mut Subst, pattern: Id, ty: Id) -> Result<bool, AllocError>
+    requires empty { AreEmpty subst.old }
+    requires pattern { pattern < length table.now.trees }
+    requires ty { ty < length table.now.trees }
+    ensures yes { IfOk result (λ b. IsTrue b → matching empty (tree_at table.now.trees pattern ∷ []) (tree_at table.now.trees ty ∷ []) ≡ Some (held table.now.trees subst.new)) }
+    ensures no { IfOk result (λ b. IsFalse b → matching empty (tree_at table.now.trees pattern ∷ []) (tree_at table.now.trees ty ∷ []) ≡ None) }
+    ensures below { OnOk result (AreBelow (length table.now.trees) subst.new) }
+{
+    subst.reserve(room(table, pattern), table.height(pattern) as usize)?;
+    Ok(match_terms(table, &[pattern], &[ty], subst))
+}
+
+// A number above each parameter of the term.
+fn room(table: &Table, id: Id) -> usize
+    requires { id < length table.now.trees }
+    ensures { (i : ℕ) → occurs i (tree_at table.now.trees id) ≡ true → i < result }
+{
+    if table.is_closed(id) {
+        return 0;
+    }
+    match table.node(id) {
+        Node::Par(i) => usize::from(i) + 1,
+        Node::Var { ty, .. } => room(table, ty),
+        Node::App { fun, arg } => room(table, fun).max(room(table, arg)),
+        Node::Arr { from, to } => room(table, from).max(room(table, to)),
+        Node::Qar { ty, to, .. } => room(table, ty).max(room(table, to)),
+        Node::Op { count, .. } => {
+            let mut most = 0;
+            for i in 0..count as usize {
+                most = room(table, table.arg(id, i)).max(most);
+            }
+            most
+        }
+        Node::Con(_) => 0,
+        Node::Num(_) => 0,
+        Node::Bits { .. } => 0,
+        Node::Str(_) => 0,
+    }
+}

@@ -1,0 +1,19 @@
+//! Types of terms: of constants and literals by what is declared, of applications by matching, and
+//! the operators in types replaced by their values.
+#![tactic(auto)]
+
+mod applied;
+mod leaves;
+mod literals;
+mod operators;
+mod refused;
+mod settling;
+mod types;
+
+pub use leaves::is_constant;
+pub use refused::TypeRefused;
+pub use settling::settle;
+pub use types::Types;
+
+#[cfg(test)]
+mod tests;

@@ -1,0 +1,113 @@
+//! Values of operators in types, whose arguments are settled and closed.
+ghost use Rattle.std.specs.Prelude.{◌≡◌, ◌<◌, [], ◌∷◌, length, map, All, IfOk, IfErr};
+ghost use Rattle.eo_term.specs.declared.OpCode.TheVariants as code;
+ghost use Rattle.eo_term.specs.declared.OpName.TheVariants as name;
+ghost use Rattle.eo_term.specs.Terms.{Terms, tree_at, Grows, HasArity, arity};
+ghost use Rattle.eo_type.specs.Types.{Typed, op_in_type};
+ghost use Rattle.eo_type.specs.Outcomes.{Stops};
+ghost use Rattle.eo_type.specs.Parts.{on_values};
+
+use crate::leaves::{are_values, if_value, is_constant, is_equal, truth_value};
+use crate::literals::value_of;
+use crate::refused::Stop;
+use eo_term::{Id, OpCode, OpName, Table};
+use std::alloc::Global;
+
+/// The value of an operator in a type. Programs have none there.
+pub(crate) fn op_value(
+    alloc: Global,
+    table: &mut Table,
+    code: OpCode,
+    args: &[Id],
+) -> Result<Id, Stop>
+    requires count { HasArity code (length args.now) }
+    requires args { All (λ i. i < length table.old.trees) args.now }
+    ensures live { IfOk result (λ i. i < length table.new.trees) }
+    ensures typed { IfOk result (λ i. op_in_type code (map (tree_at table.old.trees) args.now) ≡ Typed (tree_at table.new.trees i)) }
+    ensures stop { IfErr result (λ e. Stops e (op_in_type code (map (tree_at table.old.trees) args.now))) }
+    ensures grows { Grows table.old table.new }
+    ensures grown { (t : Terms) → Grows t table.old → Grows t table.new }
+{
+    match code {
+        OpCode::Builtin(op) => builtin_value(alloc, table, op, args),
+        OpCode::Prog(_) => Err(Stop::Untyped),
+    }
+}
+
+// The value of an operator of the language.
+fn builtin_value(alloc: Global, table: &mut Table, op: OpName, args: &[Id]) -> Result<Id, Stop>
+    requires count { length args.now ≡ arity op }
+    requires args { All (λ i. i < length table.old.trees) args.now }
+    ensures live { IfOk result (λ i. i < length table.new.trees) }
+    ensures typed { IfOk result (λ i. op_in_type (code.Builtin op) (map (tree_at table.old.trees) args.now) ≡ Typed (tree_at table.new.trees i)) }
+    ensures stop { IfErr result (λ e. Stops e (op_in_type (code.Builtin op) (map (tree_at table.old.trees) args.now))) }
+    ensures grows { Grows table.old table.new }
+    ensures grown { (t : Terms) → Grows t table.old → Grows t table.new }
+{
+    match op {
+        OpName::Ite => choice(table, args[0], args[1], args[2]),
+        OpName::Requires => required(table, args[0], args[1], args[2]),
+        OpName::IsEq => Ok(equality(table, args[0], args[1])),
+        _ => value_on_values(alloc, table, op, args),
+    }
+}
+
+// The branch that the condition chooses, if it is a value.
+fn choice(table: &Table, condition: Id, yes: Id, no: Id) -> Result<Id, Stop>
+    requires condition { condition < length table.now.trees }
+    requires yes { yes < length table.now.trees }
+    requires no { no < length table.now.trees }
+    ensures live { IfOk result (λ i. i < length table.now.trees) }
+    ensures typed { IfOk result (λ i. op_in_type (code.Builtin name.Ite) (tree_at table.now.trees condition ∷ tree_at table.now.trees yes ∷ tree_at table.now.trees no ∷ []) ≡ Typed (tree_at table.now.trees i)) }
+    ensures stop { IfErr result (λ e. Stops e (op_in_type (code.Builtin name.Ite) (tree_at table.now.trees condition ∷ tree_at table.now.trees yes ∷ tree_at table.now.trees no ∷ []))) }
+{
+    if is_constant(table, condition, 2) {
+        return if_value(table, yes);
+    }
+    if is_constant(table, condition, 3) {
+        return if_value(table, no);
+    }
+    Err(Stop::Untyped)
+}
+
+// The third term, if the first two are one value, and if it is a value.
+fn required(table: &Table, a: Id, b: Id, then: Id) -> Result<Id, Stop>
+    requires a { a < length table.now.trees }
+    requires b { b < length table.now.trees }
+    requires then { then < length table.now.trees }
+    ensures live { IfOk result (λ i. i < length table.now.trees) }
+    ensures typed { IfOk result (λ i. op_in_type (code.Builtin name.Requires) (tree_at table.now.trees a ∷ tree_at table.now.trees b ∷ tree_at table.now.trees then ∷ []) ≡ Typed (tree_at table.now.trees i)) }
+    ensures stop { IfErr result (λ e. Stops e (op_in_type (code.Builtin name.Requires) (tree_at table.now.trees a ∷ tree_at table.now.trees b ∷ tree_at table.now.trees then ∷ []))) }
+{
+    if !table.is_value(a) || !is_equal(table, a, b) {
+        return Err(Stop::Untyped);
+    }
+    if_value(table, then)
+}
+
+// Whether both terms are one value.
+fn equality(table: &Table, a: Id, b: Id) -> Id
+    requires a { a < length table.now.trees }
+    requires b { b < length table.now.trees }
+    ensures live { result < length table.now.trees }
+    ensures typed { op_in_type (code.Builtin name.IsEq) (tree_at table.now.trees a ∷ tree_at table.now.trees b ∷ []) ≡ Typed (tree_at table.now.trees result) }
+{
+    let same = table.is_value(a) && is_equal(table, a, b);
+    truth_value(table, same)
+}
+
+// The value of any other operator, if its arguments are values.
+fn value_on_values(alloc: Global, table: &mut Table, op: OpName, args: &[Id]) -> Result<Id, Stop>
+    requires count { length args.now ≡ arity op }
+    requires args { All (λ i. i < length table.old.trees) args.now }
+    ensures live { IfOk result (λ i. i < length table.new.trees) }
+    ensures typed { IfOk result (λ i. on_values op (map (tree_at table.old.trees) args.now) ≡ Typed (tree_at table.new.trees i)) }
+    ensures stop { IfErr result (λ e. Stops e (on_values op (map (tree_at table.old.trees) args.now))) }
+    ensures grows { Grows table.old table.new }
+    ensures grown { (t : Terms) → Grows t table.old → Grows t table.new }
+{
+    if !are_values(table, args) {
+        return Err(Stop::Untyped);
+    }
+    value_of(alloc, table, op, args)
+}

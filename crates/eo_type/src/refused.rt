@@ -1,0 +1,73 @@
+//! Why no type was found.
+ghost use Rattle.std.specs.Prelude.{◌≡◌, ℕ, ◌<◌, List, Contains, IfOk, IfErr, IfSome};
+ghost use Rattle.eo_term.specs.Tree.{Tree};
+ghost use Rattle.eo_term.specs.Terms.{tree_at};
+ghost use Rattle.eo_type.specs.Types.{TypeOutcome, Typed};
+ghost use Rattle.eo_type.specs.Outcomes.{Answers, Stops};
+
+use eo_term::{Id, TermRefused};
+use std::alloc::AllocError;
+
+/// Why it is not known whether a term has a type.
+#[derive(Debug, Drop)]
+pub enum TypeRefused {
+    /// A number, a bit string or a string in a type is beyond the range.
+    NumberRange,
+    /// A type is taller than the limit.
+    Tall,
+    /// Want of memory.
+    Memory(AllocError),
+}
+
+/// How a walk ends that finds no type.
+#[derive(Debug, Drop)]
+pub(crate) enum Stop {
+    /// There is no type.
+    Untyped,
+    /// A number, a bit string or a string in a type is beyond the range.
+    NumberRange,
+    /// A type is taller than the limit.
+    Tall,
+    /// Want of memory.
+    Memory(AllocError),
+}
+
+impl From<AllocError> for Stop {
+    ghost use Rattle.std.specs.Prelude.{◌≡◌};
+    ghost use Rattle.eo_type.specs.declared.refused.Stop.TheVariants.{Memory};
+
+    ghost from_gives = { λ e stop. stop ≡ Memory e };
+
+    fn from(e: AllocError) -> Stop {
+        Stop::Memory(e)
+    }
+}
+
+impl From<TermRefused> for Stop {
+    ghost use Rattle.std.specs.Prelude.{◌≡◌};
+    ghost use Rattle.eo_type.specs.Outcomes.{of_term};
+
+    ghost from_gives = { λ e stop. stop ≡ of_term e };
+
+    fn from(e: TermRefused) -> Stop {
+        match e {
+            TermRefused::Tall => Stop::Tall,
+            TermRefused::Memory(e) => Stop::Memory(e),
+        }
+    }
+}
+
+/// The answer of a walk.
+pub(crate) fn answer(found: Result<Id, Stop>) -> Result<Option<Id>, TypeRefused>
+    ensures live { (n : ℕ) → IfOk found (λ i. i < n) → IfOk result (λ o. IfSome o (λ i. i < n)) }
+    ensures among { (types : List (ℕ × ℕ)) (t : ℕ) → IfOk found (λ i. Contains types (t, i)) → IfOk result (λ o. IfSome o (λ i. Contains types (t, i))) }
+    ensures outcome { (ts : List Tree) (o : TypeOutcome Tree) → IfOk found (λ i. o ≡ Typed (tree_at ts i)) → IfErr found (λ e. Stops e o) → Answers ts result o }
+{
+    match found {
+        Ok(id) => Ok(Some(id)),
+        Err(Stop::Untyped) => Ok(None),
+        Err(Stop::NumberRange) => Err(TypeRefused::NumberRange),
+        Err(Stop::Tall) => Err(TypeRefused::Tall),
+        Err(Stop::Memory(e)) => Err(TypeRefused::Memory(e)),
+    }
+}

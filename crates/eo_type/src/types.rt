@@ -1,0 +1,319 @@
+//! Types of terms, and the types that are kept.
+ghost use Rattle.std.specs.Prelude.{◌≡◌, ℕ, ◌<◌, List, [], length, Some, Contains, IfOk, IfErr, IfSome, OnOk};
+ghost use Rattle.eo_term.specs.Tree.{Tree, App, Arr};
+ghost use Rattle.eo_term.specs.Terms.{Terms, tree_at, Grows};
+ghost use Rattle.eo_pattern.specs.Slots.{AreBelow, AreEmpty};
+ghost use Rattle.eo_sig.specs.Signature as spec;
+ghost use Rattle.eo_sig.specs.Reading.{signature, IsBelow, Stays};
+ghost use Rattle.eo_type.specs.Types.{Typed, declared, literal_type_at, type_of};
+ghost use Rattle.eo_type.specs.Outcomes.{Answers, Stops};
+ghost use Rattle.eo_type.specs.Parts.{variable_type};
+ghost use Rattle.eo_type.specs.Known.{IsFit, Fits, type_at, type_both};
+
+use crate::TypeRefused;
+use crate::applied::{applied, assign, settled};
+use crate::leaves::{if_value, is_constant};
+use crate::refused::{Stop, answer};
+use eo_pattern::Subst;
+use eo_sig::{LiteralClass, Signature};
+use eo_term::{Id, Node, Table};
+use indexmap::IndexMap;
+use std::alloc::{AllocError, Global};
+use std::marker::Model;
+
+/// Types that were found, with their terms. Contracts see them as a list of pairs.
+///
+/// They fit a signature and a table where each pair names terms of the table, the second being the
+/// type of the first. Every call that takes them has this condition, and leaves them fitting.
+#[derive(Drop)]
+pub struct Types {
+    alloc: Global,
+    known: IndexMap<Id, Id>,
+}
+
+impl Model for Types {
+    ghost use Rattle.std.specs.Prelude.{List, ℕ};
+
+    ghost Value = { List (ℕ × ℕ) };
+
+    ghost view = { λ a. a.known.entries };
+}
+
+impl Types {
+    /// No types.
+    pub fn new(alloc: Global) -> Result<Types, AllocError>
+        ensures types { IfOk result (λ t. t ≡ []) }
+        ensures fits { IfOk result (λ t. (S : spec.Signature) (ts : List Tree) → Fits S ts t) }
+    {
+        Ok(Types {
+            alloc,
+            known: IndexMap::new(alloc),
+        })
+    }
+
+    /// The type of a term, by the typing rules of the Ethos manual; `None` exactly where it has
+    /// none. The parts of a term are typed from left to right, and only then compared.
+    ///
+    /// A constant has its declared type, a literal that of its class with the literal put in,
+    /// a variable its own. `NumberRange`: a number, a bit string or a string in a type is out of
+    /// range. `Tall`: a type is too tall. A part that is shared is typed once.
+    pub fn type_of(
+        &mut self,
+        sig: &Signature,
+        table: &mut Table,
+        id: Id,
+    ) -> Result<Option<Id>, TypeRefused>
+        requires live { id < length table.old.trees }
+        requires below { IsBelow (length table.old.trees) sig.now }
+        requires fits { Fits (signature table.old.trees sig.now) table.old.trees self.old }
+        ensures live { IfOk result (λ o. IfSome o (λ i. i < length table.new.trees)) }
+        ensures outcome { Answers table.new.trees result (type_of (signature table.old.trees sig.now) (tree_at table.old.trees id)) }
+        ensures kept { IfOk result (λ o. IfSome o (λ i. Contains self.new (id, i))) }
+        ensures fits { Fits (signature table.new.trees sig.now) table.new.trees self.new }
+        ensures stays { Stays sig.now table.old.trees table.new.trees }
+        ensures grows { Grows table.old table.new }
+        ensures grown { (t : Terms) → Grows t table.old → Grows t table.new }
+    {
+        answer(self.find(sig, table, id))
+    }
+
+    // The type of a term that may be known.
+    #[cycle(typing)]
+    fn find(&mut self, sig: &Signature, table: &mut Table, id: Id) -> Result<Id, Stop>
+        requires live { id < length table.old.trees }
+        requires below { IsBelow (length table.old.trees) sig.now }
+        requires fits { Fits (signature table.old.trees sig.now) table.old.trees self.old }
+        ensures live { IfOk result (λ i. i < length table.new.trees) }
+        ensures typed { IfOk result (λ i. type_at sig.now table.old.trees id ≡ Typed (tree_at table.new.trees i)) }
+        ensures stop { IfErr result (λ e. Stops e (type_at sig.now table.old.trees id)) }
+        ensures kept { IfOk result (λ i. Contains self.new (id, i)) }
+        ensures fits { Fits (signature table.new.trees sig.now) table.new.trees self.new }
+        ensures stays { Stays sig.now table.old.trees table.new.trees }
+        ensures grows { Grows table.old table.new }
+        ensures grown { (t : Terms) → Grows t table.old → Grows t table.new }
+    {
+        match self.known(id) {
+            Some(ty) => Ok(ty),
+            None => {
+                let ty = self.derive(sig, table, id)?;
+                self.keep(id, ty)?;
+                Ok(ty)
+            }
+        }
+    }
+
+    // The type of a term, by the types of its parts.
+    #[cycle(typing)]
+    fn derive(&mut self, sig: &Signature, table: &mut Table, id: Id) -> Result<Id, Stop>
+        requires live { id < length table.old.trees }
+        requires below { IsBelow (length table.old.trees) sig.now }
+        requires fits { Fits (signature table.old.trees sig.now) table.old.trees self.old }
+        ensures live { IfOk result (λ i. i < length table.new.trees) }
+        ensures typed { IfOk result (λ i. type_at sig.now table.old.trees id ≡ Typed (tree_at table.new.trees i)) }
+        ensures stop { IfErr result (λ e. Stops e (type_at sig.now table.old.trees id)) }
+        ensures fits { Fits (signature table.new.trees sig.now) table.new.trees self.new }
+        ensures stays { Stays sig.now table.old.trees table.new.trees }
+        ensures grows { Grows table.old table.new }
+        ensures grown { (t : Terms) → Grows t table.old → Grows t table.new }
+    {
+        match table.node(id) {
+            Node::Con(k) => declared(sig, table, k),
+            Node::Num(_) => self.literal(sig, table, LiteralClass::Numeral, id),
+            Node::Bits { .. } => self.literal(sig, table, LiteralClass::Binary, id),
+            Node::Str(_) => self.literal(sig, table, LiteralClass::String, id),
+            Node::Var { ty, .. } => self.variable(sig, table, ty),
+            Node::App { fun, arg } => self.application(sig, table, fun, arg),
+            Node::Arr { from, to } => self.function(sig, table, from, to),
+            Node::Par(_) => Err(Stop::Untyped),
+            Node::Qar { .. } => Err(Stop::Untyped),
+            Node::Op { .. } => Err(Stop::Untyped),
+        }
+    }
+
+    // The type of a variable: the type that it names, if that is a type.
+    #[cycle(typing)]
+    fn variable(&mut self, sig: &Signature, table: &mut Table, ty: Id) -> Result<Id, Stop>
+        requires live { ty < length table.old.trees }
+        requires below { IsBelow (length table.old.trees) sig.now }
+        requires fits { Fits (signature table.old.trees sig.now) table.old.trees self.old }
+        ensures live { IfOk result (λ i. i < length table.new.trees) }
+        ensures typed { IfOk result (λ i. variable_type (signature table.old.trees sig.now) (tree_at table.old.trees ty) ≡ Typed (tree_at table.new.trees i)) }
+        ensures stop { IfErr result (λ e. Stops e (variable_type (signature table.old.trees sig.now) (tree_at table.old.trees ty))) }
+        ensures fits { Fits (signature table.new.trees sig.now) table.new.trees self.new }
+        ensures stays { Stays sig.now table.old.trees table.new.trees }
+        ensures grows { Grows table.old table.new }
+        ensures grown { (t : Terms) → Grows t table.old → Grows t table.new }
+    {
+        let kind = self.find(sig, table, ty)?;
+        if !is_constant(table, kind, 0) {
+            return Err(Stop::Untyped);
+        }
+        Ok(ty)
+    }
+
+    // The type of an application.
+    #[cycle(typing)]
+    fn application(
+        &mut self,
+        sig: &Signature,
+        table: &mut Table,
+        fun: Id,
+        arg: Id,
+    ) -> Result<Id, Stop>
+        requires fun { fun < length table.old.trees }
+        requires arg { arg < length table.old.trees }
+        requires below { IsBelow (length table.old.trees) sig.now }
+        requires fits { Fits (signature table.old.trees sig.now) table.old.trees self.old }
+        ensures live { IfOk result (λ i. i < length table.new.trees) }
+        ensures typed { IfOk result (λ i. type_of (signature table.old.trees sig.now) (App (tree_at table.old.trees fun) (tree_at table.old.trees arg)) ≡ Typed (tree_at table.new.trees i)) }
+        ensures stop { IfErr result (λ e. Stops e (type_of (signature table.old.trees sig.now) (App (tree_at table.old.trees fun) (tree_at table.old.trees arg)))) }
+        ensures fits { Fits (signature table.new.trees sig.now) table.new.trees self.new }
+        ensures stays { Stays sig.now table.old.trees table.new.trees }
+        ensures grows { Grows table.old table.new }
+        ensures grown { (t : Terms) → Grows t table.old → Grows t table.new }
+    {
+        let alloc = self.alloc;
+        let (ty, kind) = self.both(sig, table, fun, arg)?;
+        if !table.is_value(kind) {
+            return Err(Stop::Untyped);
+        }
+        Ok(applied(alloc, table, ty, kind, arg)?)
+    }
+
+    // The type of a function type: `Type`, if both parts are types.
+    #[cycle(typing)]
+    fn function(&mut self, sig: &Signature, table: &mut Table, from: Id, to: Id) -> Result<Id, Stop>
+        requires from { from < length table.old.trees }
+        requires to { to < length table.old.trees }
+        requires below { IsBelow (length table.old.trees) sig.now }
+        requires fits { Fits (signature table.old.trees sig.now) table.old.trees self.old }
+        ensures live { IfOk result (λ i. i < length table.new.trees) }
+        ensures typed { IfOk result (λ i. type_of (signature table.old.trees sig.now) (Arr (tree_at table.old.trees from) (tree_at table.old.trees to)) ≡ Typed (tree_at table.new.trees i)) }
+        ensures stop { IfErr result (λ e. Stops e (type_of (signature table.old.trees sig.now) (Arr (tree_at table.old.trees from) (tree_at table.old.trees to)))) }
+        ensures fits { Fits (signature table.new.trees sig.now) table.new.trees self.new }
+        ensures stays { Stays sig.now table.old.trees table.new.trees }
+        ensures grows { Grows table.old table.new }
+        ensures grown { (t : Terms) → Grows t table.old → Grows t table.new }
+    {
+        let (first, second) = self.both(sig, table, from, to)?;
+        if !is_constant(table, first, 0) || !is_constant(table, second, 0) {
+            return Err(Stop::Untyped);
+        }
+        Ok(first)
+    }
+
+    // The types of both terms, the first one first.
+    #[cycle(typing)]
+    fn both(&mut self, sig: &Signature, table: &mut Table, a: Id, b: Id) -> Result<(Id, Id), Stop>
+        requires a { a < length table.old.trees }
+        requires b { b < length table.old.trees }
+        requires below { IsBelow (length table.old.trees) sig.now }
+        requires fits { Fits (signature table.old.trees sig.now) table.old.trees self.old }
+        ensures live_a { IfOk result (λ r. r.0 < length table.new.trees) }
+        ensures live_b { IfOk result (λ r. r.1 < length table.new.trees) }
+        ensures a { IfOk result (λ r. type_at sig.now table.old.trees a ≡ Typed (tree_at table.new.trees r.0)) }
+        ensures b { IfOk result (λ r. type_at sig.now table.old.trees b ≡ Typed (tree_at table.new.trees r.1)) }
+        ensures stop { IfErr result (λ e. Stops e (type_both sig.now table.old.trees a b)) }
+        ensures fits { Fits (signature table.new.trees sig.now) table.new.trees self.new }
+        ensures stays { Stays sig.now table.old.trees table.new.trees }
+        ensures grows { Grows table.old table.new }
+        ensures grown { (t : Terms) → Grows t table.old → Grows t table.new }
+    {
+        let first = self.find(sig, table, a)?;
+        let second = self.find(sig, table, b)?;
+        Ok((first, second))
+    }
+
+    // The type of a literal, by that of its class.
+    fn literal(
+        &self,
+        sig: &Signature,
+        table: &mut Table,
+        class: LiteralClass,
+        id: Id,
+    ) -> Result<Id, Stop>
+        requires live { id < length table.old.trees }
+        requires below { IsBelow (length table.old.trees) sig.now }
+        requires fits { Fits (signature table.old.trees sig.now) table.old.trees self.now }
+        ensures live { IfOk result (λ i. i < length table.new.trees) }
+        ensures typed { IfOk result (λ i. literal_type_at (spec.literal_type (signature table.old.trees sig.now) class) (tree_at table.old.trees id) ≡ Typed (tree_at table.new.trees i)) }
+        ensures stop { IfErr result (λ e. Stops e (literal_type_at (spec.literal_type (signature table.old.trees sig.now) class) (tree_at table.old.trees id))) }
+        ensures fits { Fits (signature table.new.trees sig.now) table.new.trees self.now }
+        ensures stays { Stays sig.now table.old.trees table.new.trees }
+        ensures grows { Grows table.old table.new }
+        ensures grown { (t : Terms) → Grows t table.old → Grows t table.new }
+    {
+        match sig.literal_type(class) {
+            None => Err(Stop::Untyped),
+            Some(ty) => literal_in(self.alloc, table, ty, id),
+        }
+    }
+
+    // The type that is kept for a term.
+    fn known(&self, id: Id) -> Option<Id>
+        ensures fits { (S : spec.Signature) (ts : List Tree) → Fits S ts self.now → IfSome result (λ u. IsFit S ts (id, u)) }
+        ensures kept { IfSome result (λ u. Contains self.now (id, u)) }
+    {
+        self.known.get(&id).copied()
+    }
+
+    // Keeps the type of a term.
+    fn keep(&mut self, id: Id, ty: Id) -> Result<(), AllocError>
+        ensures fits { (S : spec.Signature) (ts : List Tree) → Fits S ts self.old → IsFit S ts (id, ty) → Fits S ts self.new }
+        ensures kept { OnOk result (Contains self.new (id, ty)) }
+    {
+        self.known.insert(id, ty)?;
+        Ok(())
+    }
+}
+
+// The declared type of a constant.
+fn declared(sig: &Signature, table: &Table, k: usize) -> Result<Id, Stop>
+    requires { IsBelow (length table.now.trees) sig.now }
+    ensures live { IfOk result (λ i. i < length table.now.trees) }
+    ensures typed { IfOk result (λ i. declared (spec.constant_at (signature table.now.trees sig.now) k) ≡ Typed (tree_at table.now.trees i)) }
+    ensures stop { IfErr result (λ e. Stops e (declared (spec.constant_at (signature table.now.trees sig.now) k))) }
+{
+    let _len = table.len();
+    if k >= sig.constants() {
+        return Err(Stop::Untyped);
+    }
+    Ok(sig.constant(k).ty)
+}
+
+// The type of a class with a literal put in.
+fn literal_in(alloc: Global, table: &mut Table, ty: Id, id: Id) -> Result<Id, Stop>
+    requires ty { ty < length table.old.trees }
+    requires live { id < length table.old.trees }
+    ensures live { IfOk result (λ i. i < length table.new.trees) }
+    ensures typed { IfOk result (λ i. literal_type_at (Some (tree_at table.old.trees ty)) (tree_at table.old.trees id) ≡ Typed (tree_at table.new.trees i)) }
+    ensures stop { IfErr result (λ e. Stops e (literal_type_at (Some (tree_at table.old.trees ty)) (tree_at table.old.trees id))) }
+    ensures grows { Grows table.old table.new }
+    ensures grown { (t : Terms) → Grows t table.old → Grows t table.new }
+{
+    let mut subst = Subst::new(alloc)?;
+    literal_with(alloc, table, &mut subst, ty, id)
+}
+
+// The same, by an assignment that holds nothing.
+fn literal_with(
+    alloc: Global,
+    table: &mut Table,
+    subst: &mut Subst,
+    ty: Id,
+    id: Id,
+) -> Result<Id, Stop>
+    requires empty { AreEmpty subst.old }
+    requires below { AreBelow (length table.old.trees) subst.old }
+    requires ty { ty < length table.old.trees }
+    requires live { id < length table.old.trees }
+    ensures live { IfOk result (λ i. i < length table.new.trees) }
+    ensures typed { IfOk result (λ i. literal_type_at (Some (tree_at table.old.trees ty)) (tree_at table.old.trees id) ≡ Typed (tree_at table.new.trees i)) }
+    ensures stop { IfErr result (λ e. Stops e (literal_type_at (Some (tree_at table.old.trees ty)) (tree_at table.old.trees id))) }
+    ensures grows { Grows table.old table.new }
+    ensures grown { (t : Terms) → Grows t table.old → Grows t table.new }
+{
+    assign(table, subst, 0, id)?;
+    let found = settled(alloc, table, subst, ty)?;
+    if_value(table, found)
+}
