@@ -1,21 +1,21 @@
 -- The run of a file by its path, and the verdict.
-use Rattle.std.proofs.Common.{◌≡◌, refl, ℕ, ◌≤◌, Bool, true, false, List, [], sym, ap, subst, ◌∙◌, arith}
+use Rattle.std.proofs.Common.{◌≡◌, refl, ℕ, ◌≤◌, Bool, true, false, not, List, [], sym, ap, subst, ◌∙◌, arith}
 use Rattle.std.specs.Prelude.{Result, Ok, Err, Option, Some, None, IfSome, if◌then◌else◌}
 use Rattle.std.specs.Option.{option_map_or}
 use Rattle.eo_base.specs.declared.FaultName.{FaultName}
-use Rattle.eo_base.specs.declared.FaultName.TheVariants.{FileAbsent, NoRefutation}
+use Rattle.eo_base.specs.declared.FaultName.TheVariants.{FileAbsent, NoReference, NoRefutation}
 use Rattle.eo_base.specs.Causes.{Rose}
+use Rattle.eo_base.specs.Checks.{Checked}
 use Rattle.eo_io.specs.Library.{Files, Rest, file_at, Opens, OpenHasCause}
 use Rattle.eo_io.specs.declared.Opened.TheVariants as opened
 use Rattle.eo_sexp.specs.declared.Spot.{Spot}
 use Rattle.eo_sexp.specs.Texts.{first_spot, spot_after}
-use Rattle.eo_run.specs.State.{State, first_state, end_fault, has_false}
+use Rattle.eo_run.specs.State.{State, first_state, begin_reference, end_fault, has_false}
 use Rattle.eo_run.specs.Step.{Origin, FromProof, FromReference, is_in_proof}
-use Rattle.eo_run.specs.Run.{Ran, ◌>>=◌, or_fault, refusal_at, commands_of, run_commands, run_file, run_check}
+use Rattle.eo_run.specs.Run.{Ran, ◌>>=◌, placed, or_fault, refusal_at, commands_of, run_commands, run_file, run_reference, run_check}
 use Rattle.eo_run.specs.Check.{verdict, checked, ended, file_end}
 use Rattle.eo_run.specs.Verdict.{Refusal, Refused}
 use Rattle.eo_run.specs.Verdict as verdict
-use Rattle.eo_run.specs.Normal.{normal, normal_result}
 use Rattle.eo_run.specs.Reading.{RunsBytes, RunsOpen, RunsFile}
 use Rattle.eo_run.specs.Answer.{Answers, AnswerHasCause}
 use Rattle.eo_base.specs.declared.Place.{Place}
@@ -24,7 +24,6 @@ use Rattle.eo_run.specs.declared.Verdict.{Verdict}
 use Rattle.eo_run.specs.declared.Verdict.TheVariants as answer
 use Rattle.eo_run.specs.declared.reading.Stop.{Stop}
 use Rattle.eo_run.specs.declared.reading.Stop.TheVariants as stop
-use Rattle.eo_run.proofs.Running.{run-normal}
 
 -- ---- one file
 
@@ -35,13 +34,13 @@ module _ (path : List ℕ) (from : Origin) (old new : State) where
   pub absent-runs : (told : Option Files) (b n : ℕ) → OpenHasCause opened.Absent told path b n → IfSome told (λ files. RunsFile files path from (Err (stop.Fault FileAbsent first_spot)) old new)
   unfolding run_file or_fault ◌>>=◌
   absent-runs None b n h = tt
-  absent-runs (Some files) b n h = ap (λ o. normal_result (by_bytes o)) h
+  absent-runs (Some files) b n h = ap by_bytes h
 
   module _ (files : Files) (bytes : List ℕ) (there : file_at files path ≡ Some bytes) where
     bytes-runs : (r : Result Spot Stop) → RunsBytes from r old new bytes → RunsFile files path from r old new
     unfolding run_file or_fault ◌>>=◌
-    bytes-runs (Ok at) h = (ap (λ o. normal_result (by_bytes o)) there ∙ h.0 path, h.1 ∙ sym (ap (λ o. option_map_or (spot_after first_spot) o first_spot) there))
-    bytes-runs (Err (stop.Fault name at)) h = ap (λ o. normal_result (by_bytes o)) there ∙ h path
+    bytes-runs (Ok at) h = (ap by_bytes there ∙ h.0 path, h.1 ∙ sym (ap (λ o. option_map_or (spot_after first_spot) o first_spot) there))
+    bytes-runs (Err (stop.Fault name at)) h = ap by_bytes there ∙ h path
     bytes-runs (Err stop.ReadFault) h = tt
     bytes-runs (Err stop.Memory) h = tt
 
@@ -49,53 +48,31 @@ module _ (path : List ℕ) (from : Origin) (old new : State) where
   ready-runs None before mid r o h = tt
   ready-runs (Some files) before mid r o h = bytes-runs files o.0 o.1 r (subst (λ (m : List Rest). RunsOpen from r old new m) o.2 h)
 
-run_file-normal : (files : Files) (path : List ℕ) (from : Origin) (st : State) → normal_result (run_file files path from st) ≡ normal_result (run_file files path from (normal st))
-unfolding run_file or_fault ◌>>=◌
-run_file-normal files path from st = by (file_at files path)
-  where
-    by : (o : Option (List ℕ)) → normal_result (by_bytes path from st st o) ≡ normal_result (by_bytes path from (normal st) st o)
-    by None = refl
-    by (Some bytes) = run-normal path from (commands_of (is_in_proof from) bytes) st
-
 -- ---- the verdict
 
 module _ (files : Files) (reference proof : List ℕ) where
   abbrev then_proof : Ran → Ran
   then_proof m = m >>= run_file files proof FromProof
 
-  from_ran : (m : Ran) (refusal : Refusal) → normal_result m ≡ Err refusal → m ≡ Err refusal
-  from_ran (Ok st) refusal e = absurd cc
-  from_ran (Err other) refusal e = e
+  abbrev from_begun : Checked State → Ran
+  from_begun m = placed reference first_spot m >>= run_file files reference FromReference
 
-  pub verdict-reference : (refusal : Refusal) → normal_result (run_file files reference FromReference first_state) ≡ Err refusal → verdict files reference proof ≡ Refused refusal
-  unfolding verdict run_check ◌>>=◌
-  verdict-reference refusal e = ap (λ m. checked files proof (then_proof m)) (from_ran (run_file files reference FromReference first_state) refusal e)
+  module _ (first : State) (begun : begin_reference (first_state false) ≡ Ok first) where
+    reference-run : run_reference files reference (first_state false) ≡ run_file files reference FromReference first
+    unfolding run_reference placed ◌>>=◌
+    reference-run = ap from_begun begun
 
-  -- the verdict is that of a run that ends in the same normal form
-  checked-normal : (m n : Ran) → normal_result m ≡ normal_result n → checked files proof m ≡ checked files proof n
-  unfolding end_fault
-  checked-normal (Ok x) (Ok y) e = let same : normal x ≡ normal y = cc in ap (λ (st : State). ended files proof (end_fault st)) same
-  checked-normal (Ok x) (Err r) e = absurd cc
-  checked-normal (Err r) (Ok y) e = absurd cc
-  checked-normal (Err r) (Err s) e = let same : r ≡ s = cc in ap Refused same
+    check-run : run_check files reference proof ≡ then_proof (run_file files reference FromReference first)
+    unfolding run_check
+    check-run = ap then_proof reference-run
 
-  module _ (mid : State) (read : normal_result (run_file files reference FromReference first_state) ≡ Ok (normal mid)) where
-    behind-reference : (m : Ran) → normal_result m ≡ Ok (normal mid) → normal_result (then_proof m) ≡ normal_result (run_file files proof FromProof mid)
-    unfolding ◌>>=◌
-    behind-reference (Ok x) e =
-        let same : normal x ≡ normal mid = cc in
-        run_file-normal files proof FromProof x ∙ ap (λ st. normal_result (run_file files proof FromProof st)) same ∙ sym (run_file-normal files proof FromProof mid)
-    behind-reference (Err r) e = absurd cc
+    pub verdict-reference : (refusal : Refusal) → run_file files reference FromReference first ≡ Err refusal → verdict files reference proof ≡ Refused refusal
+    unfolding verdict ◌>>=◌
+    verdict-reference refusal e = ap (checked files proof) check-run ∙ ap (λ m. checked files proof (then_proof m)) e
 
-    pub verdict-proof : verdict files reference proof ≡ checked files proof (run_file files proof FromProof mid)
-    unfolding verdict run_check
-    verdict-proof = checked-normal (then_proof (run_file files reference FromReference first_state)) (run_file files proof FromProof mid) (behind-reference (run_file files reference FromReference first_state) read)
-
-    pub verdict-refused : (refusal : Refusal) → normal_result (run_file files proof FromProof mid) ≡ Err refusal → verdict files reference proof ≡ Refused refusal
-    verdict-refused refusal e = verdict-proof ∙ ap (checked files proof) (from_ran (run_file files proof FromProof mid) refusal e)
-
-    pub verdict-end : (new : State) → normal_result (run_file files proof FromProof mid) ≡ Ok (normal new) → verdict files reference proof ≡ ended files proof (end_fault new)
-    verdict-end new e = verdict-proof ∙ checked-normal (run_file files proof FromProof mid) (Ok new) e
+    pub verdict-proof : (mid : State) → run_file files reference FromReference first ≡ Ok mid → verdict files reference proof ≡ checked files proof (run_file files proof FromProof mid)
+    unfolding verdict ◌>>=◌
+    verdict-proof mid e = ap (checked files proof) check-run ∙ ap (λ m. checked files proof (then_proof m)) e
 
 -- ---- answers
 
@@ -105,7 +82,7 @@ module _ (told : Option Files) (path : List ℕ) (old new : State) (paths : List
     where
       by : (o : Option Files) → IfSome o (λ f. EndsRun f path FromProof old new paths place) → IfSome o (λ f. Answers paths answer.Correct (checked f path (run_file f path FromProof old)))
       by None h = tt
-      by (Some f) h = checked-normal f [] path (run_file f path FromProof old) (Ok new) h.runs ∙ ap (ended f path) (sym e)
+      by (Some f) h = ap (checked f path) h.runs ∙ ap (ended f path) (sym e)
 
   pub ends-refused : (name : FaultName) → IfSome told (λ f. EndsRun f path FromProof old new paths place) → Some name ≡ end_fault new → IfSome told (λ f. Answers paths (answer.Refused (record { name = name; place = place })) (checked f path (run_file f path FromProof old)))
   ends-refused name h e = by told h
@@ -113,16 +90,17 @@ module _ (told : Option Files) (path : List ℕ) (old new : State) (paths : List
       by : (o : Option Files) → IfSome o (λ f. EndsRun f path FromProof old new paths place) → IfSome o (λ f. Answers paths (answer.Refused (record { name = name; place = place })) (checked f path (run_file f path FromProof old)))
       by None h = tt
       by (Some f) h =
-          (refusal_at path (file_end f path) name, checked-normal f [] path (run_file f path FromProof old) (Ok new) h.runs ∙ ap (ended f path) (sym e), record { name = refl; file = h.file; line = h.line; offset = h.offset })
+          (refusal_at path (file_end f path) name, ap (checked f path) h.runs ∙ ap (ended f path) (sym e), record { name = refl; file = h.file; line = h.line; offset = h.offset })
 
 -- the end of a proof is no absent file
 pub end-present : (st : State) (name : FaultName) → Some name ≡ end_fault st → name ≡ FileAbsent → ⊥
 unfolding end_fault
-end-present st name e a = by (has_false st.facts) e
+end-present st name e a = by st.has_reference (has_false st.facts) e
   where
-    by : (b : Bool) → Some name ≡ (if b then None else Some NoRefutation) → ⊥
-    by true h = absurd cc
-    by false h = absurd cc
+    by : (r b : Bool) → Some name ≡ (if not r then Some NoReference else (if not b then Some NoRefutation else None)) → ⊥
+    by true true h = absurd cc
+    by true false h = absurd cc
+    by false b h = absurd cc
 
 pub end-cause : (told : Option Files) (st : State) (name : FaultName) (place : Place) (b n : ℕ) → Some name ≡ end_fault st → AnswerHasCause (answer.Refused (record { name = name; place = place })) told b n
 end-cause None st name place b n e = λ a. absurd (end-present st name e a)
@@ -141,19 +119,19 @@ cause-later answer.ReadFault told a b n h c = rose-later a b n h c
 cause-later answer.OutOfMemory told a b n h c = tt
 
 module _ (reference proof : List ℕ) (paths : List (List ℕ)) (v : Verdict) where
-  pub proof-answers : (told later : Option Files) (mid : State) (others : List (List ℕ)) (place : Place) → later ≡ told → IfSome told (λ f. EndsRun f reference FromReference first_state mid others place) →
+  pub proof-answers : (told later : Option Files) (first mid : State) (others : List (List ℕ)) (place : Place) → begin_reference (first_state false) ≡ Ok first → later ≡ told → IfSome told (λ f. EndsRun f reference FromReference first mid others place) →
       IfSome later (λ f. Answers paths v (checked f proof (run_file f proof FromProof mid))) → IfSome told (λ f. Answers paths v (verdict f reference proof))
-  proof-answers told later mid others place e h k = by told h (subst (λ (o : Option Files). IfSome o (λ f. Answers paths v (checked f proof (run_file f proof FromProof mid)))) e k)
+  proof-answers told later first mid others place begun e h k = by told h (subst (λ (o : Option Files). IfSome o (λ f. Answers paths v (checked f proof (run_file f proof FromProof mid)))) e k)
     where
-      by : (o : Option Files) → IfSome o (λ f. EndsRun f reference FromReference first_state mid others place) → IfSome o (λ f. Answers paths v (checked f proof (run_file f proof FromProof mid))) → IfSome o (λ f. Answers paths v (verdict f reference proof))
+      by : (o : Option Files) → IfSome o (λ f. EndsRun f reference FromReference first mid others place) → IfSome o (λ f. Answers paths v (checked f proof (run_file f proof FromProof mid))) → IfSome o (λ f. Answers paths v (verdict f reference proof))
       by None h k = tt
-      by (Some f) h k = subst (λ (w : verdict.Verdict). Answers paths v w) (sym (verdict-proof f reference proof mid h.runs)) k
+      by (Some f) h k = subst (λ (w : verdict.Verdict). Answers paths v w) (sym (verdict-proof f reference proof first begun mid h.runs)) k
 
-pub refused-answers : (reference proof : List ℕ) (paths : List (List ℕ)) (told : Option Files) (v : Verdict) → IfSome told (λ f. RefusesRun f reference FromReference first_state paths v) → IfSome told (λ f. Answers paths v (verdict f reference proof))
-refused-answers reference proof paths None v h = tt
-refused-answers reference proof paths (Some f) answer.Correct h = absurd h
-refused-answers reference proof paths (Some f) answer.Incomplete h = absurd h
-refused-answers reference proof paths (Some f) (answer.Loaded commands) h = absurd h
-refused-answers reference proof paths (Some f) (answer.Refused fault) h = (h.0, verdict-reference f reference proof h.0 h.1, h.2)
-refused-answers reference proof paths (Some f) answer.ReadFault h = tt
-refused-answers reference proof paths (Some f) answer.OutOfMemory h = tt
+pub refused-answers : (reference proof : List ℕ) (paths : List (List ℕ)) (first : State) → begin_reference (first_state false) ≡ Ok first → (told : Option Files) (v : Verdict) → IfSome told (λ f. RefusesRun f reference FromReference first paths v) → IfSome told (λ f. Answers paths v (verdict f reference proof))
+refused-answers reference proof paths first begun None v h = tt
+refused-answers reference proof paths first begun (Some f) answer.Correct h = absurd h
+refused-answers reference proof paths first begun (Some f) answer.Incomplete h = absurd h
+refused-answers reference proof paths first begun (Some f) (answer.Loaded commands) h = absurd h
+refused-answers reference proof paths first begun (Some f) (answer.Refused fault) h = (h.0, verdict-reference f reference proof first begun h.0 h.1, h.2)
+refused-answers reference proof paths first begun (Some f) answer.ReadFault h = tt
+refused-answers reference proof paths first begun (Some f) answer.OutOfMemory h = tt

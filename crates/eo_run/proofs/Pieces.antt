@@ -17,7 +17,6 @@ use Rattle.eo_sexp.specs.Answering.{AnswersAlone, end_of}
 use Rattle.eo_run.specs.State.{State}
 use Rattle.eo_run.specs.Step.{Origin, FromProof, FromReference, is_in_proof, is_in_reference}
 use Rattle.eo_run.specs.Run.{commands_of, run_commands}
-use Rattle.eo_run.specs.Normal.{normal_result}
 use Rattle.eo_run.specs.Reading.{behind, Leads, Fails, IsFed, IsRead, Passes, StaysOpen, RunsOpen, RunsBytes, ChecksPiece, ChecksEnd}
 use Rattle.eo_run.specs.declared.reading.Stop.{Stop}
 use Rattle.eo_run.specs.declared.reading.Stop.TheVariants as stop
@@ -94,7 +93,7 @@ leads-later : (from : Origin) (old new : State) (c d : Collecting) (bytes p : Li
 leads-later from old new c d bytes p h =
     let same : (closes : Bool) (more : List ℕ) → behind c (bytes ++ p) closes more ≡ behind c bytes closes (p ++ more) = λ closes more. ap (rest_of limits closes c) (append_assoc bytes p more) in
     record {
-      runs = λ path closes more. ap (λ x. normal_result (run_commands path from x old)) (same closes more) ∙ h.runs path closes (p ++ more);
+      runs = λ path closes more. ap (λ x. run_commands path from x old) (same closes more) ∙ h.runs path closes (p ++ more);
       ends = λ closes more. ap end_of (same closes more) ∙ h.ends closes (p ++ more);
     }
 
@@ -174,7 +173,7 @@ fails-open law from old st new c left m p (Some file ∷ others) mid h e fits na
     let front : take left rest ≡ p ++ more = sym (take-append-drop m (take left rest)) ∙ ap (λ x. x ++ more) (take-take m left rest fits ∙ sym (e rest others h.passes.2)) in
     let closes : Bool = nat_le (length (h.bytes ++ rest)) limits.file in
     let reads = commands-of law from h.bytes rest left h.count p more front in
-    λ path. ap (λ x. normal_result (run_commands path from (commands_of w x) old)) h.passes.1 ∙ ap (λ x. normal_result (run_commands path from x old)) reads
+    λ path. ap (λ x. run_commands path from (commands_of w x) old) h.passes.1 ∙ ap (λ x. run_commands path from x old) reads
     ∙ (leads-fails from old st (behind start (h.bytes ++ p)) (behind c p) name at (leads-later from old st start c h.bytes p h.fed.leads) f).fails path closes more
 
 abbrev RunsBytesAlways : Origin → Stop → State → State → Type 0
@@ -207,7 +206,7 @@ long-open law from old st new c d left n buffer p (Some file ∷ others) mid aft
     let closes : nat_le (length (h.bytes ++ rest)) limits.file ≡ false = leb-false _ _ (omega (arith, h.count, length-append h.bytes rest, more, g)) in
     let reads : commands_of w file ≡ behind start (h.bytes ++ p) false [] = ap (commands_of w) h.passes.1 ∙ commands-of law from h.bytes rest left h.count p [] front ∙ ap (λ b. behind start (h.bytes ++ p) b []) closes in
     let leads = leads-trans from old st new (behind start (h.bytes ++ p)) (behind c p) (behind d []) (leads-later from old st start c h.bytes p h.fed.leads) k.leads in
-    λ path. ap (λ x. normal_result (run_commands path from x old)) reads ∙ leads.runs path false [] ∙ ap (λ x. normal_result (run_commands path from x new)) (law.long d k.live k.waiting ∙ ap (texts.Fails FileLong) (sym f))
+    λ path. ap (λ x. run_commands path from x old) reads ∙ leads.runs path false [] ∙ ap (λ x. run_commands path from x new) (law.long d k.live k.waiting ∙ ap (texts.Fails FileLong) (sym f))
 
 -- a file that ends
 module _ (law : ReadsInPieces limits) (alone : AnswersAlone limits) (from : Origin) (old st new : State) (c : Collecting) (file bytes rest : List ℕ) (left : ℕ)
@@ -236,10 +235,10 @@ module _ (law : ReadsInPieces limits) (alone : AnswersAlone limits) (from : Orig
   pub ends-file : (r : Result Spot Stop) → ChecksEnd from r st new c → RunsBytes from r old new file
   unfolding run_commands
   ends-file (Ok at) h = (
-    (λ path. ap (λ x. normal_result (run_commands path from x old)) read ∙ leads.runs path true [] ∙ h.runs path true []),
+    (λ path. ap (λ x. run_commands path from x old) read ∙ leads.runs path true [] ∙ h.runs path true []),
     alone.ends true proof file at (sym (ap end_of whole) ∙ ap end_of read ∙ leads.ends true [] ∙ h.ends true []),
   )
-  ends-file (Err (stop.Fault name at)) h = λ path. ap (λ x. normal_result (run_commands path from x old)) read ∙ leads.runs path true [] ∙ h.fails path true []
+  ends-file (Err (stop.Fault name at)) h = λ path. ap (λ x. run_commands path from x old) read ∙ leads.runs path true [] ∙ h.fails path true []
   ends-file (Err stop.ReadFault) h = tt
   ends-file (Err stop.Memory) h = tt
 

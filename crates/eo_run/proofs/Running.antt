@@ -2,7 +2,6 @@
 use Rattle.std.proofs.Common.{◌≡◌, refl, ℕ, Bool, List, sym, ap, ◌∙◌}
 use Rattle.std.specs.Prelude.{Ok, Err}
 use Rattle.eo_base.specs.declared.FaultName.{FaultName}
-use Rattle.eo_base.specs.Checks.{Checked}
 use Rattle.eo_sexp.specs.declared.Spot.{Spot}
 use Rattle.eo_sexp.specs.Texts.{Phase, Reads, Then, Ends, Placed}
 use Rattle.eo_sexp.specs.Texts as texts
@@ -10,45 +9,23 @@ use Rattle.eo_sexp.specs.Answering.{end_of}
 use Rattle.eo_run.specs.State.{State}
 use Rattle.eo_run.specs.Step.{Origin, step}
 use Rattle.eo_run.specs.Run.{Ran, ◌>>=◌, placed, refusal_at, run_commands}
-use Rattle.eo_run.specs.Normal.{normal, normal_result}
 use Rattle.eo_run.specs.Reading.{Continuation, Leads, Fails}
-use Rattle.eo_run.proofs.Normalizing.{normal-normal, step-normal}
 
--- ---- a run from a state and from its normal form
+-- ---- one command more
 
 module _ (path : List ℕ) (from : Origin) where
-  abbrev run : Reads → State → Ran
+  abbrev pub run : Reads → State → Ran
   run r st = run_commands path from r st
 
-  -- what a command leaves to be run
-  then-same : (at : Spot) (others : Reads) → ((st : State) → normal_result (run others st) ≡ normal_result (run others (normal st))) →
-      (m n : Checked State) → normal_result m ≡ normal_result n → normal_result (placed path at m >>= run others) ≡ normal_result (placed path at n >>= run others)
-  unfolding placed ◌>>=◌
-  then-same at others h (Ok x) (Ok y) e = let same : normal x ≡ normal y = cc in h x ∙ ap (λ z. normal_result (run others z)) same ∙ sym (h y)
-  then-same at others h (Ok x) (Err name) e = absurd cc
-  then-same at others h (Err name) (Ok y) e = absurd cc
-  then-same at others h (Err name) (Err other) e = let same : name ≡ other = cc in ap (λ n. Err (refusal_at path at n)) same
-
-  pub run-normal : (r : Reads) (st : State) → normal_result (run r st) ≡ normal_result (run r (normal st))
-  unfolding run_commands
-  run-normal (Ends at) st = ap (λ x. Ok x) (sym (normal-normal st))
-  run-normal (texts.Fails name at) st = refl
-  run-normal (Then k others) st = then-same k.start others (λ x. run-normal others x) (step st from k.sexp) (step (normal st) from k.sexp) (step-normal st from k.sexp)
-
   -- a command that is accepted
-  accepted : (at : Spot) (others : Reads) (m : Checked State) (new : State) → normal_result m ≡ Ok new → normal_result (placed path at m >>= run others) ≡ normal_result (run others new)
-  unfolding placed ◌>>=◌
-  accepted at others (Ok x) new e = let same : normal x ≡ new = cc in run-normal others x ∙ ap (λ z. normal_result (run others z)) same
-  accepted at others (Err name) new e = absurd cc
-
-  pub run-then : (k : Placed) (others : Reads) (st new : State) → normal_result (step st from k.sexp) ≡ Ok new → normal_result (run (Then k others) st) ≡ normal_result (run others new)
-  unfolding run_commands
-  run-then k others st new e = accepted k.start others (step st from k.sexp) new e
+  pub run-then : (k : Placed) (others : Reads) (st new : State) → step st from k.sexp ≡ Ok new → run (Then k others) st ≡ run others new
+  unfolding run_commands placed ◌>>=◌
+  run-then k others st new e = ap (λ m. placed path k.start m >>= run others) e
 
   -- a command that is refused
-  pub run-refused : (k : Placed) (others : Reads) (st : State) (name : FaultName) → step st from k.sexp ≡ Err name → normal_result (run (Then k others) st) ≡ Err (refusal_at path k.start name)
+  pub run-refused : (k : Placed) (others : Reads) (st : State) (name : FaultName) → step st from k.sexp ≡ Err name → run (Then k others) st ≡ Err (refusal_at path k.start name)
   unfolding run_commands placed ◌>>=◌
-  run-refused k others st name e = ap (λ m. normal_result (placed path k.start m >>= run others)) e
+  run-refused k others st name e = ap (λ m. placed path k.start m >>= run others) e
 
 -- ---- runs that lead on
 
@@ -64,19 +41,19 @@ module _ (from : Origin) where
 
   -- what is read is the same
   pub leads-same : (st : State) (r s : Continuation) → ((closes : Bool) (more : List ℕ) → r closes more ≡ s closes more) → Leads from st st r s
-  leads-same st r s e = record { runs = λ path closes more. ap (λ x. normal_result (run_commands path from x st)) (e closes more); ends = λ closes more. ap end_of (e closes more) }
+  leads-same st r s e = record { runs = λ path closes more. ap (λ x. run_commands path from x st) (e closes more); ends = λ closes more. ap end_of (e closes more) }
 
   -- a command comes first, and is accepted
   pub leads-command : (old new : State) (r s : Continuation) (k : Placed) → ((closes : Bool) (more : List ℕ) → r closes more ≡ Then k (s closes more)) →
-      normal_result (step old from k.sexp) ≡ Ok new → Leads from old new r s
+      step old from k.sexp ≡ Ok new → Leads from old new r s
   leads-command old new r s k e h =
-      record { runs = λ path closes more. ap (λ x. normal_result (run_commands path from x old)) (e closes more) ∙ run-then path from k (s closes more) old new h; ends = λ closes more. ap end_of (e closes more) }
+      record { runs = λ path closes more. ap (λ x. run_commands path from x old) (e closes more) ∙ run-then path from k (s closes more) old new h; ends = λ closes more. ap end_of (e closes more) }
 
   pub fails-command : (old : State) (r s : Continuation) (k : Placed) (name : FaultName) → ((closes : Bool) (more : List ℕ) → r closes more ≡ Then k (s closes more)) →
       step old from k.sexp ≡ Err name → Fails from old r name k.start
   fails-command old r s k name e h =
-      record { fails = λ path closes more. ap (λ x. normal_result (run_commands path from x old)) (e closes more) ∙ run-refused path from k (s closes more) old name h }
+      record { fails = λ path closes more. ap (λ x. run_commands path from x old) (e closes more) ∙ run-refused path from k (s closes more) old name h }
 
   pub fails-fault : (old : State) (r : Continuation) (name : FaultName) (at : Spot) → ((closes : Bool) (more : List ℕ) → r closes more ≡ texts.Fails name at) → Fails from old r name at
   unfolding run_commands
-  fails-fault old r name at e = record { fails = λ path closes more. ap (λ x. normal_result (run_commands path from x old)) (e closes more) }
+  fails-fault old r name at e = record { fails = λ path closes more. ap (λ x. run_commands path from x old) (e closes more) }

@@ -1,150 +1,191 @@
--- What a session keeps of a state, and what a command does with it.
-use Rattle.std.proofs.Common.{◌≡◌, refl, ℕ, Bool, true, false, not, cond, List, [], ◌∷◌, ◌++◌, sym, ap, ◌∙◌}
-use Rattle.std.specs.Prelude.{Option, Some, None, is_some, option_and_then, Ok, Err, bytes_eq, codes, if◌then◌else◌, ◌||◌}
+-- What each command does to a state.
+use Rattle.std.proofs.Common.{◌≡◌, refl, ℕ, Bool, true, false, not, List, [], sym, ap, subst, ◌∙◌, true≢false}
+use Rattle.std.specs.Prelude.{◌≢◌, Option, Some, None, option_and_then, Result, Ok, Err, IfErr, bytes_eq, codes, if◌then◌else◌, ◌&&◌}
+use Rattle.std.specs.Result.{IsErrAnd}
 use Rattle.eo_base.specs.declared.FaultName.{FaultName}
-use Rattle.eo_base.specs.declared.FaultName.TheVariants.{Redeclared, UnknownSymbol, NotAsserted, NoRefutation}
-use Rattle.eo_base.specs.Checks.{Checked, ◌>>=◌, require, value_or}
+use Rattle.eo_base.specs.declared.FaultName.TheVariants.{Redeclared, IllTyped, NotBool, Stuck, UnknownSymbol, NotAsserted, NoReference, NoRefutation, SecondReference, NumberRange, TermHeight, FileAbsent}
+use Rattle.eo_base.specs.Checks.{Checked, Passed, ◌>>=◌, require, value_or}
 use Rattle.eo_sexp.specs.Sexp.{Sexp}
-use Rattle.std.specs.Map.{lookup}
-use Rattle.std.proofs.lemmas.List.{map-append}
-use Rattle.eo_run.specs.Shapes.{Command, Assume, Assert, symbol_of, command_of}
-use Rattle.eo_run.proofs.Shaping.{bytes_eq-swap}
-use Rattle.eo_run.specs.State.{State, Fact, is_asserted, is_live, has_false, end_fault}
-use Rattle.eo_run.specs.Normal.{truths, normal, normal_result, facts_of}
-use Rattle.eo_run.specs.Step.{Origin, is_in_reference, truth_of, formula, assume, assert, by_command, step}
+use Rattle.eo_shape.specs.Words.{symbol_of}
+use Rattle.eo_shape.specs.Shapes.{Command, command_of}
+use Rattle.eo_term.specs.Tree.{Tree, bool_tree, truth, is_value, tree_eq}
+use Rattle.eo_type.specs.Types.{TypeOutcome, Typed, Untyped, TypeRange, TypeTall, on_typed, typed_if, type_of, value_type}
+use Rattle.eo_term.specs.Terms.{tree_at}
+use Rattle.eo_elab.specs.Meaning.{meaning}
+use Rattle.eo_elab.specs.Names.{read_locals}
+use Rattle.eo_elab.specs.declared.locals.LocalName.{LocalName}
+use Rattle.eo_elab.specs.declared.refused.ElabRefused.{ElabRefused}
+use Rattle.eo_elab.specs.declared.refused.ElabRefused.TheVariants as elab
+use Rattle.eo_elab.specs.Refused.{is_memory, fault_of}
+use Rattle.eo_run.specs.declared.held.Held.{Held}
+use Rattle.eo_run.specs.declared.refused.Refused.{Refused}
+use Rattle.eo_run.specs.declared.refused.Refused.TheVariants as refused
+use Rattle.eo_type.specs.Outcomes.{Answers}
+use Rattle.eo_type.specs.declared.refused.TypeRefused.{TypeRefused}
+use Rattle.eo_type.specs.declared.refused.TypeRefused.TheVariants as kind
+use Rattle.eo_run.specs.Stepping.{of_elab, of_type, Refuses, Does}
+use Rattle.eo_run.specs.State.{State, context, with_assertion, with_fact, with_command, is_asserted, has_false, begin_reference, end_fault}
+use Rattle.eo_run.specs.Step.{Origin, is_in_reference, is_free_fact, truth_of, asserted_truth, evaluated, value, typed_or, typed, formula, assume, assert, by_command, uncounted, step}
 
--- ---- formulas
+-- ---- the formulas of a reference file
 
 module _ (s : Sexp) where
   abbrev by_word : Option (List ℕ) → Checked Bool
   by_word word = value_or UnknownSymbol (option_and_then truth_of word)
 
-  pub formula-none : symbol_of s ≡ None → Err UnknownSymbol ≡ formula s
-  unfolding formula value_or
-  formula-none e = sym (ap by_word e)
+  pub truth-none : symbol_of s ≡ None → Err UnknownSymbol ≡ asserted_truth s
+  unfolding asserted_truth value_or
+  truth-none e = sym (ap by_word e)
 
   module _ (w : List ℕ) (e : symbol_of s ≡ Some w) where
     abbrev by_tests : Bool → Bool → Checked Bool
     by_tests t f = value_or UnknownSymbol (if t then Some true else (if f then Some false else None))
 
-    pub formula-true : bytes_eq w (codes "true") ≡ true → Ok true ≡ formula s
-    unfolding formula value_or
-    formula-true t = sym (ap by_word e ∙ ap (λ b. by_tests b (bytes_eq w (codes "false"))) t)
+    pub truth-true : bytes_eq w (codes "true") ≡ true → Ok true ≡ asserted_truth s
+    unfolding asserted_truth value_or
+    truth-true t = sym (ap by_word e ∙ ap (λ b. by_tests b (bytes_eq w (codes "false"))) t)
 
-    pub formula-false : bytes_eq w (codes "true") ≡ false → bytes_eq w (codes "false") ≡ true → Ok false ≡ formula s
-    unfolding formula value_or
-    formula-false t f = sym (ap by_word e ∙ ap (λ b. by_tests b (bytes_eq w (codes "false"))) t ∙ ap (by_tests false) f)
+    pub truth-false : bytes_eq w (codes "true") ≡ false → bytes_eq w (codes "false") ≡ true → Ok false ≡ asserted_truth s
+    unfolding asserted_truth value_or
+    truth-false t f = sym (ap by_word e ∙ ap (λ b. by_tests b (bytes_eq w (codes "false"))) t ∙ ap (by_tests false) f)
 
-    pub formula-other : bytes_eq w (codes "true") ≡ false → bytes_eq w (codes "false") ≡ false → Err UnknownSymbol ≡ formula s
-    unfolding formula value_or
-    formula-other t f = sym (ap by_word e ∙ ap (λ b. by_tests b (bytes_eq w (codes "false"))) t ∙ ap (by_tests false) f)
+    pub truth-other : bytes_eq w (codes "true") ≡ false → bytes_eq w (codes "false") ≡ false → Err UnknownSymbol ≡ asserted_truth s
+    unfolding asserted_truth value_or
+    truth-other t f = sym (ap by_word e ∙ ap (λ b. by_tests b (bytes_eq w (codes "false"))) t ∙ ap (by_tests false) f)
 
 pub same_literal : (w word literal : List ℕ) (r b : Bool) → r ≡ bytes_eq w literal → literal ≡ word → r ≡ b → bytes_eq w word ≡ b
 same_literal w word literal r b e same t = ap (bytes_eq w) (sym same) ∙ sym e ∙ t
 
--- ---- assertions
-
-pub asserted-truths : (t f : Bool) (facts : List Fact) (v : Bool) → is_asserted (record { assertions = truths t f; facts = facts }) v ≡ (if v then t else f)
-asserted-truths true true facts true = refl
-asserted-truths true true facts false = refl
-asserted-truths true false facts true = refl
-asserted-truths true false facts false = refl
-asserted-truths false true facts true = refl
-asserted-truths false true facts false = refl
-asserted-truths false false facts true = refl
-asserted-truths false false facts false = refl
-
-pub normal-truths : (t f : Bool) (facts : List Fact) → normal (record { assertions = truths t f; facts = facts }) ≡ record { assertions = truths t f; facts = facts }
-normal-truths true true facts = refl
-normal-truths true false facts = refl
-normal-truths false true facts = refl
-normal-truths false false facts = refl
-
-assert-true : (t f : Bool) (facts : List Fact) → normal (record { assertions = truths t f ++ true ∷ []; facts = facts }) ≡ record { assertions = truths true f; facts = facts }
-assert-true true true facts = refl
-assert-true true false facts = refl
-assert-true false true facts = refl
-assert-true false false facts = refl
-
-assert-false : (t f : Bool) (facts : List Fact) → normal (record { assertions = truths t f ++ false ∷ []; facts = facts }) ≡ record { assertions = truths t true; facts = facts }
-assert-false true true facts = refl
-assert-false true false facts = refl
-assert-false false true facts = refl
-assert-false false false facts = refl
-
 module _ (st : State) (s : Sexp) where
   abbrev asserted_by : Checked Bool → Checked State
-  asserted_by m = m >>= λ v. Ok (record st { assertions = st.assertions ++ v ∷ [] })
+  asserted_by m = m >>= λ b. Ok (with_assertion st (truth b))
 
-  pub assert-fault : (name : FaultName) → Err name ≡ formula s → assert st s ≡ Err name
+  pub assert-fault : (name : FaultName) → asserted_truth s ≡ Err name → assert st s ≡ Err name
   unfolding assert ◌>>=◌
-  assert-fault name e = ap asserted_by (sym e)
+  assert-fault name e = ap asserted_by e
 
-  pub assert-ok : (v : Bool) → Ok v ≡ formula s → assert st s ≡ Ok (record st { assertions = st.assertions ++ v ∷ [] })
+  pub assert-ok : (b : Bool) → asserted_truth s ≡ Ok b → assert st s ≡ Ok (with_assertion st (truth b))
   unfolding assert ◌>>=◌
-  assert-ok v e = ap asserted_by (sym e)
+  assert-ok b e = ap asserted_by e
 
--- what an assertion leaves of a session
-pub asserts-true : (st : State) (s : Sexp) (t f : Bool) (facts : List Fact) → st ≡ record { assertions = truths t f; facts = facts } → Ok true ≡ formula s →
-    normal_result (assert st s) ≡ Ok (record { assertions = truths true f; facts = facts })
-asserts-true st s t f facts e h =
-    ap normal_result (assert-ok st s true h) ∙ ap (λ (x : State). normal_result {E = FaultName} (Ok (record x { assertions = x.assertions ++ true ∷ [] }))) e ∙ ap (λ x. Ok x) (assert-true t f facts)
+-- ---- values
 
-pub asserts-false : (st : State) (s : Sexp) (t f : Bool) (facts : List Fact) → st ≡ record { assertions = truths t f; facts = facts } → Ok false ≡ formula s →
-    normal_result (assert st s) ≡ Ok (record { assertions = truths t true; facts = facts })
-asserts-false st s t f facts e h =
-    ap normal_result (assert-ok st s false h) ∙ ap (λ (x : State). normal_result {E = FaultName} (Ok (record x { assertions = x.assertions ++ false ∷ [] }))) e ∙ ap (λ x. Ok x) (assert-false t f facts)
+module _ (st : State) (s : Sexp) where
+  pub value-fault : (name : FaultName) → meaning (context st) [] s ≡ Err name → value st s ≡ Err name
+  unfolding value ◌>>=◌
+  value-fault name e = ap (λ m. m >>= evaluated) e
+
+  abbrev tested : Tree → Bool → Checked Tree
+  tested t b = require b Stuck >>= λ _. Ok t
+
+  pub value-stuck : (t : Tree) → meaning (context st) [] s ≡ Ok t → is_value t ≡ false → value st s ≡ Err Stuck
+  unfolding value ◌>>=◌ require
+  value-stuck t e h = ap (λ m. m >>= evaluated) e ∙ ap (tested t) h
+
+  pub value-ok : (t : Tree) → meaning (context st) [] s ≡ Ok t → is_value t ≡ true → value st s ≡ Ok t
+  unfolding value ◌>>=◌ require
+  value-ok t e h = ap (λ m. m >>= evaluated) e ∙ ap (tested t) h
+
+-- ---- formulas
+
+module _ (st : State) (s : Sexp) where
+  abbrev by_kind : Tree → Checked Tree → Checked Tree
+  by_kind v m = m >>= λ k. require (tree_eq k bool_tree) NotBool >>= λ _. Ok v
+
+  abbrev by_test : Tree → Bool → Checked Tree
+  by_test v b = require b NotBool >>= λ _. Ok v
+
+  pub formula-value : (name : FaultName) → value st s ≡ Err name → formula st s ≡ Err name
+  unfolding formula ◌>>=◌
+  formula-value name e = ap (λ m. m >>= λ v. by_kind v (typed st v)) e
+
+  pub formula-kind : (v : Tree) (name : FaultName) → value st s ≡ Ok v → typed st v ≡ Err name → formula st s ≡ Err name
+  unfolding formula ◌>>=◌
+  formula-kind v name e h = ap (λ m. m >>= λ v. by_kind v (typed st v)) e ∙ ap (by_kind v) h
+
+  pub formula-not_bool : (v k : Tree) → value st s ≡ Ok v → typed st v ≡ Ok k → tree_eq k bool_tree ≡ false → formula st s ≡ Err NotBool
+  unfolding formula ◌>>=◌ require
+  formula-not_bool v k e h t = ap (λ m. m >>= λ v. by_kind v (typed st v)) e ∙ ap (by_kind v) h ∙ ap (by_test v) t
+
+  pub formula-ok : (v k : Tree) → value st s ≡ Ok v → typed st v ≡ Ok k → tree_eq k bool_tree ≡ true → formula st s ≡ Ok v
+  unfolding formula ◌>>=◌ require
+  formula-ok v k e h t = ap (λ m. m >>= λ v. by_kind v (typed st v)) e ∙ ap (by_kind v) h ∙ ap (by_test v) t
+
+-- ---- types
+
+module _ (st : State) (v : Tree) where
+  abbrev by_type : TypeOutcome Tree → Checked Tree
+  by_type o = typed_or (on_typed o (λ u. typed_if (is_value u) u))
+
+  abbrev as_value : Tree → Bool → Checked Tree
+  as_value u b = typed_or (typed_if b u)
+
+  pub typed-none : type_of st.signature v ≡ Untyped → typed st v ≡ Err IllTyped
+  unfolding typed
+  typed-none e = ap by_type e
+
+  pub typed-range : type_of st.signature v ≡ TypeRange → typed st v ≡ Err NumberRange
+  unfolding typed
+  typed-range e = ap by_type e
+
+  pub typed-tall : type_of st.signature v ≡ TypeTall → typed st v ≡ Err TermHeight
+  unfolding typed
+  typed-tall e = ap by_type e
+
+  pub typed-open : (u : Tree) → type_of st.signature v ≡ Typed u → is_value u ≡ false → typed st v ≡ Err IllTyped
+  unfolding typed
+  typed-open u e h = ap by_type e ∙ ap (λ b. typed_or (if b then Typed u else Untyped)) h
+
+  pub typed-ok : (u : Tree) → type_of st.signature v ≡ Typed u → is_value u ≡ true → typed st v ≡ Ok u
+  unfolding typed
+  typed-ok u e h = ap by_type e ∙ ap (λ b. typed_or (if b then Typed u else Untyped)) h
+
+-- where there are no local names
+pub no_locals : (st : State) (s : Sexp) (ts : List Tree) (ls : List LocalName) → ls ≡ [] → (m : Checked Tree) → meaning (context st) (read_locals ts ls) s ≡ m → meaning (context st) [] s ≡ m
+no_locals st s ts ls e m h = sym (ap (λ xs. meaning (context st) (read_locals ts xs) s) e) ∙ h
+
+-- ---- names of facts
+
+pub not_taken : (a b : Bool) → (not a && not b) ≡ true → (a ≡ false) × (b ≡ false)
+not_taken false false e = (refl, refl)
+not_taken false true e = absurd (true≢false (sym e))
+not_taken true b e = absurd (true≢false (sym e))
 
 -- ---- assumptions
 
 module _ (st : State) (name : List ℕ) (s : Sexp) where
-  abbrev after_name : Checked Bool → Checked State
-  after_name m = m >>= λ v. require (is_asserted st v) NotAsserted >>= λ _. Ok (record st { facts = st.facts ++ record { name = name; formula = v } ∷ [] })
+  abbrev after_test : Tree → Bool → Checked State
+  after_test v b = require b NotAsserted >>= λ _. Ok (with_fact st name v)
 
-  abbrev by_live : Bool → Checked State
-  by_live live = require (not live) Redeclared >>= λ _. after_name (formula s)
+  abbrev after_reference : Tree → Bool → Checked State
+  after_reference v b = require b NoReference >>= λ _. after_test v (is_asserted st v)
 
-  abbrev by_asserted : Bool → Bool → Checked State
-  by_asserted v b = require b NotAsserted >>= λ _. Ok (record st { facts = st.facts ++ record { name = name; formula = v } ∷ [] })
+  abbrev after_formula : Checked Tree → Checked State
+  after_formula m = m >>= λ v. after_reference v st.has_reference
 
-  pub assume-redeclared : is_live st.facts name ≡ true → assume st name s ≡ Err Redeclared
+  abbrev by_free : Bool → Checked State
+  by_free b = require b Redeclared >>= λ _. after_formula (formula st s)
+
+  pub assume-redeclared : is_free_fact st name ≡ false → assume st name s ≡ Err Redeclared
   unfolding assume ◌>>=◌ require
-  assume-redeclared e = ap by_live e
+  assume-redeclared e = ap by_free e
 
-  pub assume-fault : (fault : FaultName) → is_live st.facts name ≡ false → Err fault ≡ formula s → assume st name s ≡ Err fault
-  unfolding assume ◌>>=◌ require
-  assume-fault fault e h = ap by_live e ∙ ap after_name (sym h)
+  module _ (free : is_free_fact st name ≡ true) where
+    pub assume-fault : (fault : FaultName) → formula st s ≡ Err fault → assume st name s ≡ Err fault
+    unfolding assume ◌>>=◌ require
+    assume-fault fault h = ap by_free free ∙ ap after_formula h
 
-  pub assume-not_asserted : (v : Bool) → is_live st.facts name ≡ false → Ok v ≡ formula s → is_asserted st v ≡ false → assume st name s ≡ Err NotAsserted
-  unfolding assume ◌>>=◌ require
-  assume-not_asserted v e h n = ap by_live e ∙ ap after_name (sym h) ∙ ap (by_asserted v) n
+    pub assume-no_reference : (v : Tree) → formula st s ≡ Ok v → st.has_reference ≡ false → assume st name s ≡ Err NoReference
+    unfolding assume ◌>>=◌ require
+    assume-no_reference v h r = ap by_free free ∙ ap after_formula h ∙ ap (after_reference v) r
 
-  pub assume-ok : (v : Bool) → is_live st.facts name ≡ false → Ok v ≡ formula s → is_asserted st v ≡ true → assume st name s ≡ Ok (record st { facts = st.facts ++ record { name = name; formula = v } ∷ [] })
-  unfolding assume ◌>>=◌ require
-  assume-ok v e h n = ap by_live e ∙ ap after_name (sym h) ∙ ap (by_asserted v) n
+    pub assume-not_asserted : (v : Tree) → formula st s ≡ Ok v → st.has_reference ≡ true → is_asserted st v ≡ false → assume st name s ≡ Err NotAsserted
+    unfolding assume ◌>>=◌ require
+    assume-not_asserted v h r a = ap by_free free ∙ ap after_formula h ∙ ap (after_reference v) r ∙ ap (after_test v) a
 
--- what an assumption leaves of a session
-pub assumes : (st : State) (name : List ℕ) (s : Sexp) (t f : Bool) (facts more : List Fact) (v : Bool) → st ≡ record { assertions = truths t f; facts = facts } →
-    is_live st.facts name ≡ false → Ok v ≡ formula s → is_asserted st v ≡ true → more ≡ facts ++ record { name = name; formula = v } ∷ [] →
-    normal_result (assume st name s) ≡ Ok (record { assertions = truths t f; facts = more })
-assumes st name s t f facts more v e free h a m =
-    ap normal_result (assume-ok st name s v free h a)
-    ∙ ap (λ (x : State). normal_result {E = FaultName} (Ok (record x { facts = x.facts ++ record { name = name; formula = v } ∷ [] }))) e
-    ∙ ap (λ x. Ok x) (normal-truths t f (facts ++ record { name = name; formula = v } ∷ []))
-    ∙ ap (λ fs. Ok (record { assertions = truths t f; facts = fs })) (sym m)
-
--- ---- the end
-
-abbrev by_false : Bool → Option FaultName
-by_false b = if b then None else Some NoRefutation
-
-pub end-refuted : (st : State) (b : Bool) → b ≡ has_false st.facts → b ≡ true → None ≡ end_fault st
-unfolding end_fault
-end-refuted st b e t = ap by_false (sym t ∙ e)
-
-pub end-unrefuted : (st : State) (b : Bool) → b ≡ has_false st.facts → b ≡ false → Some NoRefutation ≡ end_fault st
-unfolding end_fault
-end-unrefuted st b e t = ap by_false (sym t ∙ e)
+    pub assume-ok : (v : Tree) → formula st s ≡ Ok v → st.has_reference ≡ true → is_asserted st v ≡ true → assume st name s ≡ Ok (with_fact st name v)
+    unfolding assume ◌>>=◌ require
+    assume-ok v h r a = ap by_free free ∙ ap after_formula h ∙ ap (after_reference v) r ∙ ap (after_test v) a
 
 -- ---- each command
 
@@ -152,52 +193,105 @@ module _ (st : State) (from : Origin) (s : Sexp) (b : Bool) (e : b ≡ is_in_ref
   abbrev by_shape : Checked Command → Checked State
   by_shape m = m >>= by_command st
 
-  pub step-fault : (name : FaultName) → command_of b s ≡ Err name → step st from s ≡ Err name
+  shaped : (m : Checked Command) → command_of b s ≡ m → uncounted st from s ≡ by_shape m
+  unfolding uncounted
+  shaped m h = ap (λ r. by_shape (command_of r s)) (sym e) ∙ ap by_shape h
+
+  pub shape-fault : (name : FaultName) → command_of b s ≡ Err name → uncounted st from s ≡ Err name
+  unfolding ◌>>=◌
+  shape-fault name h = shaped (Err name) h
+
+  pub shape-ok : (k : Command) → command_of b s ≡ Ok k → uncounted st from s ≡ by_command st k
+  unfolding ◌>>=◌
+  shape-ok k h = shaped (Ok k) h
+
+module _ (st : State) (from : Origin) (s : Sexp) where
+  pub step-fault : (name : FaultName) → uncounted st from s ≡ Err name → step st from s ≡ Err name
   unfolding step ◌>>=◌
-  step-fault name h = ap (λ r. by_shape (command_of r s)) (sym e) ∙ ap by_shape h
+  step-fault name h = ap (λ m. m >>= λ new. Ok (with_command new)) h
 
-  pub step-assume : (name : List ℕ) (f : Sexp) → command_of b s ≡ Ok (Assume name f) → assume st name f ≡ step st from s
-  unfolding step ◌>>=◌ by_command
-  step-assume name f h = sym (ap (λ r. by_shape (command_of r s)) (sym e) ∙ ap by_shape h)
+  pub step-ok : (new : State) → uncounted st from s ≡ Ok new → step st from s ≡ Ok (with_command new)
+  unfolding step ◌>>=◌
+  step-ok new h = ap (λ m. m >>= λ new. Ok (with_command new)) h
 
-  pub step-assert : (f : Sexp) → command_of b s ≡ Ok (Assert f) → assert st f ≡ step st from s
-  unfolding step ◌>>=◌ by_command
-  step-assert f h = sym (ap (λ r. by_shape (command_of r s)) (sym e) ∙ ap by_shape h)
+-- ---- refusals
 
--- ---- tables of names
-
-pub none_from : {X : Type 0} (o : Option X) → is_some o ≡ false → o ≡ None
-none_from None e = refl
-none_from (Some x) e = absurd cc
-
-module _ {V : Type 0} (items : V → List ℕ) where
-  -- a name that is looked up in the table is that of a fact
-  pub live-lookup : (name : List ℕ) (es : List (V × Bool)) → is_some (lookup (λ k. bytes_eq name (items k)) es) ≡ is_live (facts_of items es) name
-  live-lookup name [] = refl
-  live-lookup name (e ∷ es) =
-      ap (λ b. is_some (cond b (Some e.1) (lookup (λ k. bytes_eq name (items k)) es))) (bytes_eq-swap name (items e.0)) ∙ by (bytes_eq (items e.0) name) (live-lookup name es)
-    where
-      by : (b : Bool) → is_some (lookup (λ k. bytes_eq name (items k)) es) ≡ is_live (facts_of items es) name → is_some (cond b (Some e.1) (lookup (λ k. bytes_eq name (items k)) es)) ≡ (b || is_live (facts_of items es) name)
-      by true h = refl
-      by false h = h
-
-  pub facts_of-push : (es more : List (V × Bool)) (key : V) (v : Bool) (name : List ℕ) → more ≡ es ++ (key, v) ∷ [] → items key ≡ name →
-      facts_of items more ≡ facts_of items es ++ record { name = name; formula = v } ∷ []
-  facts_of-push es more key v name e h =
-      ap (facts_of items) e ∙ map-append (λ (e : V × Bool). let f : Fact = record { name = items e.0; formula = e.1 } in f) es ((key, v) ∷ [])
-      ∙ ap (λ n. facts_of items es ++ record { name = n; formula = v } ∷ []) h
-
-has_false-push : (facts : List Fact) (f : Fact) → has_false (facts ++ f ∷ []) ≡ (has_false facts || not f.formula)
-has_false-push [] f = by (not f.formula)
+pub refuses-elab : {A B : Type 0} (m : Checked B) (r : Result A Refused) (x : ElabRefused) → IsErrAnd r (λ e. e ≡ of_elab x) → (is_memory x ≡ false → m ≡ Err (fault_of x)) → IfErr r (Refuses m)
+refuses-elab m (Ok y) x e h = tt
+refuses-elab m (Err y) x e h = subst (Refuses m) (sym e) (by x h)
   where
-    by : (b : Bool) → (b || false) ≡ (false || b)
-    by true = refl
-    by false = refl
-has_false-push (g ∷ facts) f = ap (λ b. not g.formula || b) (has_false-push facts f) ∙ by (not g.formula)
-  where
-    by : (b : Bool) → (b || (has_false facts || not f.formula)) ≡ ((b || has_false facts) || not f.formula)
-    by true = refl
-    by false = refl
+    by : (x : ElabRefused) → (is_memory x ≡ false → m ≡ Err (fault_of x)) → Refuses m (of_elab x)
+    by elab.BadLiteral h = (h refl, λ q. absurd cc)
+    by elab.BadCommand h = (h refl, λ q. absurd cc)
+    by elab.Redeclared h = (h refl, λ q. absurd cc)
+    by elab.UnknownSymbol h = (h refl, λ q. absurd cc)
+    by elab.BadArity h = (h refl, λ q. absurd cc)
+    by elab.Tall h = (h refl, λ q. absurd cc)
+    by elab.Parameters h = (h refl, λ q. absurd cc)
+    by elab.BadPattern h = (h refl, λ q. absurd cc)
+    by (elab.Memory e) h = tt
 
-pub refutes-push : (facts more : List Fact) (name : List ℕ) (v r : Bool) → r ≡ has_false facts → more ≡ facts ++ record { name = name; formula = v } ∷ [] → (r || not v) ≡ has_false more
-refutes-push facts more name v r e m = ap (λ b. b || not v) e ∙ sym (has_false-push facts (record { name = name; formula = v })) ∙ ap has_false (sym m)
+-- a refusal that is passed on, of what leads to the same fault
+pub refuses-on : {A B C : Type 0} (m : Checked B) (n : Checked C) (r : Result A Refused) (x : Refused) → IsErrAnd r (λ e. e ≡ x) → Refuses m x → ((name : FaultName) → m ≡ Err name → n ≡ Err name) → IfErr r (Refuses n)
+refuses-on m n (Ok y) x e h f = tt
+refuses-on m n (Err y) x e h f = subst (Refuses n) (sym e) (by x h)
+  where
+    by : (x : Refused) → Refuses m x → Refuses n x
+    by (refused.Fault name) h = (f name h.0, h.1)
+    by refused.Ended h = h
+    by (refused.Memory e) h = tt
+
+-- what is answered for a refusal says so of the whole
+pub does-refused : (m : Checked State) (r : Result (Unit {0}) Refused) (new : Held) (x : Refused) → IsErrAnd r (λ e. e ≡ x) → IfErr r (Refuses m) → Does r m new
+does-refused m (Ok y) new x e h = absurd e
+does-refused m (Err y) new x e h = h
+
+-- a fault that is answered is that of the definition
+pub does-fault : (m : Checked State) (r : Result (Unit {0}) Refused) (new : Held) (name : FaultName) → m ≡ Err name → name ≢ FileAbsent → IsErrAnd r (λ e. e ≡ refused.Fault name) → Does r m new
+does-fault m (Ok y) new name h n e = absurd e
+does-fault m (Err y) new name h n e = subst (Refuses m) (sym e) (h, n)
+
+-- ---- the reference file, and the end
+
+module _ (st : State) where
+  abbrev by_reference : Bool → Checked State
+  by_reference b = if b then Err SecondReference else Ok (record st { has_reference = true })
+
+  pub begin-second : st.has_reference ≡ true → begin_reference st ≡ Err SecondReference
+  unfolding begin_reference
+  begin-second e = ap by_reference e
+
+  pub begin-ok : st.has_reference ≡ false → begin_reference st ≡ Ok (record st { has_reference = true })
+  unfolding begin_reference
+  begin-ok e = ap by_reference e
+
+  abbrev by_end : Bool → Bool → Option FaultName
+  by_end r f = if not r then Some NoReference else (if not f then Some NoRefutation else None)
+
+  pub end-no_reference : st.has_reference ≡ false → end_fault st ≡ Some NoReference
+  unfolding end_fault
+  end-no_reference e = ap (λ r. by_end r (has_false st.facts)) e
+
+  pub end-no_refutation : st.has_reference ≡ true → has_false st.facts ≡ false → end_fault st ≡ Some NoRefutation
+  unfolding end_fault
+  end-no_refutation e f = ap (λ r. by_end r (has_false st.facts)) e ∙ ap (by_end true) f
+
+  pub end-correct : st.has_reference ≡ true → has_false st.facts ≡ true → end_fault st ≡ None
+  unfolding end_fault
+  end-correct e f = ap (λ r. by_end r (has_false st.facts)) e ∙ ap (by_end true) f
+
+-- a type that is not found
+pub refuses-type : {A : Type 0} (st : State) (v : Tree) (ts : List Tree) (r : Result A Refused) (x : TypeRefused) → IsErrAnd r (λ e. e ≡ of_type x) → Answers ts (Err x) (type_of st.signature v) → IfErr r (Refuses (typed st v))
+refuses-type st v ts (Ok y) x e h = tt
+refuses-type st v ts (Err y) x e h = subst (Refuses (typed st v)) (sym e) (by x h)
+  where
+    by : (x : TypeRefused) → Answers ts (Err x) (type_of st.signature v) → Refuses (typed st v) (of_type x)
+    by kind.NumberRange h = (typed-range st v h, λ q. absurd cc)
+    by kind.Tall h = (typed-tall st v h, λ q. absurd cc)
+    by (kind.Memory e) h = tt
+
+pub outcome-none : (ts : List Tree) (o : Option ℕ) (m : TypeOutcome Tree) → o ≡ None → Answers ts (Ok o) m → m ≡ Untyped
+outcome-none ts o m e h = subst (λ (x : Option ℕ). Answers ts (Ok x) m) e h
+
+pub outcome-some : (ts : List Tree) (o : Option ℕ) (m : TypeOutcome Tree) (u : ℕ) → o ≡ Some u → Answers ts (Ok o) m → m ≡ Typed (tree_at ts u)
+outcome-some ts o m u e h = subst (λ (x : Option ℕ). Answers ts (Ok x) m) e h

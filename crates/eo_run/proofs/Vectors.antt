@@ -104,7 +104,7 @@ unknown_symbol : Prints (line (codes "(assert true)")) (codes "(assume a zz)") (
 unfolding computed
 unknown_symbol = refl
 
-literal_formula : Prints (line (codes "(assert true)")) (codes "(assume a \"true\")") (codes "refused F13 UnknownSymbol p.eo:1:0")
+literal_formula : Prints (line (codes "(assert true)")) (codes "(assume a \"true\")") (codes "refused F15 IllTyped p.eo:1:0")
 unfolding computed
 literal_formula = refl
 
@@ -129,3 +129,81 @@ absent = refl
 absent_reference : verdict_text (verdict [] (codes "r.smt2") (codes "p.eo")) ≡ line (codes "refused F35 FileAbsent r.smt2:1:0")
 unfolding computed
 absent_reference = refl
+
+-- ---- declarations
+
+abbrev Refuses : (proof text : List ℕ) → Type 0
+Refuses proof text = Prints (line (codes "(assert true)")) proof text
+
+declared_twice : Refuses (codes "(declare-const p Bool)(declare-const p Bool)") (codes "refused F12 Redeclared p.eo:1:22")
+unfolding computed
+declared_twice = refl
+
+open_terminator : Refuses (codes "(declare-const and (-> Bool Bool Bool) :right-assoc-nil (eo::not true))") (codes "refused F22 BadPattern p.eo:1:0")
+unfolding computed
+open_terminator = refl
+
+implicit_nowhere : Refuses (codes "(declare-parameterized-const k ((T Type :implicit)) Bool)") (codes "refused F21 UnboundParam p.eo:1:0")
+unfolding computed
+implicit_nowhere = refl
+
+macro_of_itself : Refuses (codes "(define d () (d))") (codes "refused F14 BadArity p.eo:1:0")
+unfolding computed
+macro_of_itself = refl
+
+reserved_name : Refuses (codes "(declare-const let Bool)") (codes "refused F12 Redeclared p.eo:1:0")
+unfolding computed
+reserved_name = refl
+
+reserved_fact : Refuses (codes "(assume let true)") (codes "refused F12 Redeclared p.eo:1:0")
+unfolding computed
+reserved_fact = refl
+
+open_type : Refuses (codes "(declare-const p (eo::ite true Bool Bool))") (codes "refused F16 Stuck p.eo:1:0")
+unfolding computed
+open_type = refl
+
+class_twice : Refuses (codes "(declare-consts <numeral> Bool)(declare-consts <numeral> (zz))") (codes "refused F12 Redeclared p.eo:1:31")
+unfolding computed
+class_twice = refl
+
+-- a term with an operator has no value
+operator_formula : Refuses (codes "(assume a (eo::not false))") (codes "refused F16 Stuck p.eo:1:0")
+unfolding computed
+operator_formula = refl
+
+-- a term is not asserted where another one is
+other_formula : Refuses (codes "(declare-const p Bool)(assume a p)") (codes "refused F28 NotAsserted p.eo:1:22")
+unfolding computed
+other_formula = refl
+
+-- a macro stands for its tree, and a `let` for its body
+macro_formula : Prints (line (codes "(assert false)")) (codes "(define f ((x Bool)) x)(assume a (let ((y (f false))) y))") (codes "correct")
+unfolding computed
+macro_formula = refl
+
+-- ---- types
+
+-- bit strings, equality and parts of bit strings
+abbrev typed_names : List ℕ
+typed_names =
+    line (codes "(declare-const Int Type)(declare-consts <numeral> Int)(declare-parameterized-const BitVec ((w Int)) Type)")
+    ++ line (codes "(declare-consts <binary> (BitVec (eo::len eo::self)))(declare-const and (-> Bool Bool Bool) :right-assoc-nil true)")
+    ++ line (codes "(declare-parameterized-const = ((T Type :implicit)) (-> T T Bool) :chainable and)")
+    ++ line (codes "(declare-parameterized-const extract ((n Int :implicit) (h Int) (l Int)) (-> (BitVec n) (BitVec (eo::add (eo::add h 1) (eo::neg l)))))")
+
+right_width : Refuses (typed_names ++ codes "(assume @a (= (extract 7 4 #xA5) #x5))") (codes "refused F28 NotAsserted p.eo:5:438")
+unfolding computed
+right_width = refl
+
+wrong_width : Refuses (typed_names ++ codes "(assume @a (= (extract 7 4 #xA5) #xA5))") (codes "refused F15 IllTyped p.eo:5:438")
+unfolding computed
+wrong_width = refl
+
+number_formula : Refuses (typed_names ++ codes "(assume @a 5)") (codes "refused F27 NotBool p.eo:5:438")
+unfolding computed
+number_formula = refl
+
+type_of_no_type : Refuses (codes "(declare-const c true)") (codes "refused F15 IllTyped p.eo:1:0")
+unfolding computed
+type_of_no_type = refl

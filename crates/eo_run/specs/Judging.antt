@@ -7,7 +7,6 @@ use Rattle.eo_run.specs.Step.{Origin}
 use Rattle.eo_run.specs.Run.{run_file}
 use Rattle.eo_run.specs.Check.{file_end}
 use Rattle.eo_run.specs.Verdict.{Refusal}
-use Rattle.eo_run.specs.Normal.{normal, normal_result}
 use Rattle.eo_run.specs.Answer.{Denotes}
 use Rattle.eo_run.specs.declared.Verdict.{Verdict}
 use Rattle.eo_run.specs.declared.Verdict.TheVariants as answer
@@ -22,7 +21,7 @@ stop_verdict stop.Memory file = answer.OutOfMemory
 
 -- The refusal that an answer stands for is that of a run of the file from this state.
 abbrev pub RefusesRun : Files → List ℕ → Origin → State → List (List ℕ) → Verdict → Type 0
-RefusesRun files path from old paths (answer.Refused fault) = (refusal : Refusal) × (normal_result (run_file files path from old) ≡ Err refusal) × Denotes paths fault refusal
+RefusesRun files path from old paths (answer.Refused fault) = (refusal : Refusal) × (run_file files path from old ≡ Err refusal) × Denotes paths fault refusal
 RefusesRun files path from old paths answer.ReadFault = ⊤
 RefusesRun files path from old paths answer.OutOfMemory = ⊤
 RefusesRun files path from old paths v = ⊥
@@ -35,7 +34,7 @@ IsCheckAnswer v = ⊤
 
 -- the file was run to its end, which is this place
 pub record EndsRun (files : Files) (path : List ℕ) (from : Origin) (old new : State) (paths : List (List ℕ)) (place : Place) : Type 0 where
-  pub runs : normal_result (run_file files path from old) ≡ Ok (normal new)
+  pub runs : run_file files path from old ≡ Ok new
   pub file : slice_get paths place.file ≡ Some path
   pub line : place.line ≡ (file_end files path).line
   pub offset : place.offset ≡ (file_end files path).offset

@@ -2,13 +2,14 @@ pub mod Verdict
 pub mod Printed
 pub mod Answer
 pub mod State
-pub mod Shapes
 pub mod Step
 pub mod Run
 pub mod Check
-pub mod Normal
-pub mod Shaped
 pub mod Stepping
 pub mod Reading
 pub mod Judging
 pub mod Pieces
+pub mod Ids
+pub mod Held
+pub mod StateCode
+pub mod Adding

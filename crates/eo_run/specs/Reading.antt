@@ -14,7 +14,6 @@ use Rattle.eo_run.specs.State.{State}
 use Rattle.eo_run.specs.Step.{Origin, is_in_proof, step}
 use Rattle.eo_run.specs.Run.{commands_of, refusal_at, run_commands, run_file}
 use Rattle.eo_run.specs.Check.{file_end}
-use Rattle.eo_run.specs.Normal.{normal, normal_result}
 use Rattle.eo_run.specs.declared.reading.Stop.{Stop}
 use Rattle.eo_run.specs.declared.reading.Stop.TheVariants as stop
 
@@ -28,12 +27,12 @@ behind c piece closes more = rest_of limits closes c (piece ++ more)
 
 -- The run of r from the old state is the run of s from the new one, and both end at one place.
 pub record Leads (from : Origin) (old new : State) (r s : Continuation) : Type 0 where
-  pub runs : (path : List ℕ) (closes : Bool) (more : List ℕ) → normal_result (run_commands path from (r closes more) old) ≡ normal_result (run_commands path from (s closes more) new)
+  pub runs : (path : List ℕ) (closes : Bool) (more : List ℕ) → run_commands path from (r closes more) old ≡ run_commands path from (s closes more) new
   pub ends : (closes : Bool) (more : List ℕ) → end_of (r closes more) ≡ end_of (s closes more)
 
 -- The run of r is refused.
 pub record Fails (from : Origin) (old : State) (r : Continuation) (name : FaultName) (at : Spot) : Type 0 where
-  pub fails : (path : List ℕ) (closes : Bool) (more : List ℕ) → normal_result (run_commands path from (r closes more) old) ≡ Err (refusal_at path at name)
+  pub fails : (path : List ℕ) (closes : Bool) (more : List ℕ) → run_commands path from (r closes more) old ≡ Err (refusal_at path at name)
 
 -- a file that is there is not called absent
 abbrev pub IsPresent : {A : Type 0} → Result A Stop → Type 0
@@ -53,7 +52,7 @@ HasRead (Err stop.Memory) = ⊤
 
 -- The last command is taken out of the collector and checked.
 abbrev pub ChecksCommand : {A : Type 0} → Origin → Result A Stop → (old new : State) → Placed → Type 0
-ChecksCommand from (Ok x) old new k = normal_result (step old from k.sexp) ≡ Ok new
+ChecksCommand from (Ok x) old new k = step old from k.sexp ≡ Ok new
 ChecksCommand from (Err (stop.Fault name at)) old new k = (step old from k.sexp ≡ Err name) × (at ≡ k.start)
 ChecksCommand from (Err stop.ReadFault) old new k = ⊤
 ChecksCommand from (Err stop.Memory) old new k = ⊤
@@ -107,9 +106,9 @@ pub record IsRead (from : Origin) (old new : State) (c : Collecting) (left : ℕ
 
 abbrev pub RunsBytes : Origin → Result Spot Stop → (old new : State) → List ℕ → Type 0
 RunsBytes from (Ok at) old new bytes =
-    ((path : List ℕ) → normal_result (run_commands path from (commands_of (is_in_proof from) bytes) old) ≡ Ok (normal new)) × (at ≡ spot_after first_spot bytes)
+    ((path : List ℕ) → run_commands path from (commands_of (is_in_proof from) bytes) old ≡ Ok new) × (at ≡ spot_after first_spot bytes)
 RunsBytes from (Err (stop.Fault name at)) old new bytes =
-    (path : List ℕ) → normal_result (run_commands path from (commands_of (is_in_proof from) bytes) old) ≡ Err (refusal_at path at name)
+    (path : List ℕ) → run_commands path from (commands_of (is_in_proof from) bytes) old ≡ Err (refusal_at path at name)
 RunsBytes from (Err stop.ReadFault) old new bytes = ⊤
 RunsBytes from (Err stop.Memory) old new bytes = ⊤
 
@@ -129,7 +128,7 @@ StopHasCause (Err stop.Memory) told before now = ⊤
 
 -- the file with this path is run
 abbrev pub RunsFile : Files → List ℕ → Origin → Result Spot Stop → (old new : State) → Type 0
-RunsFile files path from (Ok at) old new = (normal_result (run_file files path from old) ≡ Ok (normal new)) × (at ≡ file_end files path)
-RunsFile files path from (Err (stop.Fault name at)) old new = normal_result (run_file files path from old) ≡ Err (refusal_at path at name)
+RunsFile files path from (Ok at) old new = (run_file files path from old ≡ Ok new) × (at ≡ file_end files path)
+RunsFile files path from (Err (stop.Fault name at)) old new = run_file files path from old ≡ Err (refusal_at path at name)
 RunsFile files path from (Err stop.ReadFault) old new = ⊤
 RunsFile files path from (Err stop.Memory) old new = ⊤

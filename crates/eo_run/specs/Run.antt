@@ -1,5 +1,5 @@
 -- The run of the files of a check: the state at its end, or the first fault with its place.
-use Rattle.std.specs.Prelude.{ℕ, Bool, List, Option, Some, None, Result, Ok, Err}
+use Rattle.std.specs.Prelude.{ℕ, Bool, false, List, Option, Some, None, Result, Ok, Err}
 use Rattle.eo_base.specs.declared.FaultName.{FaultName}
 use Rattle.eo_base.specs.declared.FaultName.TheVariants.{FileAbsent}
 use Rattle.eo_base.specs.Checks.{Checked}
@@ -7,7 +7,7 @@ use Rattle.eo_base.specs.Limits.{limits}
 use Rattle.eo_io.specs.Library.{Files, file_at}
 use Rattle.eo_sexp.specs.declared.Spot.{Spot}
 use Rattle.eo_sexp.specs.Texts.{Reads, Then, Ends, Fails, first_spot, reads_file}
-use Rattle.eo_run.specs.State.{State, first_state}
+use Rattle.eo_run.specs.State.{State, first_state, begin_reference}
 use Rattle.eo_run.specs.Step.{Origin, FromProof, FromReference, is_in_proof, step}
 use Rattle.eo_run.specs.Verdict.{Refusal}
 
@@ -53,6 +53,10 @@ module _ (files : Files) where
   run_file path from st =
       or_fault path first_spot FileAbsent (file_at files path) >>= λ bytes. run_commands path from (commands_of (is_in_proof from) bytes) st
 
+  -- the reference file, from a state on
+  unfoldable pub run_reference : List ℕ → State → Ran
+  run_reference path st = placed path first_spot (begin_reference st) >>= run_file path FromReference
+
   -- the reference file, and then the proof
   unfoldable pub run_check : (reference proof : List ℕ) → Ran
-  run_check reference proof = run_file reference FromReference first_state >>= run_file proof FromProof
+  run_check reference proof = run_reference reference (first_state false) >>= run_file proof FromProof

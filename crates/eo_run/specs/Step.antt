@@ -1,10 +1,18 @@
 -- What each command does: the state after it, or its first fault.
-use Rattle.std.specs.Prelude.{ℕ, Bool, true, false, not, if◌then◌else◌, List, [], ◌∷◌, ◌++◌, Option, Some, None, option_and_then, Ok, bytes_eq, codes}
-use Rattle.eo_base.specs.declared.FaultName.TheVariants.{Redeclared, UnknownSymbol, NotAsserted}
-use Rattle.eo_base.specs.Checks.{Checked, ◌>>=◌, require, value_or}
+use Rattle.std.specs.Prelude.{ℕ, Bool, true, false, not, ◌&&◌, nat_eq, if◌then◌else◌, List, [], length, Option, Some, None, slice_get, option_and_then, Ok, Err, bytes_eq, codes}
+use Rattle.std.specs.Option.{option_map_or}
+use Rattle.eo_base.specs.declared.FaultName.TheVariants.{Redeclared, IllTyped, Stuck, NumberRange, TermHeight, UnknownSymbol, NotBool, NotAsserted, NoReference}
+use Rattle.eo_base.specs.Checks.{Checked, ◌>>=◌, require, no_fault, value_or}
 use Rattle.eo_sexp.specs.Sexp.{Sexp}
-use Rattle.eo_run.specs.Shapes.{Command, Assume, Assert, symbol_of, command_of}
-use Rattle.eo_run.specs.State.{State, is_asserted, is_live}
+use Rattle.eo_sig.specs.declared.LiteralClass.{LiteralClass}
+use Rattle.eo_sig.specs.Signature.{IsConstant, IsLiteralType, Attribute, Plain, Constant, Macro, Named, NamesConstant, NamesMacro, lookup, constant_at, is_reserved, constant_fault, literal_type_fault}
+use Rattle.eo_shape.specs.Words.{symbol_of}
+use Rattle.eo_shape.specs.Shapes.{ParameterShape, AttributeShape, Command, DeclareConst, DeclareFun, DeclareSort, DeclareParameterized, DeclareLiterals, Define, Assume, Assert, command_of}
+use Rattle.eo_term.specs.Tree.{Tree, type_tree, bool_tree, truth, is_value, tree_eq}
+use Rattle.eo_type.specs.Types.{TypeOutcome, Typed, Untyped, TypeRange, TypeTall, value_type}
+use Rattle.eo_elab.specs.Meaning.{meaning}
+use Rattle.eo_elab.specs.Declarations.{is_reference_name, declared_const, declared_fun, declared_sort, declared_parameterized, declared_literals, defined}
+use Rattle.eo_run.specs.State.{State, context, with_entry, with_macro, with_assertion, with_fact, with_command, is_asserted, is_live}
 
 -- The file that a command stands in: a proof, or a reference file.
 pub data Origin : Type 0 where
@@ -19,31 +27,130 @@ abbrev pub is_in_proof : Origin → Bool
 is_in_proof FromProof = true
 is_in_proof FromReference = false
 
--- ---- formulas
+-- ---- checks
+
+-- A value is its own value. Nothing else has one, since no operator is evaluated yet.
+abbrev pub evaluated : Tree → Checked Tree
+evaluated t = require (is_value t) Stuck >>= λ _. Ok t
+
+-- the value of a term
+unfoldable pub value : State → Sexp → Checked Tree
+value st s = meaning (context st) [] s >>= evaluated
+
+abbrev pub typed_or : TypeOutcome Tree → Checked Tree
+typed_or (Typed t) = Ok t
+typed_or Untyped = Err IllTyped
+typed_or TypeRange = Err NumberRange
+typed_or TypeTall = Err TermHeight
+
+-- the type of a value, which is a value
+unfoldable pub typed : State → Tree → Checked Tree
+typed st v = typed_or (value_type st.signature v)
+
+-- the value of a term, which is a formula
+unfoldable pub formula : State → Sexp → Checked Tree
+formula st s = value st s >>= λ v. typed st v >>= λ k. require (tree_eq k bool_tree) NotBool >>= λ _. Ok v
+
+abbrev pub is_free_fact : State → List ℕ → Bool
+is_free_fact st name = not (is_reserved name) && not (is_live st.facts name)
+
+-- ---- constants
+
+abbrev pub is_plain : Attribute → Bool
+is_plain Plain = true
+is_plain a = false
+
+-- the same name and type as a constant of the reference file, without attribute
+abbrev pub repeats_constant : State → Constant → Option Named → Bool
+repeats_constant st d (Some (NamesConstant k)) =
+    is_plain d.attribute && option_map_or (λ old. old.from_reference && tree_eq old.type d.type) (constant_at st.signature k) false
+repeats_constant st d n = false
+
+-- A name of the reference file is accepted again where the constant is the same; nothing changes.
+unfoldable pub added_constant : State → Constant → Checked State
+added_constant st d =
+    if is_reference_name (context st) d.name
+    then (require (repeats_constant st d (lookup st.signature st.macros d.name)) Redeclared >>= λ _. Ok st)
+    else Ok (with_entry st (IsConstant d))
+
+-- the declared type is the value of the type, which has type `Type`
+unfoldable pub typed_constant : State → Constant → Checked State
+typed_constant st d =
+    evaluated d.type >>= λ v. typed st v >>= λ k. require (tree_eq k type_tree) IllTyped >>= λ _.
+    added_constant st (record d { type = v })
+
+unfoldable pub declare_const : State → List ℕ → Sexp → AttributeShape → Checked State
+declare_const st name type shape = declared_const (context st) name type shape >>= typed_constant st
+
+unfoldable pub declare_fun : State → List ℕ → List Sexp → Sexp → Checked State
+declare_fun st name inputs output = declared_fun (context st) name inputs output >>= typed_constant st
+
+unfoldable pub declare_sort : State → List ℕ → ℕ → Checked State
+declare_sort st name arity = declared_sort (context st) name arity >>= typed_constant st
+
+unfoldable pub declare_parameterized : State → List ℕ → List ParameterShape → Sexp → AttributeShape → Checked State
+declare_parameterized st name shapes type shape =
+    declared_parameterized (context st) name shapes type shape >>= λ d.
+    no_fault (constant_fault d) >>= λ _. Ok (with_entry st (IsConstant d))
+
+unfoldable pub declare_literals : State → LiteralClass → Sexp → Checked State
+declare_literals st class type =
+    declared_literals (context st) class type >>= λ t.
+    no_fault (literal_type_fault st.signature class t) >>= λ _. Ok (with_entry st (IsLiteralType class t))
+
+-- ---- macros
+
+-- the same name, number of parameters and tree as a macro of the reference file
+abbrev pub repeats_macro : State → Macro → Option Named → Bool
+repeats_macro st m (Some (NamesMacro k)) =
+    option_map_or (λ old. old.from_reference && nat_eq (length old.parameters) (length m.parameters) && tree_eq old.tree m.tree) (slice_get st.macros k) false
+repeats_macro st m n = false
+
+unfoldable pub added_macro : State → Macro → Checked State
+added_macro st m =
+    if is_reference_name (context st) m.name
+    then (require (repeats_macro st m (lookup st.signature st.macros m.name)) Redeclared >>= λ _. Ok st)
+    else Ok (with_macro st m)
+
+unfoldable pub define : State → List ℕ → List ParameterShape → Sexp → Checked State
+define st name shapes body = defined (context st) name shapes body >>= added_macro st
+
+-- ---- assumptions and assertions
+
+-- the name is free, the formula is one, and it is asserted
+unfoldable pub assume : State → List ℕ → Sexp → Checked State
+assume st name s =
+    require (is_free_fact st name) Redeclared >>= λ _. formula st s >>= λ v.
+    require st.has_reference NoReference >>= λ _. require (is_asserted st v) NotAsserted >>= λ _.
+    Ok (with_fact st name v)
 
 -- what a word says as a formula
 abbrev pub truth_of : List ℕ → Option Bool
 truth_of word = if bytes_eq word (codes "true") then Some true else (if bytes_eq word (codes "false") then Some false else None)
 
--- the symbol `true` or `false`; nothing else is declared
-unfoldable pub formula : Sexp → Checked Bool
-formula s = value_or UnknownSymbol (option_and_then truth_of (symbol_of s))
+-- the symbol `true` or `false`; a reference file declares nothing else
+unfoldable pub asserted_truth : Sexp → Checked Bool
+asserted_truth s = value_or UnknownSymbol (option_and_then truth_of (symbol_of s))
+
+unfoldable pub assert : State → Sexp → Checked State
+assert st s = asserted_truth s >>= λ b. Ok (with_assertion st (truth b))
 
 -- ---- each command
 
--- the name is free, the formula is one, and it is asserted
-unfoldable pub assume : State → List ℕ → Sexp → Checked State
-assume st name s =
-    require (not (is_live st.facts name)) Redeclared >>= λ _. formula s >>= λ v. require (is_asserted st v) NotAsserted >>= λ _.
-    Ok (record st { facts = st.facts ++ record { name = name; formula = v } ∷ [] })
-
-unfoldable pub assert : State → Sexp → Checked State
-assert st s = formula s >>= λ v. Ok (record st { assertions = st.assertions ++ v ∷ [] })
-
 unfoldable pub by_command : State → Command → Checked State
+by_command st (DeclareConst name type shape) = declare_const st name type shape
+by_command st (DeclareFun name inputs output) = declare_fun st name inputs output
+by_command st (DeclareSort name arity) = declare_sort st name arity
+by_command st (DeclareParameterized name shapes type shape) = declare_parameterized st name shapes type shape
+by_command st (DeclareLiterals class type) = declare_literals st class type
+by_command st (Define name shapes body) = define st name shapes body
 by_command st (Assume name s) = assume st name s
 by_command st (Assert s) = assert st s
 
--- One command: its shape, and then the checks of its own.
+-- its shape, and then the checks of its own
+unfoldable pub uncounted : State → Origin → Sexp → Checked State
+uncounted st from s = command_of (is_in_reference from) s >>= by_command st
+
+-- One command, which is counted where it is accepted.
 unfoldable pub step : State → Origin → Sexp → Checked State
-step st from s = command_of (is_in_reference from) s >>= by_command st
+step st from s = uncounted st from s >>= λ new. Ok (with_command new)

@@ -1,15 +1,15 @@
 //! The check of a proof against a reference file.
-ghost use Rattle.std.specs.Prelude.{◌≡◌, ◌≢◌, ◌<◌, ◌≤◌, ℕ, [], vec_len, None, false, unwrap_or, IsSome, IfOk, IfErr, IfSome, slice_get, length};
+ghost use Rattle.std.specs.Prelude.{◌≡◌, ◌≢◌, ◌<◌, ◌≤◌, ℕ, [], vec_len, None, false, Ok, unwrap_or, IsSome, IfOk, IfErr, IfSome, OnOk, slice_get, length};
 ghost use Rattle.eo_run.specs.Answer.{Answers, AnswerHasCause, FileInRange};
 ghost use Rattle.eo_run.specs.Check.{verdict, checked};
 ghost use Rattle.eo_run.specs.Judging.{stop_verdict, RefusesRun, IsCheckAnswer, EndsRun};
 ghost use Rattle.eo_run.specs.Run.{run_file};
 ghost use Rattle.eo_run.specs.Step.{FromProof};
-ghost use Rattle.eo_run.specs.Stepping.{origin_of};
+ghost use Rattle.eo_run.specs.State.{first_state, begin_reference};
+ghost use Rattle.eo_run.specs.Stepping.{origin_of, IsMemory};
 
 use crate::reading::{Stop, check_file};
-use crate::session::{Origin, Session};
-use crate::{CheckJob, Verdict};
+use crate::{CheckJob, EndAnswer, Origin, Refused, Session, Verdict};
 use eo_base::{Fault, Place};
 use eo_io::{Library, Paths};
 use std::alloc::{AllocError, Global};
@@ -19,18 +19,16 @@ const PIECE: usize = 65_536;
 
 /// Checks the job's proof against its reference file.
 ///
-/// The reference file holds `(assert S)` alone, and the proof `(assume N S)` alone, where S is
-/// `true` or `false`. Each file is read in pieces, and each command is checked as it comes: first
-/// those of the reference file, and then those of the proof.
+/// The reference file holds `(assert S)` alone, S being `true` or `false`, and the proof declares
+/// constants, types of literals and macros, and assumes terms. Each file is read in pieces, and
+/// each command is checked as it comes: first those of the reference file, and then those of the
+/// proof.
 ///
 /// - `Refused` with `FileAbsent`, at a file's first byte: it is not there.
 /// - `Refused` with a fault of the text, at its place: `BadByte`, `Unclosed`, `ExtraClose`,
 ///   `TokenLong`, `CommandLong`, `Nesting`, `Width` or `FileLong`, once each command before it is
 ///   accepted.
-/// - `Refused` at a command's first byte, for the first of these: `BadCommand`, it is no list that
-///   begins with a symbol; `UnknownCommand`, it is another command; `BadCommand`, it has another
-///   shape; `Redeclared`, a fact has the name N; `UnknownSymbol`, S is another s-expression;
-///   `NotAsserted`, the reference file does not assert S.
+/// - `Refused` at a command's first byte, with the fault that [`Session::command`] answers.
 /// - `Refused` with `NoRefutation`, behind the last byte of the proof: `false` is no fact.
 /// - `Correct`: none of these.
 /// - `ReadFault`: a call of the library failed.
@@ -96,19 +94,57 @@ fn check_paths<L: Library>(
     ensures closed { L.open_files files.new ≡ [] }
     ensures later { L.faults files.old ≤ L.faults files.new }
 {
-    let mut session = Session::new(alloc);
+    match first_session(alloc) {
+        Ok(mut session) => check_both(alloc, reference, proof, files, &mut session, paths, buffer),
+        Err(_) => Verdict::OutOfMemory,
+    }
+}
+
+/// The verdict of a reference file, which has begun, and a proof.
+fn check_both<L: Library>(
+    alloc: Global,
+    reference: &[u8],
+    proof: &[u8],
+    files: &mut L,
+    session: &mut Session,
+    paths: &mut Paths,
+    buffer: &mut [u8],
+) -> Verdict
+    requires none_open { L.open_files files.old ≡ [] }
+    requires buffer { 0 < length buffer.old }
+    requires going { session.old.ended ≡ false }
+    requires begun { begin_reference (first_state false) ≡ Ok session.old.state }
+    ensures verdict { IfSome (L.told files.old) (λ told. Answers paths.new result (verdict told reference.now proof.now)) }
+    ensures cause { AnswerHasCause result (L.told files.old) (L.faults files.old) (L.faults files.new) }
+    ensures place { FileInRange paths.new result }
+    ensures kind { IsCheckAnswer result }
+    ensures same { L.told files.new ≡ L.told files.old }
+    ensures closed { L.open_files files.new ≡ [] }
+    ensures later { L.faults files.old ≤ L.faults files.new }
+{
     match check_path(
         alloc,
         reference,
         Origin::Reference,
         files,
-        &mut session,
+        session,
         paths,
         buffer,
     ) {
-        Ok(_) => check_proof(alloc, proof, files, &mut session, paths, buffer),
+        Ok(_) => check_proof(alloc, proof, files, session, paths, buffer),
         Err(verdict) => verdict,
     }
+}
+
+/// A session of which the reference file begins. `Err` is want of memory.
+fn first_session(alloc: Global) -> Result<Session, Refused>
+    ensures going { IfOk result (λ s. s.ended ≡ false) }
+    ensures state { IfOk result (λ s. begin_reference (first_state false) ≡ Ok s.state) }
+    ensures memory { IfErr result IsMemory }
+{
+    let mut session = Session::new(alloc, false)?;
+    session.begin_reference()?;
+    Ok(session)
 }
 
 /// The verdict of a proof, behind its reference file.
@@ -122,7 +158,8 @@ fn check_proof<L: Library>(
 ) -> Verdict
     requires none_open { L.open_files files.old ≡ [] }
     requires buffer { 0 < length buffer.old }
-    ensures verdict { IfSome (L.told files.old) (λ told. Answers paths.new result (checked told path.now (run_file told path.now FromProof session.old))) }
+    requires going { session.old.ended ≡ false }
+    ensures verdict { IfSome (L.told files.old) (λ told. Answers paths.new result (checked told path.now (run_file told path.now FromProof session.old.state))) }
     ensures cause { AnswerHasCause result (L.told files.old) (L.faults files.old) (L.faults files.new) }
     ensures place { FileInRange paths.new result }
     ensures kind { IsCheckAnswer result }
@@ -133,8 +170,8 @@ fn check_proof<L: Library>(
     match check_path(alloc, path, Origin::Proof, files, session, paths, buffer) {
         Err(verdict) => verdict,
         Ok(place) => match session.end() {
-            None => Verdict::Correct,
-            Some(name) => Verdict::Refused(Fault { name, place }),
+            EndAnswer::Correct => Verdict::Correct,
+            EndAnswer::Fault(name) => Verdict::Refused(Fault { name, place }),
         },
     }
 }
@@ -151,8 +188,10 @@ fn check_path<L: Library>(
 ) -> Result<Place, Verdict>
     requires none_open { L.open_files files.old ≡ [] }
     requires buffer { 0 < length buffer.old }
-    ensures runs { IfOk result (λ place. IfSome (L.told files.old) (λ told. EndsRun told path.now (origin_of from) session.old session.new paths.new place)) }
-    ensures refused { IfErr result (λ v. IfSome (L.told files.old) (λ told. RefusesRun told path.now (origin_of from) session.old paths.new v)) }
+    requires going { session.old.ended ≡ false }
+    ensures going { OnOk result (session.new.ended ≡ false) }
+    ensures runs { IfOk result (λ place. IfSome (L.told files.old) (λ told. EndsRun told path.now (origin_of from) session.old.state session.new.state paths.new place)) }
+    ensures refused { IfErr result (λ v. IfSome (L.told files.old) (λ told. RefusesRun told path.now (origin_of from) session.old.state paths.new v)) }
     ensures cause { IfErr result (λ v. AnswerHasCause v (L.told files.old) (L.faults files.old) (L.faults files.new)) }
     ensures there { IfOk result (λ place. IsSome (slice_get paths.new place.file)) }
     ensures place { IfErr result (FileInRange paths.new) }

@@ -1,18 +1,24 @@
 //! One check, from the files to the verdict and the line that is printed of it.
 //!
-//! A check has a reference file of assertions of `true` or `false`, and a proof of assumptions of
-//! the same.
+//! A check has a reference file of assertions of `true` or `false`, and a proof that declares
+//! constants and macros and assumes terms.
 #![tactic(auto)]
 
+mod assertions;
 mod checking;
+mod declaring;
+mod facts;
+mod held;
 mod printing;
 mod reading;
+mod refused;
 mod session;
-mod shape;
 
 pub use checking::check_files;
 use eo_base::{Fault, Text};
 pub use printing::print_verdict;
+pub use refused::Refused;
+pub use session::{EndAnswer, Origin, Session};
 
 /// What is to be checked.
 #[derive(Debug, Drop)]

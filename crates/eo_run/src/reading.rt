@@ -1,5 +1,5 @@
 //! Reading a file in pieces, and checking each command as it comes.
-ghost use Rattle.std.specs.Prelude.{◌≡◌, ◌≢◌, ◌<◌, ◌≤◌, [], Err, IfSome, length};
+ghost use Rattle.std.specs.Prelude.{◌≡◌, ◌≢◌, ◌<◌, ◌≤◌, false, [], Err, IfSome, OnOk, length};
 ghost use Rattle.eo_base.specs.Causes.{Rose};
 ghost use Rattle.eo_base.specs.Limits.{limits};
 ghost use Rattle.eo_sexp.specs.Collecting.{IsLive, IsAtCommand, HasRoom, Taken, AtCommand};
@@ -9,7 +9,7 @@ ghost use Rattle.eo_run.specs.declared.reading.Stop.TheVariants.{ReadFault, Memo
 ghost use Rattle.eo_run.specs.Stepping.{origin_of};
 ghost use Rattle.eo_run.specs.Reading.{IsPresent, HasRead, ChecksCommand, ChecksPiece, ChecksEnd, StaysOpen, RunsOpen, RunsFile, StopHasCause};
 
-use crate::session::{Origin, Refused, Session};
+use crate::{Origin, Refused, Session};
 use eo_base::{FaultName, limits};
 use eo_io::{Got, Library, Opened};
 use eo_sexp::{Collector, Fed, Finished, Spot, answers_law, pieces_law};
@@ -50,7 +50,9 @@ pub(crate) fn check_file<L: Library>(
 ) -> Result<Spot, Stop>
     requires open { length (L.open_files files.old) < 18 }
     requires buffer { 0 < length buffer.old }
-    ensures runs { IfSome (L.told files.old) (λ told. RunsFile told path.now (origin_of from) result session.old session.new) }
+    requires going { session.old.ended ≡ false }
+    ensures going { OnOk result (session.new.ended ≡ false) }
+    ensures runs { IfSome (L.told files.old) (λ told. RunsFile told path.now (origin_of from) result session.old.state session.new.state) }
     ensures cause { StopHasCause result (L.told files.old) (L.faults files.old) (L.faults files.new) }
     ensures same { L.told files.new ≡ L.told files.old }
     ensures closed { L.open_files files.new ≡ L.open_files files.old }
@@ -80,7 +82,9 @@ fn check_open<L: Library>(
 ) -> Result<Spot, Stop>
     requires open { L.open_files files.old ≢ [] }
     requires buffer { 0 < length buffer.old }
-    ensures runs { RunsOpen (origin_of from) result session.old session.new (L.open_files files.old) }
+    requires going { session.old.ended ≡ false }
+    ensures going { OnOk result (session.new.ended ≡ false) }
+    ensures runs { RunsOpen (origin_of from) result session.old.state session.new.state (L.open_files files.old) }
     ensures present { IsPresent result }
     ensures cause { result ≡ Err ReadFault → Rose (L.faults files.old) (L.faults files.new) }
     ensures same { L.told files.new ≡ L.told files.old }
@@ -121,7 +125,9 @@ fn check_piece(
     requires live { IsLive collector.old }
     requires waiting { IsWaiting limits collector.old }
     requires room { HasRoom collector.old piece.now }
-    ensures checks { ChecksPiece (origin_of from) result session.old session.new collector.old collector.new piece.now }
+    requires going { session.old.ended ≡ false }
+    ensures going { OnOk result (session.new.ended ≡ false) }
+    ensures checks { ChecksPiece (origin_of from) result session.old.state session.new.state collector.old collector.new piece.now }
     ensures present { IsPresent result }
     ensures read { HasRead result }
 {
@@ -146,7 +152,9 @@ fn check_piece(
 fn check_end(collector: &mut Collector, from: Origin, session: &mut Session) -> Result<Spot, Stop>
     requires live { IsLive collector.old }
     requires waiting { IsWaiting limits collector.old }
-    ensures checks { ChecksEnd (origin_of from) result session.old session.new collector.old }
+    requires going { session.old.ended ≡ false }
+    ensures going { OnOk result (session.new.ended ≡ false) }
+    ensures checks { ChecksEnd (origin_of from) result session.old.state session.new.state collector.old }
     ensures present { IsPresent result }
     ensures read { HasRead result }
 {
@@ -164,8 +172,10 @@ fn check_end(collector: &mut Collector, from: Origin, session: &mut Session) -> 
 /// Takes the last command out of the collector, and checks it.
 fn check_command(collector: &mut Collector, from: Origin, session: &mut Session) -> Result<(), Stop>
     requires command { IsAtCommand collector.old }
+    requires going { session.old.ended ≡ false }
+    ensures going { OnOk result (session.new.ended ≡ false) }
     ensures takes { (k : Placed) (phase : Phase) → collector.old ≡ AtCommand k phase → collector.new ≡ Taken k.bytes k.start phase }
-    ensures checks { (k : Placed) (phase : Phase) → collector.old ≡ AtCommand k phase → ChecksCommand (origin_of from) result session.old session.new k }
+    ensures checks { (k : Placed) (phase : Phase) → collector.old ≡ AtCommand k phase → ChecksCommand (origin_of from) result session.old.state session.new.state k }
     ensures present { IsPresent result }
     ensures read { HasRead result }
 {
@@ -174,6 +184,7 @@ fn check_command(collector: &mut Collector, from: Origin, session: &mut Session)
     match session.command(&command, from) {
         Ok(()) => Ok(()),
         Err(Refused::Fault(name)) => Err(Stop::Fault { name, at }),
-        Err(Refused::Memory) => Err(Stop::Memory),
+        Err(Refused::Ended) => unreachable!(),
+        Err(Refused::Memory(_)) => Err(Stop::Memory),
     }
 }

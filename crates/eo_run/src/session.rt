@@ -1,23 +1,27 @@
-//! The state of a run between two commands.
-ghost use Rattle.std.specs.Prelude.{◌≡◌, ◌≢◌, IsTrue, ◌↔◌, IfErr, None, IfOk, MatchResult, Ok, Err};
+//! A run between two commands.
+ghost use Rattle.std.specs.Prelude.{◌≡◌, ◌≢◌, true, false, IfOk, None, Err};
 ghost use Rattle.eo_base.specs.declared.FaultName.TheVariants.{FileAbsent};
 ghost use Rattle.eo_sexp.specs.Owned.{owned};
-ghost use Rattle.eo_run.specs.declared.session.Refused.TheVariants.{Fault, Memory};
-ghost use Rattle.eo_run.specs.State.{first_state, end_fault, is_asserted};
-ghost use Rattle.eo_run.specs.Step.{is_in_reference, formula, assume as assumed, assert as asserted, step};
-ghost use Rattle.eo_run.specs.Stepping.{origin_of, Steps};
+ghost use Rattle.eo_run.specs.declared.refused.Refused.TheVariants.{Fault};
+ghost use Rattle.eo_run.specs.Held.{state_of, IsWhole};
+ghost use Rattle.eo_run.specs.State.{first_state, begin_reference, end_fault};
+ghost use Rattle.eo_run.specs.Step.{is_in_reference, uncounted, step};
+ghost use Rattle.eo_run.specs.Stepping.{origin_of, Does, Steps, EndsWith};
 
-use crate::shape::{Shape, shape_of, symbol};
+use crate::Refused;
+use crate::held::Held;
 use eo_base::FaultName;
 use eo_sexp::OwnedSexp;
-use indexmap::IndexMap;
-use std::alloc::{AllocError, AllocFailed, Global};
+use eo_shape::{Command, command_of};
+use std::alloc::{AllocError, Global};
 use std::marker::Model;
 
 /// The file that a command stands in.
 #[derive(Clone, Copy, Debug, PartialEq, Eq)]
-pub(crate) enum Origin {
+pub enum Origin {
+    /// The proof.
     Proof,
+    /// The reference file.
     Reference,
 }
 
@@ -33,153 +37,136 @@ impl Origin {
     }
 }
 
-/// Why a command is not accepted.
+/// What the check at the end of a proof answers.
 #[derive(Clone, Copy, Debug, PartialEq, Eq)]
-pub(crate) enum Refused {
+pub enum EndAnswer {
+    /// `false` is a fact.
+    Correct,
+    /// What is wrong.
     Fault(FaultName),
-    /// There was no memory left.
-    Memory,
 }
 
-impl From<FaultName> for Refused {
-    ghost from_gives = { λ name r. r ≡ Fault name };
-
-    fn from(name: FaultName) -> Refused {
-        Refused::Fault(name)
-    }
-}
-
-impl From<AllocError> for Refused {
-    ghost from_gives = { λ _ r. r ≡ Memory };
-
-    fn from(_: AllocError) -> Refused {
-        Refused::Memory
-    }
-}
-
-impl<T: Drop> From<AllocFailed<T>> for Refused {
-    ghost from_gives = { λ _ r. r ≡ Memory };
-
-    fn from(_: AllocFailed<T>) -> Refused {
-        Refused::Memory
-    }
-}
-
-/// What is asserted and assumed so far.
+/// What is declared, asserted and assumed between two commands of a check.
+///
+/// Once a call is refused, or there was no memory for it, the session is ended, and each later call
+/// is refused too.
 #[derive(Drop)]
-pub(crate) struct Session {
-    alloc: Global,
-    asserts_true: bool,
-    asserts_false: bool,
-    facts: IndexMap<Vec<u8>, bool>,
-    // whether a fact is `false`
-    refutes: bool,
+pub struct Session {
+    held: Held,
+    ended: bool,
 }
 
 impl Model for Session {
-    ghost use Rattle.std.specs.Prelude.{◌≡◌};
-    ghost use Rattle.eo_run.specs.Normal.{truths, facts_of};
-    ghost use Rattle.eo_run.specs.State.{State, has_false};
+    ghost use Rattle.eo_run.specs.Held.{state_of, IsWhole};
+    ghost use Rattle.eo_run.specs.StateCode.{standing_code};
+    ghost use Rattle.eo_run.specs.Stepping.{Standing};
 
-    ghost Value = { State };
+    ghost Value = { Standing };
 
-    ghost view = { λ a. record { assertions = truths a.asserts_true a.asserts_false; facts = facts_of (λ w. w.items) a.facts.entries } };
+    ghost coded = { standing_code };
 
-    ghost invariant = { λ a. a.refutes ≡ has_false (facts_of (λ w. w.items) a.facts.entries) };
+    ghost view = { λ a. record { ended = a.ended; state = state_of a.held } };
+
+    ghost invariant = { λ a. IsWhole a.held };
 }
 
 impl Session {
-    /// A session in which nothing is asserted or assumed.
-    pub(crate) fn new(alloc: Global) -> Session
-        ensures { result ≡ first_state }
+    /// A session in which only `Type`, `Bool`, `true` and `false` are declared, without a reference
+    /// file. `closed` says that the proof may declare no rules and programs.
+    pub fn new(alloc: Global, closed: bool) -> Result<Session, AllocError>
+        ensures { IfOk result (λ s. s ≡ record { ended = false; state = first_state closed }) }
     {
-        Session {
-            alloc,
-            asserts_true: false,
-            asserts_false: false,
-            facts: IndexMap::new(alloc),
-            refutes: false,
-        }
+        let held = Held::new(alloc, closed)?;
+        Ok(Session { held, ended: false })
     }
 
-    /// Checks a command, and does what it says.
+    /// Begins the reference file.
     ///
-    /// A fault is that of the command's shape, and then the first of its own checks. At a refusal
-    /// the session is as before.
-    pub(crate) fn command(&mut self, s: &OwnedSexp, from: Origin) -> Result<(), Refused>
-        ensures steps { Steps result (step self.old (origin_of from) (owned s.now)) self.old self.new }
-        ensures present { result ≢ Err (Fault FileAbsent) }
+    /// `SecondReference`: there is one. `Ended`: the session is ended.
+    pub fn begin_reference(&mut self) -> Result<(), Refused>
+        ensures steps { Steps result (begin_reference self.old.state) self.old self.new }
     {
-        match shape_of(s, from.is_reference())? {
-            Shape::Assume { name, formula } => self.assume(name, formula),
-            Shape::Assert { formula } => self.assert(formula),
+        if self.ended {
+            return Err(Refused::Ended);
         }
-    }
-
-    /// What is wrong at the end of a proof, if anything.
-    pub(crate) fn end(&self) -> Option<FaultName>
-        ensures { result ≡ end_fault self.now }
-    {
-        if self.refutes {
-            None
-        } else {
-            Some(FaultName::NoRefutation)
+        if self.held.has_reference {
+            self.ended = true;
+            return Err(Refused::Fault(FaultName::SecondReference));
         }
-    }
-
-    fn assume(&mut self, name: &[u8], formula: &OwnedSexp) -> Result<(), Refused>
-        ensures steps { Steps result (assumed self.old name.now (owned formula.now)) self.old self.new }
-        ensures present { result ≢ Err (Fault FileAbsent) }
-    {
-        if self.facts.contains_key(name) {
-            return Err(Refused::Fault(FaultName::Redeclared));
-        }
-        let formula = truth(formula)?;
-        if !self.is_asserted(formula) {
-            return Err(Refused::Fault(FaultName::NotAsserted));
-        }
-        let name = name.to_vec(self.alloc)?;
-        self.facts.insert(name, formula)?;
-        self.refutes |= !formula;
+        self.held.has_reference = true;
         Ok(())
     }
 
-    fn assert(&mut self, formula: &OwnedSexp) -> Result<(), Refused>
-        ensures steps { Steps result (asserted self.old (owned formula.now)) self.old self.new }
+    /// Checks a command, and does what it says. A fault is that of the command's shape
+    /// (`BadCommand`, `UnknownCommand`), and then the first of its own checks, in this order:
+    ///
+    /// | command | checks |
+    /// |---|---|
+    /// | `declare-const`, `declare-fun`, `declare-sort` | `Redeclared`; the terms; `BadPattern`; `Stuck`: the type holds an operator; `IllTyped`: its type is not `Type`, or `NumberRange`, `TermHeight`; `Redeclared`: another constant than that of the reference file |
+    /// | `declare-parameterized-const` | `Redeclared`; `Parameters`; the terms; `TermHeight`; `BadPattern`; `UnboundParam` |
+    /// | `declare-consts` | `Redeclared`: the class has a type; the term; `BadPattern` |
+    /// | `define` | `Redeclared`; `Parameters`; the terms; `Redeclared`: another macro than that of the reference file |
+    /// | `assume` | `Redeclared`: a fact has the name, or it is reserved; the term; `Stuck`: it holds an operator; `IllTyped`, `NumberRange`, `TermHeight`: it has no type that is a value; `NotBool`: its type is not `Bool`; `NoReference`; `NotAsserted` |
+    /// | `assert` | `UnknownSymbol`: it is neither `true` nor `false` |
+    ///
+    /// The faults of a term are those that [`eo_elab::term`] answers. `Ended`: an earlier call was
+    /// refused. `Memory`: want of memory.
+    pub fn command(&mut self, s: &OwnedSexp, from: Origin) -> Result<(), Refused>
+        ensures steps { Steps result (step self.old.state (origin_of from) (owned s.now)) self.old self.new }
         ensures present { result ≢ Err (Fault FileAbsent) }
     {
-        if truth(formula)? {
-            self.asserts_true = true;
-        } else {
-            self.asserts_false = true;
+        if self.ended {
+            return Err(Refused::Ended);
         }
-        Ok(())
+        match run_command(&mut self.held, s, from) {
+            Ok(()) => {
+                self.held.commands = self.held.commands.saturating_add(1);
+                Ok(())
+            }
+            Err(e) => {
+                self.ended = true;
+                Err(e)
+            }
+        }
     }
 
-    fn is_asserted(&self, formula: bool) -> bool
-        ensures { result ≡ is_asserted self.now formula }
+    /// The check at the end of a proof, in a session that is not ended: `NoReference` where there
+    /// is no reference file, and then `NoRefutation` where `false` is no fact.
+    pub fn end(&self) -> EndAnswer
+        requires { self.now.ended ≡ false }
+        ensures { EndsWith (end_fault self.now.state) result }
     {
-        if formula {
-            self.asserts_true
-        } else {
-            self.asserts_false
+        if !self.held.has_reference {
+            return EndAnswer::Fault(FaultName::NoReference);
         }
+        if !self.held.refutes() {
+            return EndAnswer::Fault(FaultName::NoRefutation);
+        }
+        EndAnswer::Correct
+    }
+
+    /// How many commands were accepted, or 2^64 - 1 where there were more.
+    pub fn commands(&self) -> u64
+        ensures { result ≡ self.now.state.commands }
+    {
+        self.held.commands
     }
 }
 
-/// The formula that is the symbol `true` or `false`; anything else is an `UnknownSymbol`.
-fn truth(s: &OwnedSexp) -> Result<bool, FaultName>
-    ensures exact { result ≡ formula (owned s.now) }
-    ensures unknown { IfErr result (λ name. name ≡ FaultName.UnknownSymbol) }
+// Checks a command, and does what it says.
+fn run_command(held: &mut Held, s: &OwnedSexp, from: Origin) -> Result<(), Refused>
+    requires { IsWhole held.old }
+    ensures whole { IsWhole held.new }
+    ensures does { Does result (uncounted (state_of held.old) (origin_of from) (owned s.now)) held.new }
 {
-    let Some(word) = symbol(s) else {
-        return Err(FaultName::UnknownSymbol);
-    };
-    if word == b"true".as_slice() {
-        Ok(true)
-    } else if word == b"false".as_slice() {
-        Ok(false)
-    } else {
-        Err(FaultName::UnknownSymbol)
+    match command_of(s, from.is_reference())? {
+        Command::DeclareConst { .. } => held.declare_constant(s),
+        Command::DeclareFun { .. } => held.declare_constant(s),
+        Command::DeclareSort { .. } => held.declare_constant(s),
+        Command::DeclareParameterized { .. } => held.declare_parameterized(s),
+        Command::DeclareLiterals { .. } => held.declare_literals(s),
+        Command::Define { .. } => held.define(s),
+        Command::Assume { name, formula } => held.assume(name, formula),
+        Command::Assert { formula } => held.assert(formula),
     }
 }

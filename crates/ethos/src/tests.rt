@@ -95,6 +95,48 @@ fn verdicts_of_files(rt: HostRuntime) {
 }
 
 #[test]
+fn declarations_of_a_proof(rt: HostRuntime) {
+    let asserts_true = b"(assert true)\n".as_slice();
+    let rows = [
+        (
+            b"(declare-const p Bool)(declare-const p Bool)".as_slice(),
+            b"refused F12 Redeclared p.eo:1:22\n".as_slice(),
+        ),
+        (
+            b"(declare-const and (-> Bool Bool Bool) :right-assoc-nil (eo::not true))",
+            b"refused F22 BadPattern p.eo:1:0\n",
+        ),
+        (
+            b"(declare-parameterized-const k ((T Type :implicit)) Bool)",
+            b"refused F21 UnboundParam p.eo:1:0\n",
+        ),
+        (b"(define d () (d))", b"refused F14 BadArity p.eo:1:0\n"),
+        (
+            b"(declare-consts <numeral> Bool)(assume a (= 1 1))",
+            b"refused F13 UnknownSymbol p.eo:1:31\n",
+        ),
+        (
+            b"(declare-const Int Type)(declare-consts <numeral> Int)(assume a 5)",
+            b"refused F27 NotBool p.eo:1:54\n",
+        ),
+        (
+            b"(assume a (eo::not true))",
+            b"refused F16 Stuck p.eo:1:0\n",
+        ),
+        (
+            b"(define t ((x Bool)) x)(assume a (t true))(assume b (t false))",
+            b"refused F28 NotAsserted p.eo:1:42\n",
+        ),
+    ];
+    for (proof, line) in rows {
+        assert!(&rt; gives(rt.alloc(), asserts_true, proof, line, Status::Refused));
+    }
+    let asserts_false = b"(assert false)\n".as_slice();
+    let proof = b"(define f ((x Bool)) x)\n(assume a (let ((y (f false))) y))\n".as_slice();
+    assert!(&rt; gives(rt.alloc(), asserts_false, proof, b"correct\n", Status::Ok));
+}
+
+#[test]
 fn other_words_are_no_reading(rt: HostRuntime) {
     match usage_run(rt.alloc()) {
         Ok((status, out)) => {
@@ -246,14 +288,8 @@ fn proofs_in_the_whole_lexicon(rt: HostRuntime) {
             b"refused F12 Redeclared p.eo:4:24\n",
         ),
         (b"(assume a maybe)", b"refused F13 UnknownSymbol p.eo:1:0\n"),
-        (
-            b"(assume a \"true\")",
-            b"refused F13 UnknownSymbol p.eo:1:0\n",
-        ),
-        (
-            b"(assume a (true))",
-            b"refused F13 UnknownSymbol p.eo:1:0\n",
-        ),
+        (b"(assume a \"true\")", b"refused F15 IllTyped p.eo:1:0\n"),
+        (b"(assume a (true))", b"refused F14 BadArity p.eo:1:0\n"),
         (
             b"\r\n(assume a false)",
             b"refused F28 NotAsserted p.eo:2:2\n",

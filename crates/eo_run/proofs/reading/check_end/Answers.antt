@@ -12,8 +12,8 @@ pub returns-in-End-clause-checks : goal.returns-in-End-clause-checks
 returns-in-End-clause-checks c =
     let from = origin_of c.args.from in
     let i = c.atoms.invariant in
-    leads-trans from _ c.atoms.session c.atoms.session _ _ _ i.leads
-    (end-ends c.pieces_law.ensures c.answers_law.ensures from c.atoms.collector c.finish.new.self i.live i.waiting c.in-End.ensures.0 c.in-End.ensures.1 c.here.result c.here.ensures c.atoms.session)
+    leads-trans from _ c.atoms.session.state c.atoms.session.state _ _ _ i.leads
+    (end-ends c.pieces_law.ensures c.answers_law.ensures from c.atoms.collector c.finish.new.self i.live i.waiting c.in-End.ensures.0 c.in-End.ensures.1 c.here.result c.here.ensures c.atoms.session.state)
 
 pub atoms-smaller : goal.atoms-smaller
 atoms-smaller c =
@@ -34,10 +34,11 @@ atoms-preserved c =
     let takes = c.check_command.ensures.takes in
     let k = end-command law alone from old d i.live i.waiting is e in
     record {
-      leads = leads-trans from _ c.atoms.session c.check_command.new.session _ _ _ i.leads
-          (leads-command from c.atoms.session c.check_command.new.session (at_end old) (at_end n) k.0 (end-gives law alone from old d i.live i.waiting is e n takes) (c.in_ok-check_command-in-Command.ensures.checks k.0 k.1 k.2));
+      leads = leads-trans from _ c.atoms.session.state c.check_command.new.session.state _ _ _ i.leads
+          (leads-command from c.atoms.session.state c.check_command.new.session.state (at_end old) (at_end n) k.0 (end-gives law alone from old d i.live i.waiting is e n takes) (c.in_ok-check_command-in-Command.ensures.checks k.0 k.1 k.2));
       live = end-live law alone from old d i.live i.waiting is e n takes;
       waiting = end-waiting law alone from old d i.live i.waiting is e n takes;
+      going = c.in_ok-check_command-in-Command.ensures.going;
     }
 
 pub returns-in_err-check_command-in-Command-clause-checks : goal.returns-in_err-check_command-in-Command-clause-checks
@@ -54,12 +55,12 @@ returns-in_err-check_command-in-Command-clause-checks c =
     let takes = c.check_command.ensures.takes in
     let k = end-command law alone from old d i.live i.waiting is e in
     let x = c.in_err-check_command-in-Command.field-0.0 in
-    at_exit (λ (r : Result Spot Stop). ChecksEnd from r c.args.session.now c.check_command.new.session c.args.collector.now) c.from_residual.result x c.from_residual.ensures.1
-    (refused-end (Unit {0}) from c.args.session.now c.atoms.session c.check_command.new.session c.args.collector.now old (at_end n) k.0 i.leads (end-gives law alone from old d i.live i.waiting is e n takes) x (c.in_err-check_command-in-Command.ensures.checks k.0 k.1 k.2))
+    at_exit (λ (r : Result Spot Stop). ChecksEnd from r c.args.session.now.state c.check_command.new.session.state c.args.collector.now) c.from_residual.result x c.from_residual.ensures.1
+    (refused-end (Unit {0}) from c.args.session.now.state c.atoms.session.state c.check_command.new.session.state c.args.collector.now old (at_end n) k.0 i.leads (end-gives law alone from old d i.live i.waiting is e n takes) x (c.in_err-check_command-in-Command.ensures.checks k.0 k.1 k.2))
 
 pub returns-in-Fault-clause-checks : goal.returns-in-Fault-clause-checks
 returns-in-Fault-clause-checks c =
     let from = origin_of c.args.from in
     let i = c.atoms.invariant in
-    leads-fails from _ c.atoms.session _ _ c.in-Fault.name c.in-Fault.at i.leads
-    (end-fault c.pieces_law.ensures c.answers_law.ensures from c.atoms.collector c.finish.new.self i.live i.waiting c.in-Fault.ensures.0 c.in-Fault.name c.in-Fault.at c.in-Fault.ensures.1 c.atoms.session).0
+    leads-fails from _ c.atoms.session.state _ _ c.in-Fault.name c.in-Fault.at i.leads
+    (end-fault c.pieces_law.ensures c.answers_law.ensures from c.atoms.collector c.finish.new.self i.live i.waiting c.in-Fault.ensures.0 c.in-Fault.name c.in-Fault.at c.in-Fault.ensures.1 c.atoms.session.state).0

@@ -1,4 +1,4 @@
-use Rattle.std.proofs.Common.{[], true}
+use Rattle.std.proofs.Common.{◌≡◌, [], true, false}
 use Rattle.eo_base.specs.Limits.{limits}
 use Rattle.eo_sexp.specs.Collecting.{IsLive}
 use Rattle.eo_sexp.specs.Cutting.{IsWaiting, rest_of}
@@ -9,9 +9,10 @@ use Rattle.eo_run.proofs.reading.check_end.Given as goal
 
 abbrev pub invariant-atoms : goal.invariant-atoms
 invariant-atoms l = record {
-  leads : Leads (origin_of l.from) l.initial.session l.session (at_end l.initial.collector) (at_end l.collector);
+  leads : Leads (origin_of l.from) l.initial.session.state l.session.state (at_end l.initial.collector) (at_end l.collector);
   live : IsLive l.collector;
   waiting : IsWaiting limits l.collector;
+  going : l.session.ended ≡ false;
 }
 
 abbrev pub decreases-atoms : goal.decreases-atoms

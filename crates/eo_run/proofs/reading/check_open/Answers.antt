@@ -13,7 +13,8 @@ pub pieces-init : goal.pieces-init
 pieces-init g c =
     let from = origin_of c.args.from in
     record {
-      read = reads-nothing c.answers_law.ensures from c.args.session.now c.in_ok-collector.collector 1099511627776 _ c.requires.open refl (c.in_ok-collector.ensures ∙ ap new_collector (ap not c.is_reference.ensures ∙ proof-origin from));
+      read = reads-nothing c.answers_law.ensures from c.args.session.now.state c.in_ok-collector.collector 1099511627776 _ c.requires.open refl (c.in_ok-collector.ensures ∙ ap new_collector (ap not c.is_reference.ensures ∙ proof-origin from));
+      going = c.requires.going;
       same = refl;
       later = omega arith;
     }
@@ -31,14 +32,14 @@ returns-in_err-check_piece-clause-runs g c =
     let from = origin_of c.args.from in
     let x = c.in_err-check_piece.field-0.0 in
     let before = g.L.Library.open_files c.args.files.now in
-    at_exit (λ (r : Result Spot Stop). RunsOpen from r c.args.session.now c.check_piece.new.session before) c.from_residual-in_err-check_piece.result x c.from_residual-in_err-check_piece.ensures.1
-    (stops-open c.pieces_law.ensures from _ c.pieces.session _ c.pieces.collector c.check_piece.new.collector c.pieces.left c.pieces.left _ before _ c.pieces.invariant.read (λ rest others e. front-is c.pieces.left c.in-Bytes.n c.read.new.buf _ _ rest others c.in-Bytes.ensures.reads (omega arith) e) (omega arith) x c.in_err-check_piece.ensures.checks)
+    at_exit (λ (r : Result Spot Stop). RunsOpen from r c.args.session.now.state c.check_piece.new.session.state before) c.from_residual-in_err-check_piece.result x c.from_residual-in_err-check_piece.ensures.1
+    (stops-open c.pieces_law.ensures from _ c.pieces.session.state _ c.pieces.collector c.check_piece.new.collector c.pieces.left c.pieces.left _ before _ c.pieces.invariant.read (λ rest others e. front-is c.pieces.left c.in-Bytes.n c.read.new.buf _ _ rest others c.in-Bytes.ensures.reads (omega arith) e) (omega arith) x c.in_err-check_piece.ensures.checks)
 
 pub returns-then-n-left-clause-runs : goal.returns-then-n-left-clause-runs
 returns-then-n-left-clause-runs g c =
     let from = origin_of c.args.from in
     let fed = c.in_ok-check_piece.ensures.checks in
-    long-open c.pieces_law.ensures from _ c.pieces.session _ c.pieces.collector c.check_piece.new.collector c.pieces.left c.in-Bytes.n c.read.new.buf _ _ _ _ c.pieces.invariant.read c.in-Bytes.ensures.reads c.if-n-left.true refl fed c.here.result (c.here.ensures fed.live)
+    long-open c.pieces_law.ensures from _ c.pieces.session.state _ c.pieces.collector c.check_piece.new.collector c.pieces.left c.in-Bytes.n c.read.new.buf _ _ _ _ c.pieces.invariant.read c.in-Bytes.ensures.reads c.if-n-left.true refl fed c.here.result (c.here.ensures fed.live)
 
 pub check_piece-requires-in-pieces-clause-room : goal.check_piece-requires-in-pieces-clause-room
 check_piece-requires-in-pieces-clause-room g c =
@@ -49,13 +50,14 @@ returns-in_err-check_piece-2-clause-runs g c =
     let from = origin_of c.args.from in
     let x = c.in_err-check_piece-2.field-0.0 in
     let before = g.L.Library.open_files c.args.files.now in
-    at_exit (λ (r : Result Spot Stop). RunsOpen from r c.args.session.now c.check_piece-in-pieces.new.session before) c.from_residual-in_err-check_piece-2.result x c.from_residual-in_err-check_piece-2.ensures.1
-    (stops-open c.pieces_law.ensures from _ c.pieces.session _ c.pieces.collector c.check_piece-in-pieces.new.collector c.pieces.left c.in-Bytes.n _ before _ c.pieces.invariant.read (λ rest others e. piece-is c.in-Bytes.n c.read.new.buf _ _ rest others c.in-Bytes.ensures.reads e) (omega arith) x c.in_err-check_piece-2.ensures.checks)
+    at_exit (λ (r : Result Spot Stop). RunsOpen from r c.args.session.now.state c.check_piece-in-pieces.new.session.state before) c.from_residual-in_err-check_piece-2.result x c.from_residual-in_err-check_piece-2.ensures.1
+    (stops-open c.pieces_law.ensures from _ c.pieces.session.state _ c.pieces.collector c.check_piece-in-pieces.new.collector c.pieces.left c.in-Bytes.n _ before _ c.pieces.invariant.read (λ rest others e. piece-is c.in-Bytes.n c.read.new.buf _ _ rest others c.in-Bytes.ensures.reads e) (omega arith) x c.in_err-check_piece-2.ensures.checks)
 
 pub pieces-preserved : goal.pieces-preserved
 pieces-preserved g c =
     record {
-      read = reads-piece (origin_of c.args.from) _ c.pieces.session _ c.pieces.collector _ c.pieces.left c.in-Bytes.n c.read.new.buf _ _ _ _ c.pieces.invariant.read c.in-Bytes.ensures.reads refl (omega arith) c.in_ok-check_piece-2.ensures.checks;
+      read = reads-piece (origin_of c.args.from) _ c.pieces.session.state _ c.pieces.collector _ c.pieces.left c.in-Bytes.n c.read.new.buf _ _ _ _ c.pieces.invariant.read c.in-Bytes.ensures.reads refl (omega arith) c.in_ok-check_piece-2.ensures.checks;
+      going = c.in_ok-check_piece-2.ensures.going;
       same = c.in-Bytes.ensures.same ∙ c.pieces.invariant.same;
       later = omega (arith, c.in-Bytes.ensures.later, c.pieces.invariant.later);
     }

@@ -1,11 +1,12 @@
-use Rattle.std.proofs.Common.{◌≡◌, ◌≤◌}
+use Rattle.std.proofs.Common.{◌≡◌, ◌≤◌, false}
 use Rattle.eo_run.specs.Stepping.{origin_of}
 use Rattle.eo_run.specs.Reading.{IsRead}
 use Rattle.eo_run.proofs.reading.check_open.Given as goal
 
 abbrev pub invariant-pieces : goal.invariant-pieces
 invariant-pieces g l = record {
-  read : IsRead (origin_of l.from) l.fn.session l.session l.collector l.left (g.L.Library.open_files l.fn.files) (g.L.Library.open_files l.files);
+  read : IsRead (origin_of l.from) l.fn.session.state l.session.state l.collector l.left (g.L.Library.open_files l.fn.files) (g.L.Library.open_files l.files);
+  going : l.session.ended ≡ false;
   same : g.L.Library.told l.files ≡ g.L.Library.told l.fn.files;
   later : g.L.Library.faults l.fn.files ≤ g.L.Library.faults l.files;
 }

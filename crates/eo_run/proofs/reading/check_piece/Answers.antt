@@ -15,8 +15,8 @@ pub returns-in-Fault-clause-checks : goal.returns-in-Fault-clause-checks
 returns-in-Fault-clause-checks c =
     let from = origin_of c.args.from in
     let i = c.commands.invariant in
-    leads-fails from _ c.commands.session _ _ c.in-Fault.name c.in-Fault.at i.leads
-    (fed-fault c.pieces_law.ensures c.answers_law.ensures from c.commands.collector c.feed.new.self i.live i.waiting c.commands.rest.now c.in-Fault.ensures.0 c.in-Fault.name c.in-Fault.at c.in-Fault.ensures.1 c.commands.session).0
+    leads-fails from _ c.commands.session.state _ _ c.in-Fault.name c.in-Fault.at i.leads
+    (fed-fault c.pieces_law.ensures c.answers_law.ensures from c.commands.collector c.feed.new.self i.live i.waiting c.commands.rest.now c.in-Fault.ensures.0 c.in-Fault.name c.in-Fault.at c.in-Fault.ensures.1 c.commands.session.state).0
 
 pub slice_bounds-rest-start : goal.slice_bounds-rest-start
 slice_bounds-rest-start c =
@@ -54,11 +54,12 @@ commands-preserved c =
     let here = fed-here law alone from old d i.live i.waiting rest is u e n takes in
     let tail = tail_of rest u in
     record {
-      leads = subst (λ (q : List ℕ). Leads from c.args.session.now c.check_command.new.session (behind c.args.collector.now c.args.piece.now) (behind n q)) (sym tail) (leads-trans from _ c.commands.session c.check_command.new.session _ _ _ i.leads
-          (leads-command from c.commands.session c.check_command.new.session (behind old rest) (behind n (drop u rest)) k.command (fed-gives law alone from old d i.live i.waiting rest is u e n takes) (c.in_ok-check_command-in-Command.ensures.checks k.command k.phase k.is)));
+      leads = subst (λ (q : List ℕ). Leads from c.args.session.now.state c.check_command.new.session.state (behind c.args.collector.now c.args.piece.now) (behind n q)) (sym tail) (leads-trans from _ c.commands.session.state c.check_command.new.session.state _ _ _ i.leads
+          (leads-command from c.commands.session.state c.check_command.new.session.state (behind old rest) (behind n (drop u rest)) k.command (fed-gives law alone from old d i.live i.waiting rest is u e n takes) (c.in_ok-check_command-in-Command.ensures.checks k.command k.phase k.is)));
       live = fed-live law alone from old d i.live i.waiting rest is u e n takes;
       waiting = fed-waiting law alone from old d i.live i.waiting rest is u e n takes;
       here = (let same = ap length tail in let before = i.here in omega arith);
+      going = c.in_ok-check_command-in-Command.ensures.going;
     }
 
 pub returns-in_err-check_command-in-Command-clause-checks : goal.returns-in_err-check_command-in-Command-clause-checks
@@ -77,5 +78,5 @@ returns-in_err-check_command-in-Command-clause-checks c =
     let takes = c.check_command.ensures.takes in
     let k = fed-command law alone from old d i.live i.waiting rest is u e in
     let x = c.in_err-check_command-in-Command.field-0.0 in
-    at_exit (λ (r : Result (Unit {0}) Stop). ChecksPiece from r c.args.session.now c.check_command.new.session c.args.collector.now n c.args.piece.now) c.from_residual.result x c.from_residual.ensures.1
-    (refused-piece (Unit {0}) from c.args.session.now c.commands.session c.check_command.new.session c.args.collector.now old n c.args.piece.now rest (behind n (drop u rest)) k.command i.leads (fed-gives law alone from old d i.live i.waiting rest is u e n takes) x (c.in_err-check_command-in-Command.ensures.checks k.command k.phase k.is))
+    at_exit (λ (r : Result (Unit {0}) Stop). ChecksPiece from r c.args.session.now.state c.check_command.new.session.state c.args.collector.now n c.args.piece.now) c.from_residual.result x c.from_residual.ensures.1
+    (refused-piece (Unit {0}) from c.args.session.now.state c.commands.session.state c.check_command.new.session.state c.args.collector.now old n c.args.piece.now rest (behind n (drop u rest)) k.command i.leads (fed-gives law alone from old d i.live i.waiting rest is u e n takes) x (c.in_err-check_command-in-Command.ensures.checks k.command k.phase k.is))

@@ -1,10 +1,17 @@
-use Rattle.std.proofs.Common.{◌∙◌, ap}
+use Rattle.std.proofs.Common.{◌≡◌, sym, ap, ◌∙◌}
+use Rattle.eo_run.specs.Held.{state_of}
 use Rattle.eo_run.specs.State.{end_fault}
-use Rattle.eo_run.proofs.Sessions.{end-refuted, end-unrefuted}
+use Rattle.eo_run.specs.Stepping.{Standing}
+use Rattle.eo_run.proofs.Sessions.{end-no_reference, end-no_refutation, end-correct}
 use Rattle.eo_run.proofs.session.Session.end.Goals as goal
 
-pub returns-then-self : goal.returns-then-self
-returns-then-self c = end-refuted _ c.self.inside.refutes c.self.invariant c.if-self.true ∙ ap end_fault c.self.view_is
+pub returns-then-not-self : goal.returns-then-not-self
+returns-then-not-self c = ap (λ (s : Standing). end_fault s.state) (sym c.self.view_is) ∙ end-no_reference (state_of c.self.inside.held) c.if-not-self.true
 
-pub returns-else-self : goal.returns-else-self
-returns-else-self c = end-unrefuted _ c.self.inside.refutes c.self.invariant c.if-self.false ∙ ap end_fault c.self.view_is
+pub returns-then-not-refutes : goal.returns-then-not-refutes
+returns-then-not-refutes c =
+    ap (λ (s : Standing). end_fault s.state) (sym c.self.view_is) ∙ end-no_refutation (state_of c.self.inside.held) c.if-not-self.false (sym c.refutes.ensures ∙ c.if-not-refutes.true)
+
+pub returns : goal.returns
+returns c =
+    ap (λ (s : Standing). end_fault s.state) (sym c.self.view_is) ∙ end-correct (state_of c.self.inside.held) c.if-not-self.false (sym c.refutes.ensures ∙ c.if-not-refutes.false)

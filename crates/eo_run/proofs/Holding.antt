@@ -1,0 +1,205 @@
+-- What is held, and the state that it is.
+use Rattle.std.proofs.Common.{◌≡◌, refl, ℕ, zero, suc, ◌<◌, ◌≤◌, Bool, true, false, not, List, [], ◌∷◌, ◌++◌, length, map, take, All, sym, ap, ◌∙◌, arith, subst, true≢false}
+use Rattle.std.specs.Prelude.{bytes_eq, nat_eq, ◌||◌, if◌then◌else◌}
+use Rattle.std.specs.List.{list_any}
+use Rattle.std.proofs.lemmas.List.{map-append}
+use Rattle.std.proofs.lemmas.Bool.{eqb-true, eq-eqb}
+use Rattle.std.proofs.lemmas.List.Elements.{All-head, All-tail, All-weaker, All-push}
+use Rattle.eo_term.specs.Tree.{Tree, tree_eq, truth}
+use Rattle.eo_term.specs.Terms.{Terms, tree_at, Grows, first_trees}
+use Rattle.eo_term.proofs.Equality.{tree_same, tree_refl}
+use Rattle.eo_sig.specs.Signature.{Entry, Macro, first_signature}
+use Rattle.eo_sig.specs.Reading.{Kept, IsBelow, Adds, AddsMacro, first_kept}
+use Rattle.eo_sig.specs.Reading.{signature as signature_of, macros as macros_of}
+use Rattle.eo_sig.proofs.Same.{signature_grown, macros_grown, below_grown}
+use Rattle.eo_type.specs.Known.{Fits}
+use Rattle.eo_type.proofs.Fitting.{fits_grown, fits_more}
+use Rattle.eo_run.specs.declared.held.Held.{Held}
+use Rattle.eo_run.specs.Ids.{has_id, with_id, Named, is_named, holds_false}
+use Rattle.eo_run.specs.Held.{read_fact, state_of, IsWhole}
+use Rattle.eo_run.specs.State.{State, Fact, first_state, is_asserted, is_live, has_false, with_entry, with_macro, with_fact, with_assertion}
+
+-- ---- facts
+
+pub live_named : (ts : List Tree) (facts : List Named) (name : List ℕ) → is_live (map (read_fact ts) facts) name ≡ is_named facts name
+live_named ts [] name = refl
+live_named ts (f ∷ fs) name = ap (λ b. bytes_eq f.0 name || b) (live_named ts fs name)
+
+-- ---- terms of which no two have the same tree
+
+abbrev pub AreDistinct : List Tree → Type 0
+AreDistinct ts = (i j : ℕ) → i < length ts → j < length ts → tree_at ts i ≡ tree_at ts j → i ≡ j
+
+same_tests : (a b : Bool) → (a ≡ true → b ≡ true) → (b ≡ true → a ≡ true) → a ≡ b
+same_tests true b f g = sym (f refl)
+same_tests false true f g = g refl
+same_tests false false f g = refl
+
+module _ (ts : List Tree) (apart : AreDistinct ts) where
+  same_id : (i j : ℕ) → i < length ts → j < length ts → tree_eq (tree_at ts i) (tree_at ts j) ≡ nat_eq i j
+  same_id i j h k =
+      same_tests (tree_eq (tree_at ts i) (tree_at ts j)) (nat_eq i j) (λ e. eq-eqb i j (apart i j h k (tree_same (tree_at ts i) (tree_at ts j) e)))
+      (λ e. subst (λ (n : ℕ). tree_eq (tree_at ts i) (tree_at ts n) ≡ true) (eqb-true i j e) (tree_refl (tree_at ts i)))
+
+  pub asserted_id : (ids : List ℕ) (i : ℕ) → i < length ts → All (λ j. j < length ts) ids → list_any (tree_eq (tree_at ts i)) (map (tree_at ts) ids) ≡ has_id ids i
+  asserted_id [] i h a = refl
+  asserted_id (j ∷ js) i h a =
+      (λ k. same_id i j h (All-head (λ j. j < length ts) j js a) k || asserted_id js i h (All-tail (λ j. j < length ts) j js a) k)
+
+  pub false_fact : (facts : List Named) → 3 < length ts → tree_at ts 3 ≡ truth false → All (λ (f : Named). f.1 < length ts) facts → has_false (map (read_fact ts) facts) ≡ holds_false facts
+  false_fact [] l e a = refl
+  false_fact (f ∷ fs) l e a =
+      (λ k. (ap (tree_eq (tree_at ts f.1)) (sym e) ∙ same_id f.1 3 (All-head (λ (f : Named). f.1 < length ts) f fs a) l) k || false_fact fs l e (All-tail (λ (f : Named). f.1 < length ts) f fs a) k)
+
+-- the first terms
+
+pub first_is : (ts : List Tree) (i : ℕ) → take 4 ts ≡ first_trees → i < 4 → (tree_at ts i ≡ tree_at first_trees i) × (i < length ts)
+first_is ts i e l = by ts e
+  where
+    by : (us : List Tree) → take 4 us ≡ first_trees → (tree_at us i ≡ tree_at first_trees i) × (i < length us)
+    by [] h = absurd cc
+    by (a ∷ []) h = absurd cc
+    by (a ∷ b ∷ []) h = absurd cc
+    by (a ∷ b ∷ c ∷ []) h = absurd cc
+    by (a ∷ b ∷ c ∷ d ∷ us) h = here i l
+      where
+        here : (j : ℕ) → j < 4 → (tree_at (a ∷ b ∷ c ∷ d ∷ us) j ≡ tree_at first_trees j) × (j < length (a ∷ b ∷ c ∷ d ∷ us))
+        here zero m = (cc, omega arith)
+        here (suc zero) m = (cc, omega arith)
+        here (suc (suc zero)) m = (cc, omega arith)
+        here (suc (suc (suc zero))) m = (cc, omega arith)
+        here (suc (suc (suc (suc j)))) m = absurd (omega (arith, m))
+
+pub truth_at : (ts : List Tree) → take 4 ts ≡ first_trees → (b : Bool) (i : ℕ) → i ≡ (if b then 2 else 3) → (tree_at ts i ≡ truth b) × (i < length ts)
+truth_at ts e true i h = subst (λ (j : ℕ). (tree_at ts j ≡ truth true) × (j < length ts)) (sym h) (first_is ts 2 e (omega arith))
+truth_at ts e false i h = subst (λ (j : ℕ). (tree_at ts j ≡ truth false) × (j < length ts)) (sym h) (first_is ts 3 e (omega arith))
+
+-- ---- a table that grows
+
+map_grown : {A : Type 0} (f g : A → Tree) (P : A → Type 0) → ((x : A) → P x → f x ≡ g x) → (xs : List A) → All P xs → map f xs ≡ map g xs
+map_grown f g P h [] a = refl
+map_grown f g P h (x ∷ xs) a = (λ k. h x (All-head P x xs a) k ∷ map_grown f g P h xs (All-tail P x xs a) k)
+
+facts_grown : (ts us : List Tree) (n : ℕ) → ((i : ℕ) → i < n → tree_at us i ≡ tree_at ts i) → (fs : List Named) → All (λ (f : Named). f.1 < n) fs → map (read_fact us) fs ≡ map (read_fact ts) fs
+facts_grown ts us n h [] a = refl
+facts_grown ts us n h (f ∷ fs) a = (λ k. record { name = f.0; formula = h f.1 (All-head (λ (f : Named). f.1 < n) f fs a) k } ∷ facts_grown ts us n h fs (All-tail (λ (f : Named). f.1 < n) f fs a) k)
+
+ids_below : (n m : ℕ) → n ≤ m → (is : List ℕ) → All (λ i. i < n) is → All (λ i. i < m) is
+ids_below n m l is a = All-weaker (λ i. i < n) (λ i. i < m) (λ i h. omega (arith, l, h)) is a
+
+named_below : (n m : ℕ) → n ≤ m → (fs : List Named) → All (λ (f : Named). f.1 < n) fs → All (λ (f : Named). f.1 < m) fs
+named_below n m l fs a = All-weaker (λ (f : Named). f.1 < n) (λ (f : Named). f.1 < m) (λ f h. omega (arith, l, h)) fs a
+
+module _ (h : Held) (whole : IsWhole h) where
+  abbrev trees : List Tree
+  trees = h.table.trees
+
+  module _ (t : Terms) (grows : Grows h.table t) where
+    pub state_table : state_of (record h { table = t }) ≡ state_of h
+    state_table =
+        let a = map_grown (tree_at t.trees) (tree_at trees) (λ i. i < length trees) grows.tree h.assertions whole.assertions in
+        let f = facts_grown trees t.trees (length trees) grows.tree h.facts whole.facts in
+        let s = signature_grown h.table t h.signature whole.signature grows in
+        let m = macros_grown h.table t h.signature whole.signature grows in
+        (λ k. record { signature = s k; macros = m k; assertions = a k; has_reference = h.has_reference; facts = f k; closed = h.closed; commands = h.commands })
+
+    pub whole_table : IsWhole (record h { table = t })
+    whole_table = record {
+      signature = below_grown h.table t h.signature grows whole.signature;
+      assertions = ids_below (length trees) (length t.trees) grows.more_trees h.assertions whole.assertions;
+      facts = named_below (length trees) (length t.trees) grows.more_trees h.facts whole.facts;
+      types = fits_grown h.signature h.table t whole.signature grows h.types whole.types;
+    }
+
+  -- types that were found for a larger table
+  pub whole_types : (t : Terms) (grows : Grows h.table t) (types : List (ℕ × ℕ)) → Fits (signature_of t.trees h.signature) t.trees types → IsWhole (record h { table = t; types = types })
+  whole_types t grows types fits = let w = whole_table t grows in record { signature = w.signature; assertions = w.assertions; facts = w.facts; types = fits }
+
+  module _ (k : Kept) (below : IsBelow (length trees) k) where
+    pub whole_entry : (e : Entry) → Adds trees h.signature e k → IsWhole (record h { signature = k })
+    whole_entry e adds = record {
+      signature = below;
+      assertions = whole.assertions;
+      facts = whole.facts;
+      types = subst (λ S. Fits S trees h.types) (sym adds.signature) (fits_more (signature_of trees h.signature) (e ∷ []) trees h.types whole.types);
+    }
+
+    pub whole_macro : (m : Macro) → AddsMacro trees h.signature m k → IsWhole (record h { signature = k })
+    whole_macro m adds = record {
+      signature = below;
+      assertions = whole.assertions;
+      facts = whole.facts;
+      types = subst (λ S. Fits S trees h.types) (sym adds.signature) whole.types;
+    }
+
+    pub state_entry : (e : Entry) → Adds trees h.signature e k → state_of (record h { signature = k }) ≡ with_entry (state_of h) e
+    state_entry e adds = (λ j. record { signature = adds.signature j; macros = adds.macros j; assertions = map (tree_at trees) h.assertions; has_reference = h.has_reference; facts = map (read_fact trees) h.facts; closed = h.closed; commands = h.commands })
+
+    pub state_macro : (m : Macro) → AddsMacro trees h.signature m k → state_of (record h { signature = k }) ≡ with_macro (state_of h) m
+    state_macro m adds = (λ j. record { signature = adds.signature j; macros = adds.macros j; assertions = map (tree_at trees) h.assertions; has_reference = h.has_reference; facts = map (read_fact trees) h.facts; closed = h.closed; commands = h.commands })
+
+  module _ (name : List ℕ) (i : ℕ) (live : i < length trees) (facts : List Named) (is : facts ≡ h.facts ++ (name, i) ∷ []) where
+    pub whole_fact : IsWhole (record h { facts = facts })
+    whole_fact = record {
+      signature = whole.signature;
+      assertions = whole.assertions;
+      facts = subst (All (λ (f : Named). f.1 < length trees)) (sym is) (All-push (λ (f : Named). f.1 < length trees) h.facts (name, i) whole.facts live);
+      types = whole.types;
+    }
+
+    pub state_fact : state_of (record h { facts = facts }) ≡ with_fact (state_of h) name (tree_at trees i)
+    state_fact =
+        ap (λ (fs : List Named). state_of (record h { facts = fs })) is
+        ∙ (λ j. record { signature = signature_of trees h.signature; macros = macros_of trees h.signature; assertions = map (tree_at trees) h.assertions; has_reference = h.has_reference; facts = map-append (read_fact trees) h.facts ((name, i) ∷ []) j; closed = h.closed; commands = h.commands })
+
+  module _ (apart : AreDistinct trees) (i : ℕ) (live : i < length trees) (ids : List ℕ) (is : ids ≡ with_id h.assertions i) where
+    abbrev more : Bool → List ℕ
+    more b = if b then h.assertions else h.assertions ++ i ∷ []
+
+    below_more : (b : Bool) → All (λ j. j < length trees) (more b)
+    below_more true = whole.assertions
+    below_more false = All-push (λ j. j < length trees) h.assertions i whole.assertions live
+
+    pub whole_assertion : IsWhole (record h { assertions = ids })
+    whole_assertion = record {
+      signature = whole.signature;
+      assertions = subst (All (λ j. j < length trees)) (sym is) (below_more (has_id h.assertions i));
+      facts = whole.facts;
+      types = whole.types;
+    }
+
+    state_more : (b : Bool) → state_of (record h { assertions = more b }) ≡ (if b then state_of h else record (state_of h) { assertions = map (tree_at trees) h.assertions ++ tree_at trees i ∷ [] })
+    state_more true = refl
+    state_more false = (λ j. record { signature = signature_of trees h.signature; macros = macros_of trees h.signature; assertions = map-append (tree_at trees) h.assertions (i ∷ []) j; has_reference = h.has_reference; facts = map (read_fact trees) h.facts; closed = h.closed; commands = h.commands })
+
+    pub state_assertion : state_of (record h { assertions = ids }) ≡ with_assertion (state_of h) (tree_at trees i)
+    state_assertion =
+        ap (λ (js : List ℕ). state_of (record h { assertions = js })) is
+        ∙ state_more (has_id h.assertions i)
+        ∙ ap (λ b. if b then state_of h else record (state_of h) { assertions = map (tree_at trees) h.assertions ++ tree_at trees i ∷ [] }) (sym (asserted_id trees apart h.assertions i live whole.assertions))
+
+-- ---- the first
+
+All-none : {A : Type 0} (P : A → Type 0) → All P []
+All-none P = λ i x l. absurd (omega (arith, l))
+
+pub state_first : (h : Held) (closed : Bool) → h.table.trees ≡ first_trees → h.signature ≡ first_kept → signature_of h.table.trees h.signature ≡ first_signature → h.assertions ≡ [] → h.has_reference ≡ false → h.facts ≡ [] → h.closed ≡ closed → h.commands ≡ 0 → state_of h ≡ first_state closed
+unfolding first_state
+state_first h closed t k s a r f c n =
+    (λ j. record {
+      signature = s j;
+      macros = macros_of h.table.trees (k j);
+      assertions = map (tree_at h.table.trees) (a j);
+      has_reference = r j;
+      facts = map (read_fact h.table.trees) (f j);
+      closed = c j;
+      commands = n j;
+    })
+
+pub whole_first : (h : Held) → h.table.trees ≡ first_trees → IsBelow 4 h.signature → h.assertions ≡ [] → h.facts ≡ [] → Fits (signature_of h.table.trees h.signature) h.table.trees h.types → IsWhole h
+whole_first h t b a f types = record {
+  signature = subst (λ (ts : List Tree). IsBelow (length ts) h.signature) (sym t) b;
+  assertions = subst (All (λ i. i < length h.table.trees)) (sym a) (All-none _);
+  facts = subst (All (λ (f : Named). f.1 < length h.table.trees)) (sym f) (All-none _);
+  types = types;
+}

@@ -1,0 +1,28 @@
+use Rattle.std.proofs.Common.{ℕ, length, sym, ap, ◌∙◌}
+use Rattle.std.specs.Prelude.{Ok}
+use Rattle.eo_sig.specs.Reading.{read_constant}
+use Rattle.eo_sig.specs.Signature.{IsConstant, constant_fault}
+use Rattle.eo_run.specs.Held.{state_of}
+use Rattle.eo_run.specs.State.{with_entry}
+use Rattle.eo_run.proofs.Adding.{no_fault-fails, no_fault-passes, does-sig}
+use Rattle.eo_run.proofs.Holding.{state_entry, whole_entry}
+use Rattle.eo_run.proofs.held.Held.add_constant.Goals as goal
+
+pub returns-in_err-declare-clause-does : goal.returns-in_err-declare-clause-does
+returns-in_err-declare-clause-does c =
+    let d = read_constant c.args.self.now.table.trees c.args.d in
+    let st = state_of c.args.self.now in
+    does-sig ℕ _ (constant_fault d) c.from_residual.result c.in_err-declare.field-0.0 _ c.from_residual.ensures.1 c.in_err-declare.ensures.tells (no_fault-fails (constant_fault d) (λ _. Ok (with_entry st (IsConstant d))))
+
+pub returns-clause-whole : goal.returns-clause-whole
+returns-clause-whole c =
+    let h = c.args.self.now in
+    whole_entry h c.requires.whole c.declare.new.self (c.in_ok-declare.ensures.below (length h.table.trees) c.requires.whole.signature c.requires.below) (IsConstant (read_constant h.table.trees c.args.d)) (c.in_ok-declare.ensures.adds h.table.trees)
+
+pub returns-clause-does : goal.returns-clause-does
+returns-clause-does c =
+    let h = c.args.self.now in
+    let d = read_constant h.table.trees c.args.d in
+    let below = c.in_ok-declare.ensures.below (length h.table.trees) c.requires.whole.signature c.requires.below in
+    no_fault-passes (constant_fault d) (λ _. Ok (with_entry (state_of h) (IsConstant d))) c.in_ok-declare.ensures.tells
+    ∙ ap Ok (sym (state_entry h c.requires.whole c.declare.new.self below (IsConstant d) (c.in_ok-declare.ensures.adds h.table.trees)))

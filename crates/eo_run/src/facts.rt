@@ -1,0 +1,68 @@
+//! The formulas that a proof has, by their names.
+ghost use Rattle.std.specs.Prelude.{◌≡◌, List, [], ◌∷◌, ◌++◌, false, OnOk, OnErr};
+ghost use Rattle.eo_run.specs.Ids.{is_named, holds_false};
+
+use eo_term::{FALSE, Id};
+use indexmap::IndexMap;
+use std::alloc::{AllocError, Global};
+use std::marker::Model;
+
+/// Formulas in the order in which they came, each with a name of its own. A name is found by its
+/// hash.
+#[derive(Drop)]
+pub(crate) struct Facts {
+    alloc: Global,
+    formulas: IndexMap<Vec<u8>, Id>,
+    // Whether one of them is `false`.
+    refutes: bool,
+}
+
+impl Model for Facts {
+    ghost use Rattle.std.specs.Prelude.{◌≡◌, ℕ, List, map};
+    ghost use Rattle.eo_run.specs.Ids.{holds_false};
+
+    ghost Value = { List (List ℕ × ℕ) };
+
+    ghost view = { λ a. map (λ e. (e.0.items, e.1)) a.formulas.entries };
+
+    ghost invariant = { λ a. a.refutes ≡ holds_false (map (λ e. (e.0.items, e.1)) a.formulas.entries) };
+}
+
+impl Facts {
+    /// No formulas.
+    pub(crate) fn new(alloc: Global) -> Facts
+        ensures { result ≡ [] }
+    {
+        Facts {
+            alloc,
+            formulas: IndexMap::new(alloc),
+            refutes: false,
+        }
+    }
+
+    /// Whether a formula has the name.
+    pub(crate) fn has(&self, name: &[u8]) -> bool
+        ensures { result ≡ is_named self.now name.now }
+    {
+        self.formulas.contains_key(name)
+    }
+
+    /// Whether one of the formulas is `false`.
+    pub(crate) fn refutes(&self) -> bool
+        ensures { result ≡ holds_false self.now }
+    {
+        self.refutes
+    }
+
+    /// Adds a formula by a name that none has.
+    pub(crate) fn add(&mut self, name: &[u8], formula: Id) -> Result<(), AllocError>
+        requires { is_named self.old name.now ≡ false }
+        ensures added { OnOk result (self.new ≡ self.old ++ (name.now, formula) ∷ []) }
+        ensures err { OnErr result (self.new ≡ self.old) }
+    {
+        let name = name.to_vec(self.alloc)?;
+        self.formulas.insert(name, formula)?;
+        self.refutes |= formula == FALSE;
+        Ok(())
+    }
+}
