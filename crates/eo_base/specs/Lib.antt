@@ -5,3 +5,4 @@ pub mod FaultTexts
 pub mod Limits
 pub mod Characters
 pub mod Statuses
+pub mod Answers

@@ -1,29 +1,31 @@
 -- Parameters that are read one after another.
-use Rattle.std.proofs.Common.{◌≡◌, ℕ, zero, suc, drop, Option, Some, ◌<◌, ◌≤◌, Bool, true, false, not, ◌||◌, List, [], ◌∷◌, ◌++◌, map, length, All, refl, sym, ap, ◌∙◌, arith}
-use Rattle.std.specs.Prelude.{Ok, Err, bytes_eq, slice_get}
-use Rattle.std.proofs.lemmas.Option.{none-some, same_Some}
+use Rattle.std.proofs.Common.{◌≡◌, ℕ, ◌<◌, ◌≤◌, Bool, true, false, not, ◌||◌, List, [], ◌∷◌, ◌++◌, map, length, All, refl, sym, ap, subst, ◌∙◌, arith}
+use Rattle.std.specs.Prelude.{Result, Ok, Err, bytes_eq}
+use Rattle.std.specs.Result.{IsErrAnd}
 use Rattle.std.specs.List.{list_any}
 use Rattle.std.proofs.lemmas.List.{map-append, length-map}
-use Rattle.std.proofs.lemmas.List.Elements.{All-head, All-tail, All-weaker, All-append}
+use Rattle.std.proofs.lemmas.List.Elements.{All-head, All-tail, All-weaker}
 use Rattle.eo_base.specs.declared.FaultName.{FaultName}
 use Rattle.eo_base.specs.declared.FaultName.TheVariants.{Redeclared}
 use Rattle.eo_base.specs.Checks.{Checked, ◌>>=◌, require}
-use Rattle.eo_sexp.specs.Sexp.{Sexp}
 use Rattle.eo_sig.specs.declared.records.Param.{Param}
-use Rattle.eo_sig.specs.Reading.{read_parameter, Kept, IsBelow, signature, macros}
-use Rattle.eo_sig.proofs.Same.{stays_grown}
-use Rattle.eo_sig.specs.Signature.{Parameter}
+use Rattle.eo_sig.specs.Reading.{read_parameter, Kept}
 use Rattle.eo_shape.specs.Shapes.{ParameterShape}
 use Rattle.eo_term.specs.Terms.{Terms, tree_at, Grows}
 use Rattle.eo_term.specs.Tree.{Tree, Par}
-use Rattle.eo_elab.specs.declared.locals.LocalName.{LocalName}
 use Rattle.eo_elab.specs.declared.parameters.Bound as code
-use Rattle.eo_elab.specs.Declarations.{Bound, bind, unbound, is_bound, with_parameter}
+use Rattle.eo_base.specs.Answers.{Tells}
+use Rattle.eo_base.proofs.Answering.{tells_on}
+use Rattle.eo_names.specs.declared.refused.ElabRefused.{ElabRefused}
+use Rattle.eo_elab.specs.Gives.{ReadsParameter}
+use Rattle.eo_names.specs.Refused.{told}
+use Rattle.eo_elab.specs.Worlds.{context_in}
+use Rattle.eo_elab.specs.Declarations.{Bound, bind, is_bound, with_parameter}
 use Rattle.eo_elab.specs.Declaring.{read_bound}
-use Rattle.eo_elab.specs.Meaning.{Context, Local, meaning}
-use Rattle.eo_elab.specs.Names.{local, read_locals, AreBelow}
-use Rattle.eo_elab.specs.Walk.{context, IsReady, Keeps}
-use Rattle.eo_elab.proofs.FoldLemmas.{locals_grown, names_more}
+use Rattle.eo_names.specs.Contexts.{Context}
+use Rattle.eo_elab.specs.Meaning.{meaning}
+use Rattle.eo_names.specs.Names.{local, read_locals, AreBelow}
+use Rattle.eo_names.proofs.FoldLemmas.{locals_grown}
 
 -- ---- one parameter
 
@@ -63,16 +65,6 @@ parameters-grown n ts us (p ∷ ps) same h =
 pub parameters-more : (n m : ℕ) (ps : List Param) → n ≤ m → All (λ (p : Param). p.ty < n) ps → All (λ (p : Param). p.ty < m) ps
 parameters-more n m ps l h = All-weaker (λ (x : Param). x.ty < n) (λ (x : Param). x.ty < m) (λ x q. omega arith) ps h
 
--- all names stand for what they stood for
-pub keeps-grown : (k : Kept) (ls : List LocalName) (old new : Terms) → IsReady (length old.trees) k ls → Grows old new → Keeps k ls old.trees new.trees
-keeps-grown k ls old new ready g =
-    let stays = stays_grown k old new ready.below g in
-    record {
-      context = λ i. record { signature = stays.signature i; macros = stays.macros i; setting = (context old.trees k).setting };
-      names = locals_grown ls old.trees new.trees (length old.trees) ready.names g.tree;
-      ready = record { below = stays.below; names = names_more ls (length old.trees) (length new.trees) g.more_trees ready.names };
-    }
-
 pub bound-grown : (b : code.Bound) (old new : Terms) → All (λ (p : Param). p.ty < length old.trees) b.params → AreBelow (length old.trees) b.locals → Grows old new → read_bound new.trees b ≡ read_bound old.trees b
 bound-grown b old new below names g =
     let ps = parameters-grown (length old.trees) old.trees new.trees b.params g.tree below in
@@ -90,15 +82,10 @@ bound-more b ts p id t e n =
       locals = record { name = p.name; tree = number i; list = p.list } ∷ read_locals ts b.locals;
     }
 
--- ---- all parameters
+-- ---- one more, or a fault
 
-pub drop-at : {X : Type 0} (xs : List X) (i : ℕ) (x : X) → slice_get xs i ≡ Some x → drop i xs ≡ x ∷ drop (suc i) xs
-drop-at [] i x e = absurd (none-some x e)
-drop-at (y ∷ ys) zero x e = ap (λ z. z ∷ ys) (same_Some y x e)
-drop-at (y ∷ ys) (suc i) x e = drop-at ys i x e
-
--- one parameter more was read, over a table that had grown
-pub bind-next : (k : Kept) (old now : Terms) (shapes : List ParameterShape) (i : ℕ) (p : ParameterShape) (b : Bound) (r : Checked Bound) → IsReady (length old.trees) k [] → Grows old now → slice_get shapes i ≡ Some p
-    → bind (context old.trees k) b (drop i shapes) ≡ bind (context old.trees k) unbound shapes → bind (context now.trees k) b (p ∷ drop (suc i) shapes) ≡ r → bind (context old.trees k) unbound shapes ≡ r
-bind-next k old now shapes i p b r ready g e before next =
-    sym before ∙ ap (bind (context old.trees k) b) (drop-at shapes i p e) ∙ ap (λ c. bind c b (p ∷ drop (suc i) shapes)) (sym (keeps-grown k [] old now ready g).context) ∙ next
+pub reads_fault : (k : Kept) (old new : Terms) (p : ParameterShape) (before after : code.Bound) (r : Result (Unit {0}) ElabRefused) (e : ElabRefused) (m : Checked Tree) → IsErrAnd r (λ x. x ≡ e)
+    → ((rest : List ParameterShape) (f : FaultName) → m ≡ Err f → bind (context_in old k) (read_bound old.trees before) (p ∷ rest) ≡ Err f) → Tells told e m → ReadsParameter k old new p before after r
+reads_fault k old new p before after (Ok x) e m q step h = absurd q
+reads_fault k old new p before after (Err x) e m q step h =
+    subst (λ y. (rest : List ParameterShape) → Tells told y (bind (context_in old k) (read_bound old.trees before) (p ∷ rest))) (sym q) (λ rest. tells_on told e (bind (context_in old k) (read_bound old.trees before) (p ∷ rest)) m (step rest) h)

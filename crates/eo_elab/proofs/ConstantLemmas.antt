@@ -13,41 +13,42 @@ use Rattle.eo_term.specs.Tree.{Tree, Trees, Qar, height, is_tall}
 use Rattle.eo_term.specs.declared.node.Node.{Node}
 use Rattle.eo_term.specs.declared.node.Node.TheVariants as node
 use Rattle.eo_elab.specs.Declarations.{bound_type, constant, constant_number, plain_constant, sort_type, meanings}
-use Rattle.eo_elab.specs.Meaning.{Context, Local, meaning}
-use Rattle.eo_elab.proofs.FoldLemmas.{higher}
+use Rattle.eo_names.specs.Contexts.{Context, Local}
+use Rattle.eo_elab.specs.Meaning.{meaning}
+use Rattle.eo_names.proofs.FoldLemmas.{higher}
 
 -- only a constant has a number
-pub other_number : (c : Context) (ts : List Tree) (xs : List (List ℕ)) (n : Node) (args : Trees) → ((k : ℕ) → n ≡ node.Con k → ⊥) → constant_number c (tree_of ts xs n args) ≡ Err UnknownSymbol
-other_number c ts xs (node.Con k) args differs = absurd (differs k refl)
-other_number c ts xs (node.Num z) args differs = refl
-other_number c ts xs (node.Bits w v) args differs = refl
-other_number c ts xs (node.Str s) args differs = refl
-other_number c ts xs (node.Par i) args differs = refl
-other_number c ts xs (node.Var s t) args differs = refl
-other_number c ts xs (node.App f x) args differs = refl
-other_number c ts xs (node.Arr a b) args differs = refl
-other_number c ts xs (node.Qar i t b) args differs = refl
-other_number c ts xs (node.Op code n) args differs = refl
+pub other_number : (ts : List Tree) (xs : List (List ℕ)) (n : Node) (args : Trees) → ((k : ℕ) → n ≡ node.Con k → ⊥) → constant_number (tree_of ts xs n args) ≡ Err UnknownSymbol
+other_number ts xs (node.Con k) args differs = absurd (differs k refl)
+other_number ts xs (node.Num z) args differs = refl
+other_number ts xs (node.Bits w v) args differs = refl
+other_number ts xs (node.Str s) args differs = refl
+other_number ts xs (node.Par i) args differs = refl
+other_number ts xs (node.Var s t) args differs = refl
+other_number ts xs (node.App f x) args differs = refl
+other_number ts xs (node.Arr a b) args differs = refl
+other_number ts xs (node.Qar i t b) args differs = refl
+other_number ts xs (node.Op code n) args differs = refl
 
-module _ (c : Context) where
-  pub sort-height : (n : ℕ) → height (sort_type c n) ≡ suc n
-  sort-height zero = refl
-  sort-height (suc n) = let ih = sort-height n in omega (arith, ih)
+pub sort-height : (n : ℕ) → height (sort_type n) ≡ suc n
+sort-height zero = refl
+sort-height (suc n) = let ih = sort-height n in omega (arith, ih)
 
-  module _ (name : List ℕ) (t : Tree) (a : Attribute) where
-    abbrev whole : Constant
-    whole = constant c name [] t a
+-- a constant without parameters
+module _ (c : Context) (name : List ℕ) (t : Tree) (a : Attribute) where
+  abbrev whole : Constant
+  whole = constant c name [] t a
 
-    abbrev step : Bool → Checked Constant
-    step holds = no_fault (first_wrong holds true) >>= λ _. Ok whole
+  abbrev step : Bool → Checked Constant
+  step holds = no_fault (first_wrong holds true) >>= λ _. Ok whole
 
-    pub plain-held : constant_may_hold whole ≡ true → plain_constant c name t a ≡ Ok whole
-    unfolding ◌>>=◌ no_fault
-    plain-held e = ap step e
+  pub plain-held : constant_may_hold whole ≡ true → plain_constant c name t a ≡ Ok whole
+  unfolding ◌>>=◌ no_fault
+  plain-held e = ap step e
 
-    pub plain-refused : constant_may_hold whole ≡ false → plain_constant c name t a ≡ Err BadPattern
-    unfolding ◌>>=◌ no_fault
-    plain-refused e = ap step e
+  pub plain-refused : constant_may_hold whole ≡ false → plain_constant c name t a ≡ Err BadPattern
+  unfolding ◌>>=◌ no_fault
+  plain-refused e = ap step e
 
 -- ---- meanings in order
 
@@ -96,20 +97,20 @@ meanings-end c locals before = ap Ok (append-nil before)
 tall_to : (i : ℕ) (a b : Tree) → is_tall b ≡ true → is_tall (Qar i a b) ≡ true
 tall_to i a b e = higher b (Qar i a b) (omega arith) e
 
-module _ (c : Context) (i : ℕ) (p : Parameter) (ps : List Parameter) (t : Tree) where
+module _ (i : ℕ) (p : Parameter) (ps : List Parameter) (t : Tree) where
   abbrev inner : Tree
-  inner = bound_type c (suc i) ps t
+  inner = bound_type (suc i) ps t
 
   abbrev by_mark : Bool → Tree
   by_mark implicit = if implicit then inner else Qar i p.type inner
 
-  pub bound-implicit : p.implicit ≡ true → inner ≡ bound_type c i (p ∷ ps) t
+  pub bound-implicit : p.implicit ≡ true → inner ≡ bound_type i (p ∷ ps) t
   bound-implicit e = sym (ap by_mark e)
 
-  pub bound-explicit : p.implicit ≡ false → Qar i p.type inner ≡ bound_type c i (p ∷ ps) t
+  pub bound-explicit : p.implicit ≡ false → Qar i p.type inner ≡ bound_type i (p ∷ ps) t
   bound-explicit e = sym (ap by_mark e)
 
-  pub bound-tall : is_tall inner ≡ true → is_tall (bound_type c i (p ∷ ps) t) ≡ true
+  pub bound-tall : is_tall inner ≡ true → is_tall (bound_type i (p ∷ ps) t) ≡ true
   bound-tall e = by p.implicit
     where
       by : (b : Bool) → is_tall (by_mark b) ≡ true

@@ -1,21 +1,19 @@
 -- What a command declares, by its parts.
-use Rattle.std.proofs.Common.{◌≡◌, ℕ, ◌<◌, ◌≤◌, Bool, true, false, List, [], ◌∷◌, ◌++◌, map, length, refl, ap, sym, ◌∙◌, nat_le, cond, rules, tests}
+use Rattle.std.proofs.Common.{◌≡◌, ℕ, ◌<◌, ◌≤◌, true, false, List, [], ◌∷◌, ◌++◌, length, refl, ap, ◌∙◌, nat_le, cond, rules, tests}
 use Rattle.std.specs.Prelude.{Ok, Err}
 use Rattle.eo_base.specs.declared.FaultName.{FaultName}
 use Rattle.eo_base.specs.declared.FaultName.TheVariants.{Redeclared, Parameters, TermHeight}
-use Rattle.eo_base.specs.Checks.{Checked, ◌>>=◌, require}
+use Rattle.eo_base.specs.Checks.{Checked, ◌>>=◌}
 use Rattle.eo_base.specs.Limits.{parameters_limit, height_limit}
 use Rattle.eo_sexp.specs.Sexp.{Sexp}
 use Rattle.eo_shape.specs.Shapes.{ParameterShape, AttributeShape}
 use Rattle.eo_sig.specs.Signature.{Attribute, Plain, Constant, Macro}
-use Rattle.eo_term.specs.Refused.{IsTall}
 use Rattle.eo_term.specs.Tree.{Tree, Arr, height, is_tall}
-use Rattle.eo_term.specs.declared.table.TermRefused.{TermRefused}
-use Rattle.eo_term.specs.declared.table.TermRefused.TheVariants as refused
-use Rattle.eo_elab.specs.Refused.{is_memory, fault_of, of_term}
 use Rattle.eo_elab.specs.Declarations.{Bound, bind, unbound, is_free_name, is_free_or_reference, not_tall, meanings, attribute, constant, macro, plain_constant, function_type, bound_type, declared_const, declared_fun, declared_parameterized, defined}
 use Rattle.eo_elab.specs.Declaring.{typed, typed_over, type_of_function}
-use Rattle.eo_elab.specs.Meaning.{Context, Local, arrow, meaning}
+use Rattle.eo_names.specs.Contexts.{Context, Local}
+use Rattle.eo_names.specs.Folding.{arrow}
+use Rattle.eo_elab.specs.Meaning.{meaning}
 use Rattle.eo_elab.proofs.CheckedLemmas.{then-ok, then-err, require-yes, require-no}
 
 pub low : (t : Tree) → is_tall t ≡ false → not_tall t ≡ Ok t
@@ -28,18 +26,69 @@ pub low-height : (t : Tree) → height t ≤ height_limit → is_tall t ≡ fals
 low-height t h = search (rules, tests)
 
 -- the type of a function, by its inputs and then its output
-pub arrow-onto : (c : Context) (ts : List Tree) (t : Tree) → arrow (ts ++ t ∷ []) ≡ function_type c ts t
-arrow-onto c [] t = refl
-arrow-onto c (a ∷ []) t = refl
-arrow-onto c (a ∷ b ∷ ts) t = ap (Arr a) (arrow-onto c (b ∷ ts) t)
-
--- the fault of a term that was not made, which is its height where it is not want of memory
-pub term-fault : {A : Type 0} (e : TermRefused) (spec : Checked A) → (IsTall {X = ℕ} (Err e) → spec ≡ Err TermHeight) → is_memory (of_term e) ≡ false → spec ≡ Err (fault_of (of_term e))
-term-fault refused.Tall spec f h = f tt
-term-fault (refused.Memory m) spec f h = absurd cc
+pub arrow-onto : (ts : List Tree) (t : Tree) → arrow (ts ++ t ∷ []) ≡ function_type ts t
+arrow-onto [] t = refl
+arrow-onto (a ∷ []) t = refl
+arrow-onto (a ∷ b ∷ ts) t = ap (Arr a) (arrow-onto (b ∷ ts) t)
 
 abbrev pub both : Tree → Attribute → Checked (Tree × Attribute)
 both t a = Ok (t, a)
+
+-- a type and an attribute, one check a line
+module _ (c : Context) (ls : List Local) (type : Sexp) (shape : AttributeShape) where
+  pub typed-no-type : (f : FaultName) → meaning c ls type ≡ Err f → typed c ls type shape ≡ Err f
+  typed-no-type f e = then-err (λ t. attribute c ls shape >>= λ a. both t a) (meaning c ls type) f e
+
+  typed-type : (t : Tree) → meaning c ls type ≡ Ok t → typed c ls type shape ≡ (attribute c ls shape >>= λ a. both t a)
+  typed-type t e = then-ok (λ t. attribute c ls shape >>= λ a. both t a) (meaning c ls type) t e
+
+  pub typed-no-attribute : (t : Tree) (f : FaultName) → meaning c ls type ≡ Ok t → attribute c ls shape ≡ Err f → typed c ls type shape ≡ Err f
+  typed-no-attribute t f e h = typed-type t e ∙ then-err (λ a. both t a) (attribute c ls shape) f h
+
+  pub typed-both : (t : Tree) (a : Attribute) → meaning c ls type ≡ Ok t → attribute c ls shape ≡ Ok a → typed c ls type shape ≡ Ok (t, a)
+  typed-both t a e h = typed-type t e ∙ then-ok (λ a. both t a) (attribute c ls shape) a h
+
+-- the same over parameters
+module _ (c : Context) (b : Bound) (type : Sexp) (shape : AttributeShape) where
+  abbrev whole_type : Tree → Tree
+  whole_type t = bound_type 0 b.parameters t
+
+  abbrev with_attribute : Tree → Checked (Tree × Attribute)
+  with_attribute w = attribute c b.locals shape >>= λ a. both w a
+
+  abbrev with_type : Tree → Checked (Tree × Attribute)
+  with_type t = not_tall (whole_type t) >>= with_attribute
+
+  pub over-no-type : (f : FaultName) → meaning c b.locals type ≡ Err f → typed_over c b type shape ≡ Err f
+  over-no-type f e = then-err with_type (meaning c b.locals type) f e
+
+  module _ (t : Tree) (e : meaning c b.locals type ≡ Ok t) where
+    pub over-tall : is_tall (whole_type t) ≡ true → typed_over c b type shape ≡ Err TermHeight
+    over-tall h = then-ok with_type (meaning c b.locals type) t e ∙ then-err with_attribute (not_tall (whole_type t)) TermHeight (high (whole_type t) h)
+
+    over-type : is_tall (whole_type t) ≡ false → typed_over c b type shape ≡ with_attribute (whole_type t)
+    over-type h = then-ok with_type (meaning c b.locals type) t e ∙ then-ok with_attribute (not_tall (whole_type t)) (whole_type t) (low (whole_type t) h)
+
+    pub over-no-attribute : (f : FaultName) → is_tall (whole_type t) ≡ false → attribute c b.locals shape ≡ Err f → typed_over c b type shape ≡ Err f
+    over-no-attribute f h a = over-type h ∙ then-err (λ a. both (whole_type t) a) (attribute c b.locals shape) f a
+
+    pub over-both : (a : Attribute) → is_tall (whole_type t) ≡ false → attribute c b.locals shape ≡ Ok a → typed_over c b type shape ≡ Ok (whole_type t, a)
+    over-both a h k = over-type h ∙ then-ok (λ a. both (whole_type t) a) (attribute c b.locals shape) a k
+
+-- the type of a function
+module _ (c : Context) (inputs : List Sexp) (output : Sexp) where
+  abbrev with_output : List Tree → Checked Tree
+  with_output ts = meaning c [] output >>= λ t. not_tall (function_type ts t)
+
+  pub function-no-inputs : (f : FaultName) → meanings c [] inputs ≡ Err f → type_of_function c inputs output ≡ Err f
+  function-no-inputs f e = then-err with_output (meanings c [] inputs) f e
+
+  module _ (ts : List Tree) (e : meanings c [] inputs ≡ Ok ts) where
+    pub function-no-output : (f : FaultName) → meaning c [] output ≡ Err f → type_of_function c inputs output ≡ Err f
+    function-no-output f h = then-ok with_output (meanings c [] inputs) ts e ∙ then-err (λ t. not_tall (function_type ts t)) (meaning c [] output) f h
+
+    pub function-whole : (t : Tree) → meaning c [] output ≡ Ok t → type_of_function c inputs output ≡ not_tall (function_type ts t)
+    function-whole t h = then-ok with_output (meanings c [] inputs) ts e ∙ then-ok (λ t. not_tall (function_type ts t)) (meaning c [] output) t h
 
 module _ (c : Context) (name : List ℕ) where
   module _ (type : Sexp) (shape : AttributeShape) where
@@ -60,10 +109,10 @@ module _ (c : Context) (name : List ℕ) where
     const-fault fault e h = const-parts e ∙ then-err (λ r. plain_constant c name r.0 r.1) _ _ h
 
     -- over parameters
-    over-typed : (b : Bound) (m : Checked Tree) (n : Checked Attribute) → (m >>= λ t. not_tall (bound_type c 0 b.parameters t) >>= λ w. n >>= λ a. Ok (constant c name b.parameters w a)) ≡ ((m >>= λ t. not_tall (bound_type c 0 b.parameters t) >>= λ w. n >>= λ a. both w a) >>= λ r. Ok (constant c name b.parameters r.0 r.1))
+    over-typed : (b : Bound) (m : Checked Tree) (n : Checked Attribute) → (m >>= λ t. not_tall (bound_type 0 b.parameters t) >>= λ w. n >>= λ a. Ok (constant c name b.parameters w a)) ≡ ((m >>= λ t. not_tall (bound_type 0 b.parameters t) >>= λ w. n >>= λ a. both w a) >>= λ r. Ok (constant c name b.parameters r.0 r.1))
     unfolding ◌>>=◌
     over-typed b (Err fault) n = refl
-    over-typed b (Ok t) n = by (not_tall (bound_type c 0 b.parameters t)) n
+    over-typed b (Ok t) n = by (not_tall (bound_type 0 b.parameters t)) n
       where
         by : (w : Checked Tree) (n : Checked Attribute) → (w >>= λ w. n >>= λ a. Ok (constant c name b.parameters w a)) ≡ ((w >>= λ w. n >>= λ a. both w a) >>= λ r. Ok (constant c name b.parameters r.0 r.1))
         by (Err fault) n = refl
@@ -71,7 +120,7 @@ module _ (c : Context) (name : List ℕ) where
         by (Ok w) (Ok a) = refl
 
   module _ (inputs : List Sexp) (output : Sexp) where
-    fun-typed : (m : Checked (List Tree)) (n : Checked Tree) → (m >>= λ ts. n >>= λ t. not_tall (function_type c ts t) >>= λ w. plain_constant c name w Plain) ≡ ((m >>= λ ts. n >>= λ t. not_tall (function_type c ts t)) >>= λ w. plain_constant c name w Plain)
+    fun-typed : (m : Checked (List Tree)) (n : Checked Tree) → (m >>= λ ts. n >>= λ t. not_tall (function_type ts t) >>= λ w. plain_constant c name w Plain) ≡ ((m >>= λ ts. n >>= λ t. not_tall (function_type ts t)) >>= λ w. plain_constant c name w Plain)
     unfolding ◌>>=◌
     fun-typed (Ok ts) (Ok t) = refl
     fun-typed (Ok ts) (Err fault) = refl
@@ -111,7 +160,7 @@ module _ (c : Context) (name : List ℕ) (shapes : List ParameterShape) where
   module _ (type : Sexp) (shape : AttributeShape) where
     abbrev pub type_read : Bound → Checked Constant
     type_read b =
-        meaning c b.locals type >>= λ t. not_tall (bound_type c 0 b.parameters t) >>= λ w. attribute c b.locals shape >>= λ a. Ok (constant c name b.parameters w a)
+        meaning c b.locals type >>= λ t. not_tall (bound_type 0 b.parameters t) >>= λ w. attribute c b.locals shape >>= λ a. Ok (constant c name b.parameters w a)
 
     pub parameterized-many : is_free_name c name ≡ true → parameters_limit < length shapes → declared_parameterized c name shapes type shape ≡ Err Parameters
     unfolding declared_parameterized

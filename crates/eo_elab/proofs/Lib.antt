@@ -1,23 +1,11 @@
 pub mod Texts
-pub mod FoldLemmas
-pub mod Bound
-pub mod FoldTall
-pub mod Places
-pub mod OperatorLemmas
-pub mod JoinLemmas
-pub mod ScopeLemmas
-pub mod FoldSteps
 pub mod ShapeLemmas
 pub mod PlanLemmas
-pub mod UsageLemmas
 mod Vectors
 pub mod BoundLemmas
 pub mod CheckedLemmas
 pub mod ConstantLemmas
 pub mod DeclaringLemmas
-pub mod PlainLemmas
-pub mod Outcomes
 pub mod Sizes
 pub mod WalkSteps
-pub mod BinderLemmas
-pub mod NamedLemmas
+pub mod Giving

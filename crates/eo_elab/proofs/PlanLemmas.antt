@@ -5,9 +5,7 @@ use Rattle.std.proofs.lemmas.Bool.{le-leb, lt-leb}
 use Rattle.std.proofs.lemmas.List.{length-map}
 use Rattle.eo_base.specs.Checks.{Checked}
 use Rattle.eo_base.specs.declared.FaultName.TheVariants.{BadArity}
-use Rattle.eo_sexp.specs.declared.owned.OwnedSexp.{OwnedSexp}
-use Rattle.eo_sexp.specs.Owned.{owned, sexps_of}
-use Rattle.eo_sexp.specs.Sexp.{Sexps}
+use Rattle.eo_sexp.specs.Sexp.{Sexp, Sexps, sexps_of}
 use Rattle.eo_sig.specs.declared.records.MacroDecl.{MacroDecl}
 use Rattle.eo_sig.specs.Signature.{Attribute, Plain, RightNil, LeftNil, Right, Left, Chain, Pairs, Binder}
 use Rattle.eo_sig.specs.Reading.{Kept, read_macro, read_parameter, macros}
@@ -16,21 +14,26 @@ use Rattle.eo_term.specs.declared.node.Node.{Node}
 use Rattle.eo_term.specs.declared.node.Node.TheVariants as node
 use Rattle.eo_term.specs.Terms.{tree_at, tree_of}
 use Rattle.eo_term.specs.Tree.{Tree, Trees, Con, Op, to_trees}
-use Rattle.eo_elab.specs.declared.usage.Use.TheVariants as use_
-use Rattle.eo_elab.specs.declared.symbols.Meant.TheVariants as meant_
-use Rattle.eo_elab.specs.Folding.{attribute_at, least}
+use Rattle.eo_names.specs.declared.usage.Use.TheVariants as use_
+use Rattle.eo_names.specs.declared.symbols.Meant.TheVariants as meant_
+use Rattle.eo_names.specs.Folding.{attribute_at, least, plainly, arrow}
 use Rattle.eo_elab.specs.Forms.{arguments_used, collector_of}
-use Rattle.eo_elab.specs.Meaning.{Context, Local, Label, Parts, Reader, Word, Underscore, Arrow, word_application, application, by_head, plainly, arrow, built, ◌>>=◌, fail, unless, count, begins_with_pairs, with_arguments, exactly, plain_application, binder_application, folded_application, by_attribute, tree_application, meant_application, Meant, AMacro, AnOperator, or_nothing}
-use Rattle.eo_elab.specs.Symbols.{read_meant}
-use Rattle.eo_elab.specs.Walk.{context}
+use Rattle.eo_names.specs.Contexts.{Context, Local}
+use Rattle.eo_names.specs.Readers.{Label, Reader, built, ◌>>=◌, fail, unless}
+use Rattle.eo_elab.specs.Meaning.{Parts, word_application, application, by_head, count, begins_with_pairs, with_arguments, exactly, plain_application, binder_application, folded_application, by_attribute, tree_application, meant_application}
+use Rattle.eo_names.specs.Meanings.{Word, Underscore, Arrow, Name, word_of, meant, Meant, AMacro, AnOperator, or_nothing}
+use Rattle.eo_names.specs.Symbols.{read_meant}
+use Rattle.eo_names.specs.Ready.{context}
+use Rattle.eo_names.specs.Worlds.{World}
+use Rattle.eo_elab.specs.Worlds.{word_in, meant_in}
 
-pub counted : (xs : List OwnedSexp) → count (sexps_of (map owned xs)) ≡ length xs
+pub counted : (xs : List Sexp) → count (sexps_of xs) ≡ length xs
 counted [] = refl
 counted (x ∷ xs) = ap suc (counted xs)
 
-module _ (c : Context) (ls : List Local) (xs : List OwnedSexp) (parts : Parts) where
+module _ (c : Context) (ls : List Local) (xs : List Sexp) (parts : Parts) where
   abbrev args : Sexps
-  args = sexps_of (map owned xs)
+  args = sexps_of xs
 
   pub enough : (n : ℕ) (f : List Tree → Reader Tree) → n ≤ length xs → with_arguments c ls args parts n f ≡ (parts.arguments >>= f)
   enough n f l = ap (λ b. unless b BadArity (parts.arguments >>= f)) (le-leb n (count args) (omega (arith, counted xs)))
@@ -110,12 +113,12 @@ module _ (c : Context) (ls : List Local) (xs : List OwnedSexp) (parts : Parts) w
   operator_arity code n l = λ i. not_as_many n (λ us. built (Op code (to_trees us))) l i []
 
 -- words
-module _ (ts : List Tree) (k : Kept) (ls : List Local) (xs : List OwnedSexp) (parts : Parts) (m : Meant) (w : Word) where
+module _ (ts : List Tree) (k : Kept) (ls : List Local) (xs : List Sexp) (parts : Parts) (m : Meant) (w : Word) where
   abbrev names : Context
   names = context ts k
 
   abbrev applied_word : Word → Checked (Tree × List Label)
-  applied_word v = word_application names ls (sexps_of (map owned xs)) parts v m []
+  applied_word v = word_application names ls (sexps_of xs) parts v m []
 
   pub underscore_use : Underscore ≡ w → 2 ≤ length xs → applied_word w ≡ arguments_used ts names ls parts use_.Underscore []
   underscore_use e l = ap applied_word (sym e) ∙ (λ i. enough names ls xs parts 2 (λ us. built (plainly us)) l i [])
@@ -129,9 +132,14 @@ module _ (ts : List Tree) (k : Kept) (ls : List Local) (xs : List OwnedSexp) (pa
   pub arrow_few : Arrow ≡ w → length xs < 2 → applied_word w ≡ Err BadArity
   arrow_few e l = ap applied_word (sym e) ∙ (λ i. too_few names ls xs parts 2 (λ us. built (arrow us)) l i [])
 
+-- a name is what it stands for
+pub named_word : (w : World) (xs : List Sexp) (parts : Parts) (name : List ℕ) → word_of w.names.setting name ≡ Name → word_in w name xs parts ≡ meant_in w xs parts (meant w.names w.locals name)
+named_word w xs parts name e = ap (λ v. word_application w.names w.locals (sexps_of xs) parts v (meant w.names w.locals name) []) e
+
 -- the arguments are counted first
-pub some_given : (c : Context) (ls : List Local) (xs : List OwnedSexp) (parts : Parts) (word : Option (List ℕ)) → false ≡ (length xs == 0) → application c ls (sexps_of (map owned xs)) parts word [] ≡ by_head c ls (sexps_of (map owned xs)) parts word []
-some_given c ls [] parts word e = cc
-some_given c ls (x ∷ xs) parts word e =
-    let args = sexps_of (map owned (x ∷ xs)) in
-    ap (λ b. unless b BadArity (by_head c ls args parts word) []) (le-leb 1 (count args) (omega (arith, counted (x ∷ xs))))
+module _ (c : Context) (ls : List Local) (xs : List Sexp) (parts : Parts) (word : Option (List ℕ)) where
+  pub some_given : (length xs ≡ 0 → ⊥) → application c ls (sexps_of xs) parts word [] ≡ by_head c ls (sexps_of xs) parts word []
+  some_given e = ap (λ b. unless b BadArity (by_head c ls (sexps_of xs) parts word) []) (le-leb 1 (count (sexps_of xs)) (omega (arith, counted xs, e)))
+
+  pub none_counted : length xs ≡ 0 → application c ls (sexps_of xs) parts word [] ≡ Err BadArity
+  none_counted e = ap (λ b. unless b BadArity (by_head c ls (sexps_of xs) parts word) []) (lt-leb 1 (count (sexps_of xs)) (omega (arith, counted xs, e)))

@@ -1,31 +1,10 @@
--- How large an s-expression is: how many lists and atoms it has.
-use Rattle.std.proofs.Common.{◌≡◌, ℕ, zero, suc, ◌+◌, ◌<◌, ◌≤◌, List, [], ◌∷◌, map, drop, length, length-drop, get_or, Some, refl, sym, ap, ◌∙◌, arith}
-use Rattle.std.proofs.lemmas.List.{at_drop_more}
+-- What is inside of an s-expression is smaller, and what parts there are.
+use Rattle.std.proofs.Common.{◌≡◌, ℕ, ◌<◌, List, [], ◌∷◌, Some, None, refl, sym, ap, ◌∙◌, arith}
 use Rattle.std.proofs.lemmas.Option.{same_Some}
-use Rattle.eo_sexp.specs.declared.owned.OwnedSexp.{OwnedSexp}
-use Rattle.eo_sexp.specs.Owned.{owned, sexps_of}
-use Rattle.eo_sexp.specs.Sexp.{Sexp, Atom, Listed, Sexps, NoSexp, Next}
+use Rattle.eo_sexp.specs.Pairs.{list_of, first_one, only_two}
+use Rattle.eo_sexp.specs.Sexp.{Sexp, Atom, Listed, NoSexp, Next, sexps_of, sexp_span, children_of}
+use Rattle.eo_sexp.proofs.Sizes.{size, sexps_of-children}
 use Rattle.eo_elab.specs.Forms.{pair_of}
-
-abbrev mutual
-  pub size : Sexp → ℕ
-  size (Atom k text span) = 1
-  size (Listed ss span) = 1 + size_all ss
-
-  pub size_all : Sexps → ℕ
-  size_all NoSexp = 0
-  size_all (Next s ss) = size s + size_all ss
-
-abbrev pub size_of : OwnedSexp → ℕ
-size_of s = size (owned s)
-
-abbrev pub size_of_all : List OwnedSexp → ℕ
-size_of_all xs = size_all (sexps_of (map owned xs))
-
-pub size_at : (xs : List OwnedSexp) (i : ℕ) (x d : OwnedSexp) → i < length xs → x ≡ get_or xs i d → size_of x ≤ size_of_all xs
-size_at [] i x d l e = absurd (omega (arith, l))
-size_at (y ∷ ys) zero x d l e = let s = ap size_of e in omega (arith, s)
-size_at (y ∷ ys) (suc i) x d l e = let s = size_at ys i x d (omega (arith, l)) e in omega (arith, s)
 
 -- what stands beside the name of a pair is smaller
 pub size_beside : (s t : Sexp) (name : List ℕ) → Some (name, t) ≡ pair_of s → size t < size s
@@ -36,14 +15,22 @@ size_beside (Listed (Next (Atom k n at) NoSexp) span) t name e = cc
 size_beside (Listed (Next (Atom k n at) (Next u NoSexp)) span) t name e = let s : size t ≡ size u = ap (λ (p : List ℕ × Sexp). size p.1) (same_Some (name, t) (n, u) e) in omega (arith, s)
 size_beside (Listed (Next (Atom k n at) (Next u (Next v ss))) span) t name e = cc
 
--- ---- what is given, by its length
+-- ---- what is given
 
-pub none_given : (xs : List OwnedSexp) → length xs ≡ 0 → sexps_of (map owned xs) ≡ NoSexp
+pub is_list : (s : Sexp) (ss : List Sexp) → Some ss ≡ list_of s → s ≡ Listed (sexps_of ss) (sexp_span s)
+is_list (Atom k text span) ss e = cc
+is_list (Listed inside span) ss e = sym (ap (λ xs. Listed (sexps_of xs) span) (same_Some ss (children_of inside) e) ∙ ap (λ xs. Listed xs span) (sexps_of-children inside))
+
+pub none_given : (xs : List Sexp) → None ≡ first_one xs → xs ≡ []
 none_given [] e = refl
-none_given (x ∷ xs) e = absurd (omega (arith, e))
+none_given (x ∷ xs) e = cc
 
-pub dropped_at : (xs : List OwnedSexp) (i : ℕ) (x : OwnedSexp) → i < length xs → x ≡ get_or xs i x → sexps_of (map owned (drop i xs)) ≡ Next (owned x) (sexps_of (map owned (drop (i + 1) xs)))
-dropped_at xs i x l e = at_drop_more (λ ys. sexps_of (map owned ys)) xs i x l ∙ ap (λ y. Next (owned y) (sexps_of (map owned (drop (i + 1) xs)))) (sym e)
+pub one_given : (xs : List Sexp) (a : Sexp) (rest : List Sexp) → Some (a, rest) ≡ first_one xs → xs ≡ a ∷ rest
+one_given [] a rest e = cc
+one_given (x ∷ xs) a rest e = sym (ap (λ (p : Sexp × List Sexp). p.0 ∷ p.1) (same_Some (a, rest) (x, xs) e))
 
-pub dropped_all : (xs : List OwnedSexp) (i : ℕ) → length xs ≤ i → sexps_of (map owned (drop i xs)) ≡ NoSexp
-dropped_all xs i l = none_given (drop i xs) (omega (arith, length-drop i xs))
+pub two_given : (xs : List Sexp) (a b : Sexp) → Some (a, b) ≡ only_two xs → xs ≡ a ∷ b ∷ []
+two_given [] a b e = cc
+two_given (x ∷ []) a b e = cc
+two_given (x ∷ y ∷ []) a b e = sym (ap (λ (p : Sexp × Sexp). p.0 ∷ p.1 ∷ []) (same_Some (a, b) (x, y) e))
+two_given (x ∷ y ∷ z ∷ xs) a b e = cc

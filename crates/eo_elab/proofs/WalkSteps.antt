@@ -1,5 +1,5 @@
 -- The definition of what a term means, one step at a time.
-use Rattle.std.proofs.Common.{◌≡◌, ℕ, ◌<◌, ◌≤◌, Bool, true, false, ◌||◌, List, [], ◌∷◌, ◌++◌, map, length, get_or, Some, None, refl, sym, ap, subst, ◌∙◌, arith}
+use Rattle.std.proofs.Common.{◌≡◌, ℕ, ◌<◌, ◌≤◌, Bool, true, false, ◌||◌, List, [], ◌∷◌, ◌++◌, map, Some, None, refl, sym, ap, ◌∙◌, arith}
 use Rattle.std.specs.Prelude.{Ok, Err, not, bytes_eq, slice_get}
 use Rattle.std.specs.List.{list_any}
 use Rattle.std.proofs.lemmas.Option.{same_Some}
@@ -9,32 +9,38 @@ use Rattle.eo_base.specs.Checks.{Checked}
 use Rattle.eo_base.specs.declared.FaultName.{FaultName}
 use Rattle.eo_base.specs.declared.FaultName.TheVariants.{BadCommand, BadArity, Redeclared}
 use Rattle.eo_sexp.specs.declared.Kind.{Kind}
-use Rattle.eo_sexp.specs.declared.owned.OwnedSexp.{OwnedSexp}
-use Rattle.eo_sexp.specs.Owned.{owned, sexps_of}
-use Rattle.eo_sexp.specs.Sexp.{Sexp, Atom, Listed, Sexps, NoSexp, Next, Span}
+use Rattle.eo_sexp.specs.Pairs.{list_of as parts_in, only_two}
+use Rattle.eo_sexp.specs.Sexp.{Sexp, Atom, Listed, Sexps, NoSexp, Next, Span, sexps_of, sexp_kind, sexp_text}
 use Rattle.eo_sig.specs.Reading.{Kept}
 use Rattle.eo_term.specs.Tree.{Tree}
-use Rattle.eo_term.specs.Terms.{tree_at}
-use Rattle.eo_elab.specs.declared.locals.LocalName.{LocalName}
+use Rattle.eo_term.specs.Terms.{Terms, tree_at}
+use Rattle.eo_names.specs.declared.locals.LocalName.{LocalName}
 use Rattle.eo_pattern.specs.Matching.{put}
-use Rattle.eo_elab.specs.declared.usage.Use.{Use}
-use Rattle.eo_elab.specs.declared.usage.Use.TheVariants as use_
-use Rattle.eo_elab.specs.Folding.{applied}
-use Rattle.eo_elab.specs.Usage.{made_of, UseBelow}
-use Rattle.eo_elab.specs.Forms.{parts_of, all_after, list_of, pair_of}
+use Rattle.eo_names.specs.declared.usage.Use.{Use}
+use Rattle.eo_names.specs.declared.usage.Use.TheVariants as use_
+use Rattle.eo_names.specs.Folding.{applied}
+use Rattle.eo_names.specs.Usage.{made_of, UseBelow}
+use Rattle.eo_elab.specs.Forms.{parts_of, all_after, pair_of}
+use Rattle.eo_names.specs.Binders.{list_of, pair_local, variable}
 use Rattle.eo_shape.specs.Words.{symbol_of}
-use Rattle.eo_elab.specs.Meaning.{Context, Local, Label, Reader, ◌>>=◌, give, go_on, unless, built, with_labels, atom, application, means, means_all, in_let, in_binder, pair_list, pairs_after, pair_local, variable, is_list}
-use Rattle.eo_elab.specs.Names.{Binding, binding_local, read_local, read_locals, read_pairs, AreBelow, BindingsBelow, names_in}
-use Rattle.eo_elab.specs.Walk.{context, Keeps}
-
--- what is said over a table that has grown, over the table before
-pub kept : (k : Kept) (ls : List LocalName) (old new : List Tree) → Keeps k ls old new → (F : Context → List Local → Type 0) → F (context new k) (read_locals new ls) → F (context old k) (read_locals old ls)
-kept k ls old new g F h = subst (λ l. F (context old k) l) g.names (subst (λ c. F c (read_locals new ls)) g.context h)
+use Rattle.eo_names.specs.Contexts.{Context, Local, is_list}
+use Rattle.eo_names.specs.Readers.{Label, Reader, ◌>>=◌, give, go_on, unless, built, with_labels}
+use Rattle.eo_elab.specs.Meaning.{atom, application, means, means_all, in_let, in_binder, pair_list, pairs_after}
+use Rattle.eo_names.specs.Names.{Binding, binding_local, read_local, read_locals, read_pairs, AreBelow, BindingsBelow, names_in}
+use Rattle.eo_names.specs.Ready.{context}
+use Rattle.eo_names.specs.declared.scope.Scope.{Scope}
+use Rattle.eo_names.specs.Scopes.{bound_in}
+use Rattle.eo_names.specs.Worlds.{world}
+use Rattle.eo_names.proofs.BindingLemmas.{inside_locals}
 
 module _ (c : Context) (ls : List Local) where
-  pub of_atom : (k : Kind) (text : List ℕ) (span : Span) → means c ls (Atom k text span) [] ≡ with_labels [] (atom c ls k text)
+  of_atom : (k : Kind) (text : List ℕ) (span : Span) → means c ls (Atom k text span) [] ≡ with_labels [] (atom c ls k text)
   unfolding means
   of_atom k text span = refl
+
+  pub of_no_list : (s : Sexp) → None ≡ parts_in s → means c ls s [] ≡ with_labels [] (atom c ls (sexp_kind s) (sexp_text s))
+  of_no_list (Atom k text span) e = of_atom k text span
+  of_no_list (Listed ss span) e = cc
 
   pub of_nothing : (span : Span) → means c ls (Listed NoSexp span) [] ≡ Err BadArity
   unfolding means
@@ -88,30 +94,11 @@ module _ (c : Context) (ls : List Local) where
   unfolding in_let
   let_more s t u rest = refl
 
-  module _ (xs : List OwnedSexp) (a : OwnedSexp) (l : length xs ≡ 2) (e : a ≡ get_or xs 0 a) where
-    pub let_pairs_fault : (fault : FaultName) → pair_list c ls (owned a) [] ≡ Err fault → in_let c ls (sexps_of (map owned xs)) [] ≡ Err fault
-    let_pairs_fault fault h = by xs l e
-      where
-        by : (ys : List OwnedSexp) → length ys ≡ 2 → a ≡ get_or ys 0 a → in_let c ls (sexps_of (map owned ys)) [] ≡ Err fault
-        by [] l e = absurd (omega (arith, l))
-        by (x ∷ []) l e = absurd (omega (arith, l))
-        by (x ∷ y ∷ []) l e = let_fault (owned x) (owned y) fault (ap (λ z. pair_list c ls (owned z) []) (sym e) ∙ h)
-        by (x ∷ y ∷ z ∷ ys) l e = absurd (omega (arith, l))
-
-    pub let_given : (b : OwnedSexp) (ps : List (List ℕ × Tree)) → b ≡ get_or xs 1 b → pair_list c ls (owned a) [] ≡ Ok (ps, []) → in_let c ls (sexps_of (map owned xs)) [] ≡ means c (map pair_local ps ++ ls) (owned b) []
-    let_given b ps f h = by xs l e f
-      where
-        by : (ys : List OwnedSexp) → length ys ≡ 2 → a ≡ get_or ys 0 a → b ≡ get_or ys 1 b → in_let c ls (sexps_of (map owned ys)) [] ≡ means c (map pair_local ps ++ ls) (owned b) []
-        by [] l e f = absurd (omega (arith, l))
-        by (x ∷ []) l e f = absurd (omega (arith, l))
-        by (x ∷ y ∷ []) l e f = let_next (owned x) (owned y) ps (ap (λ z. pair_list c ls (owned z) []) (sym e) ∙ h) ∙ ap (λ z. means c (map pair_local ps ++ ls) (owned z) []) (sym f)
-        by (x ∷ y ∷ z ∷ ys) l e f = absurd (omega (arith, l))
-
-  pub let_not_two : (xs : List OwnedSexp) → (length xs ≡ 2 → ⊥) → in_let c ls (sexps_of (map owned xs)) [] ≡ Err BadCommand
-  let_not_two [] n = let_none
-  let_not_two (x ∷ []) n = let_one (owned x)
-  let_not_two (x ∷ y ∷ []) n = absurd (n refl)
-  let_not_two (x ∷ y ∷ z ∷ xs) n = let_more (owned x) (owned y) (owned z) (sexps_of (map owned xs))
+  pub let_not_two : (xs : List Sexp) → None ≡ only_two xs → in_let c ls (sexps_of xs) [] ≡ Err BadCommand
+  let_not_two [] e = let_none
+  let_not_two (x ∷ []) e = let_one x
+  let_not_two (x ∷ y ∷ []) e = cc
+  let_not_two (x ∷ y ∷ z ∷ xs) e = let_more x y z (sexps_of xs)
 
   -- a binder
   abbrev bound_rest : Sexps → List (List ℕ × Tree) → Tree → Reader (List Tree)
@@ -142,9 +129,13 @@ module _ (c : Context) (ls : List Local) where
   binder_none collector = refl
 
   -- pairs
-  pub pairs_atom : (k : Kind) (text : List ℕ) (span : Span) → pair_list c ls (Atom k text span) [] ≡ Err BadCommand
+  pairs_atom : (k : Kind) (text : List ℕ) (span : Span) → pair_list c ls (Atom k text span) [] ≡ Err BadCommand
   unfolding pair_list
   pairs_atom k text span = refl
+
+  pub pairs_no_list : (s : Sexp) → None ≡ parts_in s → pair_list c ls s [] ≡ Err BadCommand
+  pairs_no_list (Atom k text span) e = pairs_atom k text span
+  pairs_no_list (Listed ss span) e = cc
 
   pub pairs_listed : (ss : Sexps) (span : Span) → pair_list c ls (Listed ss span) [] ≡ pairs_after c ls ss [] []
   unfolding pair_list
@@ -198,46 +189,9 @@ module _ (c : Context) (ls : List Local) where
   pairs_fault s t name rest before fault e h m =
       pairs_step s t name rest before e ∙ ap (λ b. pair_then rest name t before b []) h ∙ ap (go_on (pair_added rest name before)) m
 
--- ---- bindings
-
-pub named_pairs : (ts : List Tree) (bs : List Binding) (name : List ℕ) → list_any (λ (p : List ℕ × Tree). bytes_eq p.0 name) (read_pairs ts bs) ≡ names_in bs name
-named_pairs ts [] name = refl
-named_pairs ts (b ∷ bs) name = ap (λ t. bytes_eq b.0 name || t) (named_pairs ts bs name)
-
-pub pairs_grown : (ts us : List Tree) (n : ℕ) (bs : List Binding) → BindingsBelow n bs → ((i : ℕ) → i < n → tree_at us i ≡ tree_at ts i) → read_pairs us bs ≡ read_pairs ts bs
-pairs_grown ts us n [] h g = refl
-pairs_grown ts us n (b ∷ bs) h g =
-    λ i. (b.0, g b.1 (All-head (λ (c : Binding). c.1 < n) b bs h) i) ∷ pairs_grown ts us n bs (All-tail (λ (c : Binding). c.1 < n) b bs h) g i
-
-pub bindings_more : (n m : ℕ) (bs : List Binding) → n ≤ m → BindingsBelow n bs → BindingsBelow m bs
-bindings_more n m bs l h = All-weaker (λ (b : Binding). b.1 < n) (λ (b : Binding). b.1 < m) (λ b k. omega (arith, k, l)) bs h
-
-pub inside_locals : (ts : List Tree) (ls : List LocalName) (bs : List Binding) → read_locals ts (map binding_local bs ++ ls) ≡ map pair_local (read_pairs ts bs) ++ read_locals ts ls
-inside_locals ts ls [] = refl
-inside_locals ts ls (b ∷ bs) = ap (λ rest. read_local ts (binding_local b) ∷ rest) (inside_locals ts ls bs)
-
-pub inside_below : (n : ℕ) (ls : List LocalName) (bs : List Binding) → BindingsBelow n bs → AreBelow n ls → AreBelow n (map binding_local bs ++ ls)
-inside_below n ls [] h a = a
-inside_below n ls (b ∷ bs) h a =
-    All-cons (λ (l : LocalName). l.id < n) (binding_local b) (map binding_local bs ++ ls) (All-head (λ (c : Binding). c.1 < n) b bs h) (inside_below n ls bs (All-tail (λ (c : Binding). c.1 < n) b bs h) a)
-
-pub pushed_pairs : (ts us : List Tree) (n : ℕ) (bs : List Binding) (name : List ℕ) (t : ℕ) → BindingsBelow n bs → ((i : ℕ) → i < n → tree_at us i ≡ tree_at ts i) → read_pairs us (bs ++ (name, t) ∷ []) ≡ read_pairs ts bs ++ (name, tree_at us t) ∷ []
-pushed_pairs ts us n bs name t h g =
-    map-append (λ (b : Binding). (b.0, tree_at us b.1)) bs ((name, t) ∷ []) ∙ ap (λ ps. ps ++ (name, tree_at us t) ∷ []) (pairs_grown ts us n bs h g)
-
--- what is said inside a `let` or a binder over a table that has grown, over the table before
-pub kept_inside : (k : Kept) (ls inner : List LocalName) (old new : List Tree) → Keeps k ls old new → (bs : List Binding) (ps : List (List ℕ × Tree)) → read_pairs new bs ≡ ps → inner ≡ map binding_local bs ++ ls
-    → (F : Context → List Local → Type 0) → F (context new k) (read_locals new inner) → F (context old k) (map pair_local ps ++ read_locals old ls)
-kept_inside k ls inner old new g bs ps e h F f =
-    let seen : read_locals new inner ≡ map pair_local ps ++ read_locals old ls = ap (read_locals new) h ∙ inside_locals new ls bs ∙ (λ i. map pair_local (e i) ++ g.names i) in
-    subst (λ l. F (context old k) l) seen (subst (λ c. F c (read_locals new inner)) g.context f)
-
--- what is made of arguments
-pub made_grown : (ts us : List Tree) (n : ℕ) (c : Context) (ls : List Local) (u : Use) (args : List Tree) → UseBelow n u → ((i : ℕ) → i < n → tree_at us i ≡ tree_at ts i) → made_of ts c ls u args [] ≡ made_of us c ls u args []
-made_grown ts us n c ls (use_.Plainly f) args h g = ap (λ t. built (applied t args) []) (sym (g f h))
-made_grown ts us n c ls use_.Underscore args h g = refl
-made_grown ts us n c ls use_.Arrow args h g = refl
-made_grown ts us n c ls (use_.Fold k) args h g = refl
-made_grown ts us n c ls (use_.Bind b k) args h g = refl
-made_grown ts us n c ls (use_.Macro t) args h g = ap (λ x. built (put (slice_get args) x) []) (sym (g t h))
-made_grown ts us n c ls (use_.Operator code) args h g = refl
+-- what names stand for inside a `let` or a binder, over a table that has grown
+pub world_inside : (k : Kept) (s inner : Scope) (old new : Terms) → world new k s ≡ world old k s → (bs : List Binding) (ps : List (List ℕ × Tree)) → read_pairs new.trees bs ≡ ps → bound_in inner ≡ map binding_local bs ++ bound_in s
+    → world new k inner ≡ record { names = context old.trees k; locals = map pair_local ps ++ read_locals old.trees (bound_in s) }
+world_inside k s inner old new same bs ps e h =
+    let seen : read_locals new.trees (bound_in inner) ≡ map pair_local ps ++ read_locals old.trees (bound_in s) = ap (read_locals new.trees) h ∙ inside_locals new.trees (bound_in s) bs ∙ (λ i. map pair_local (e i) ++ (same i).locals) in
+    λ i. record { names = (same i).names; locals = seen i }

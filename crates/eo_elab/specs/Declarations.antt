@@ -6,10 +6,11 @@ use Rattle.eo_base.specs.declared.FaultName.TheVariants.{Redeclared, UnknownSymb
 use Rattle.eo_base.specs.Checks.{Checked, ◌>>=◌, require, no_fault, Passed}
 use Rattle.eo_base.specs.Limits.{parameters_limit}
 use Rattle.eo_sexp.specs.Sexp.{Sexp}
-use Rattle.eo_sig.specs.declared.LiteralClass.{LiteralClass}
+use Rattle.eo_lit.specs.declared.LiteralClass.{LiteralClass}
 use Rattle.eo_sig.specs.Signature.{Parameter, Attribute, Plain, RightNil, LeftNil, Right, Left, Chain, Pairs, Binder, Constant, Macro, Program, Rule, Named, NamesConstant, NamesMacro, NamesProgram, lookup, constant_at, is_free, literal_type, constant_fault}
 use Rattle.eo_term.specs.Tree.{Tree, Con, Par, Arr, Qar, type_tree, is_tall}
-use Rattle.eo_elab.specs.Meaning.{Context, Local, is_reference, meaning}
+use Rattle.eo_names.specs.Contexts.{Context, Local, is_reference}
+use Rattle.eo_elab.specs.Meaning.{meaning}
 use Rattle.eo_shape.specs.Shapes.{ParameterShape, AttributeShape, NoAttribute, RightNilShape, LeftNilShape, RightShape, LeftShape, ChainShape, PairsShape, BinderShape, Command, DeclareConst, DeclareFun, DeclareSort, DeclareParameterized, DeclareLiterals, Define}
 
 pub data Declaration : Type 0 where
@@ -44,10 +45,30 @@ module _ (c : Context) where
   abbrev pub is_free_or_reference : List ℕ → Bool
   is_free_or_reference name = is_free_name name || is_reference_name name
 
+-- ---- types
+
+abbrev pub function_type : List Tree → Tree → Tree
+function_type [] output = output
+function_type (t ∷ ts) output = Arr t (function_type ts output)
+
+abbrev pub sort_type : ℕ → Tree
+sort_type zero = type_tree
+sort_type (suc n) = Arr type_tree (sort_type n)
+
+-- a Qar for each explicit parameter in order, the first of which has number i
+abbrev pub bound_type : ℕ → List Parameter → Tree → Tree
+bound_type i [] t = t
+bound_type i (p ∷ ps) t = if p.implicit then bound_type (suc i) ps t else Qar i p.type (bound_type (suc i) ps t)
+
 -- ---- parts
 
 abbrev pub not_tall : Tree → Checked Tree
 not_tall t = if is_tall t then Err TermHeight else Ok t
+
+-- the number of a constant, where a term means one
+abbrev pub constant_number : Tree → Checked ℕ
+constant_number (Con k) = Ok k
+constant_number t = Err UnknownSymbol
 
 -- parameters that were read, and their names as locals
 pub record Bound : Type 0 where
@@ -78,11 +99,6 @@ module _ (c : Context) where
       require (not (is_bound b p.name)) Redeclared >>= λ _. meaning c b.locals p.type >>= λ t.
       bind (with_parameter b (record { name = p.name; type = t; implicit = p.implicit; list = p.list })) ps
 
-  -- the number of a constant, where a term means one
-  abbrev pub constant_number : Tree → Checked ℕ
-  constant_number (Con k) = Ok k
-  constant_number t = Err UnknownSymbol
-
   abbrev pub constant_meant : List Local → Sexp → Checked ℕ
   constant_meant locals s = meaning c locals s >>= constant_number
 
@@ -112,28 +128,15 @@ module _ (c : Context) where
       require (is_free_or_reference c name) Redeclared >>= λ _. meaning c [] type >>= λ t.
       attribute [] shape >>= λ a. plain_constant name t a
 
-  abbrev pub function_type : List Tree → Tree → Tree
-  function_type [] output = output
-  function_type (t ∷ ts) output = Arr t (function_type ts output)
-
   -- (declare-fun S (T ..) T)
   unfoldable pub declared_fun : List ℕ → List Sexp → Sexp → Checked Constant
   declared_fun name inputs output =
       require (is_free_or_reference c name) Redeclared >>= λ _. meanings c [] inputs >>= λ ts. meaning c [] output >>= λ t.
       not_tall (function_type ts t) >>= λ type. plain_constant name type Plain
 
-  abbrev pub sort_type : ℕ → Tree
-  sort_type zero = type_tree
-  sort_type (suc n) = Arr type_tree (sort_type n)
-
   -- (declare-sort S n)
   unfoldable pub declared_sort : List ℕ → ℕ → Checked Constant
   declared_sort name arity = require (is_free_or_reference c name) Redeclared >>= λ _. plain_constant name (sort_type arity) Plain
-
-  -- a Qar for each explicit parameter in order, the first of which has number i
-  abbrev pub bound_type : ℕ → List Parameter → Tree → Tree
-  bound_type i [] t = t
-  bound_type i (p ∷ ps) t = if p.implicit then bound_type (suc i) ps t else Qar i p.type (bound_type (suc i) ps t)
 
   -- (declare-parameterized-const S (p ..) T attr)
   unfoldable pub declared_parameterized : List ℕ → List ParameterShape → Sexp → AttributeShape → Checked Constant

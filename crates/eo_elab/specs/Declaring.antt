@@ -1,20 +1,26 @@
 -- What is read of a declaring command, over the terms of a table.
-use Rattle.std.specs.Prelude.{◌≡◌, ℕ, ◌<◌, Bool, true, false, List, [], map, Option, Some, None, is_none, Ok, Err}
+use Rattle.std.specs.Prelude.{◌≡◌, ℕ, ◌<◌, true, false, List, [], map, All, Option, Some, None, is_none, Ok, Err}
 use Rattle.eo_base.specs.declared.FaultName.TheVariants.{BadCommand}
 use Rattle.eo_base.specs.Checks.{Checked, ◌>>=◌}
 use Rattle.eo_sexp.specs.Sexp.{Sexp}
-use Rattle.eo_sig.specs.Reading.{read_parameter, read_attribute, read_constant, read_macro, read_program, read_rule, ConstBelow, MacroBelow, ProgramBelow, RuleBelow}
-use Rattle.eo_sig.specs.Signature.{Attribute, literal_type}
+use Rattle.eo_sig.specs.Reading.{Kept, read_parameter, read_attribute, read_constant, read_macro, read_program, read_rule, AttributeBelow, ConstBelow, MacroBelow, ProgramBelow, RuleBelow}
+use Rattle.eo_lit.specs.declared.LiteralClass.{LiteralClass}
+use Rattle.eo_sig.specs.Signature.{Attribute, Constant, Macro, literal_type, constant_fault}
+use Rattle.eo_sig.specs.declared.records.Param.{Param}
 use Rattle.eo_sig.specs.declared.records.Attribute as code_attribute
 use Rattle.eo_sig.specs.declared.records.Declaration as code
 use Rattle.eo_sig.specs.declared.records.Declaration.TheVariants as variant
-use Rattle.eo_shape.specs.Shapes.{AttributeShape, Command, Assume, Assert, command_of}
+use Rattle.eo_shape.specs.Shapes.{AttributeShape, ParameterShape, Command, command_of}
+use Rattle.eo_shape.specs.declared.AttributeShape as code_shape
+use Rattle.eo_shape.specs.Reading.{read_attribute as read_shape}
 use Rattle.eo_term.specs.Tree.{Tree}
-use Rattle.eo_term.specs.Terms.{tree_at}
+use Rattle.eo_term.specs.Terms.{Terms, tree_at}
 use Rattle.eo_elab.specs.declared.parameters.Bound as code_bound
-use Rattle.eo_elab.specs.Declarations.{Declaration, AConstant, ALiteralType, AMacro, AProgram, ARule, Bound, declaration, meanings, attribute, bound_type, function_type, not_tall, is_free_or_reference}
-use Rattle.eo_elab.specs.Meaning.{Context, Local, meaning}
-use Rattle.eo_elab.specs.Names.{read_locals}
+use Rattle.eo_elab.specs.Declarations.{Declaration, AConstant, ALiteralType, AMacro, AProgram, ARule, Bound, declaration, meanings, attribute, bound_type, function_type, not_tall, plain_constant, declared_const, declared_parameterized, is_free_or_reference}
+use Rattle.eo_names.specs.Contexts.{Context, Local}
+use Rattle.eo_elab.specs.Meaning.{meaning}
+use Rattle.eo_names.specs.Names.{read_locals}
+use Rattle.eo_names.specs.Ready.{context, IsReady}
 
 abbrev pub read_bound : List Tree → code_bound.Bound → Bound
 read_bound ts b = record { parameters = map (read_parameter ts) b.params; locals = read_locals ts b.locals }
@@ -34,16 +40,20 @@ DeclarationBelow n (variant.Macro d) = MacroBelow n d
 DeclarationBelow n (variant.Program d) = ProgramBelow n d
 DeclarationBelow n (variant.Rule d) = RuleBelow n d
 
+-- the types of parameters are below n, and their names stand for terms below n
+pub record BoundBelow (n : ℕ) (k : Kept) (b : code_bound.Bound) : Type 0 where
+  pub params : All (λ p. p.ty < n) b.params
+  pub ready : IsReady n k b.locals
+
 -- a type and an attribute
+pub record TypedBelow (n : ℕ) (r : ℕ × code_attribute.Attribute) : Type 0 where
+  pub type : r.0 < n
+  pub attribute : AttributeBelow n r.1
+
 abbrev pub read_typed : List Tree → ℕ × code_attribute.Attribute → Tree × Attribute
 read_typed ts r = (tree_at ts r.0, read_attribute ts r.1)
 
 -- ---- what an s-expression declares, in a signature or a proof
-
-abbrev pub declares : Command → Bool
-declares (Assume name formula) = false
-declares (Assert formula) = false
-declares k = true
 
 -- the declaration, where there is one
 abbrev pub or_bad : Option (Checked Declaration) → Checked Declaration
@@ -53,13 +63,13 @@ or_bad None = Err BadCommand
 abbrev pub declared : Context → Sexp → Checked Declaration
 declared c s = command_of false s >>= λ k. or_bad (declaration c k)
 
--- a declaring command, or one of a wrong shape; no other command, and no unknown word
-abbrev pub IsDeclaring : Checked Command → Type 0
-IsDeclaring (Ok k) = declares k ≡ true
-IsDeclaring (Err fault) = fault ≡ BadCommand
+-- a command, or one of a wrong shape; no unknown word
+abbrev pub IsKnown : Checked Command → Type 0
+IsKnown (Ok k) = Unit {0}
+IsKnown (Err fault) = fault ≡ BadCommand
 
-abbrev pub Declares : Sexp → Type 0
-Declares s = IsDeclaring (command_of false s)
+abbrev pub IsCommand : Sexp → Type 0
+IsCommand s = IsKnown (command_of false s)
 
 -- ---- parts of declarations
 
@@ -69,16 +79,48 @@ typed c locals type shape = meaning c locals type >>= λ t. attribute c locals s
 -- a type over parameters
 abbrev pub typed_over : Context → Bound → Sexp → AttributeShape → Checked (Tree × Attribute)
 typed_over c b type shape =
-    meaning c b.locals type >>= λ t. not_tall (bound_type c 0 b.parameters t) >>= λ whole. attribute c b.locals shape >>= λ a. Ok (whole, a)
+    meaning c b.locals type >>= λ t. not_tall (bound_type 0 b.parameters t) >>= λ whole. attribute c b.locals shape >>= λ a. Ok (whole, a)
 
 abbrev pub type_of_function : Context → List Sexp → Sexp → Checked Tree
 type_of_function c inputs output =
-    meanings c [] inputs >>= λ ts. meaning c [] output >>= λ t. not_tall (function_type c ts t)
+    meanings c [] inputs >>= λ ts. meaning c [] output >>= λ t. not_tall (function_type ts t)
 
--- the name may be declared, or is one that the reference file declared; a class of literals has no type
+-- the definitions at an attribute as the program has it
+module _ (c : Context) where
+  abbrev pub const_by : List ℕ → Sexp → code_shape.AttributeShape → Checked Constant
+  const_by name type shape = declared_const c name type (read_shape shape)
+
+  abbrev pub parameterized_by : List ℕ → List ParameterShape → Sexp → code_shape.AttributeShape → Checked Constant
+  parameterized_by name params type shape = declared_parameterized c name params type (read_shape shape)
+
+  abbrev pub typed_over_by : Bound → Sexp → code_shape.AttributeShape → Checked (Tree × Attribute)
+  typed_over_by b type shape = typed_over c b type (read_shape shape)
+
+-- the type over parameters of which the first has this number
+abbrev pub bound_type_in : Terms → ℕ → List Param → ℕ → Tree
+bound_type_in t first params type = bound_type first (map (read_parameter t.trees) params) (tree_at t.trees type)
+
+-- a constant without parameters, by the id of its type
+abbrev pub plain_constant_in : List Tree → Kept → List ℕ → Terms → ℕ → code_attribute.Attribute → Checked Constant
+plain_constant_in ts k name t type a = plain_constant (context ts k) name (tree_at t.trees type) (read_attribute t.trees a)
+
+-- ---- whose name may be declared, or is one that the reference file declared
+
+-- a constant without parameters, which is sound
+pub record MayRepeat (c : Context) (d : Constant) : Type 0 where
+  pub sound : constant_fault d ≡ None
+  pub name : is_free_or_reference c d.name ≡ true
+
+abbrev pub MayBeMacro : Context → Macro → Type 0
+MayBeMacro c d = is_free_or_reference c d.name ≡ true
+
+-- the class has no type
+abbrev pub MayBeLiterals : Context → LiteralClass → Type 0
+MayBeLiterals c class = is_none (literal_type c.signature class) ≡ true
+
 abbrev pub MayBeDeclared : Context → Declaration → Type 0
 MayBeDeclared c (AConstant d) = is_free_or_reference c d.name ≡ true
-MayBeDeclared c (ALiteralType class type) = is_none (literal_type c.signature class) ≡ true
-MayBeDeclared c (AMacro d) = is_free_or_reference c d.name ≡ true
+MayBeDeclared c (ALiteralType class type) = MayBeLiterals c class
+MayBeDeclared c (AMacro d) = MayBeMacro c d
 MayBeDeclared c (AProgram d) = Unit {0}
 MayBeDeclared c (ARule d) = Unit {0}

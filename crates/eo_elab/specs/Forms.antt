@@ -2,14 +2,15 @@
 use Rattle.std.specs.Prelude.{ℕ, Bool, List, ◌++◌, map, Option, Some, None, if◌then◌else◌}
 use Rattle.eo_sexp.specs.Sexp.{Sexp, Atom, Listed, Sexps, NoSexp, Next}
 use Rattle.eo_term.specs.Tree.{Tree}
-use Rattle.eo_sig.specs.Signature.{Signature, Attribute, Plain, RightNil, LeftNil, Right, Left, Chain, Pairs, Binder}
-use Rattle.eo_elab.specs.declared.usage.Use.{Use}
-use Rattle.eo_elab.specs.declared.usage.Use.TheVariants as use_
+use Rattle.eo_sig.specs.Signature.{Attribute, Plain, RightNil, LeftNil, Right, Left, Chain, Pairs, Binder}
+use Rattle.eo_names.specs.declared.usage.Use.{Use}
+use Rattle.eo_names.specs.declared.usage.Use.TheVariants as use_
 use Rattle.eo_elab.specs.declared.plan.Form.{Form}
 use Rattle.eo_elab.specs.declared.plan.Form.TheVariants as form
-use Rattle.eo_elab.specs.Folding.{folded}
-use Rattle.eo_elab.specs.Meaning.{Context, Local, Reader, ◌>>=◌, give, read, built, Parts, tree_application, begins_with_pairs, means, means_all, in_let, in_binder, annotated}
-use Rattle.eo_elab.specs.Usage.{made_of, UseBelow, Suits}
+use Rattle.eo_names.specs.Contexts.{Context, Local}
+use Rattle.eo_names.specs.Readers.{Reader, ◌>>=◌, give}
+use Rattle.eo_elab.specs.Meaning.{Parts, tree_application, begins_with_pairs, means, means_all, in_let, in_binder, annotated}
+use Rattle.eo_names.specs.Usage.{made_of, UseBelow, Suits}
 
 -- the readings of a head and its arguments
 abbrev pub parts_of : Context → List Local → Sexp → Sexps → Parts
@@ -69,7 +70,3 @@ collector_of (Binder collector) args = if begins_with_pairs args then Some colle
 -- the trees that are read, behind those that are given
 abbrev pub all_after : List Tree → Reader (List Tree) → Reader (List Tree)
 all_after before m = m >>= λ ts. give (before ++ ts)
-
--- the list of these variables, which another constant makes
-abbrev pub list_of : Signature → (Tree → Bool) → ℕ → List (List ℕ × Tree) → Reader Tree
-list_of S is_list collector vs = read (folded S is_list collector (map (λ v. v.1) vs)) >>= built

@@ -1,14 +1,6 @@
-pub mod Operators
-pub mod Folding
 pub mod Meaning
 pub mod Declarations
-pub mod Refused
-pub mod Names
-pub mod Scopes
-pub mod Walk
-pub mod Symbols
-pub mod Grouped
-pub mod Turns
-pub mod Usage
 pub mod Forms
+pub mod Worlds
 pub mod Declaring
+pub mod Gives

@@ -1,8 +1,7 @@
 -- The meaning of a term: a tree, or the first fault. Parts are read from left to right.
-use Rattle.std.specs.Prelude.{ℕ, ◌%◌, ◌^◌, Bool, true, false, not, ◌&&◌, ◌||◌, ◌==◌, nat_le, if◌then◌else◌, List, [], ◌∷◌, ◌++◌, map, length, drop, find, Option, Some, None, is_some, option_map, option_and_then, unwrap_or, slice_get, bytes_eq, codes, Ok, Err}
+use Rattle.std.specs.Prelude.{ℕ, ◌%◌, ◌^◌, Bool, true, false, not, ◌&&◌, ◌||◌, ◌==◌, nat_le, if◌then◌else◌, List, [], ◌∷◌, ◌++◌, map, length, drop, Option, Some, None, is_some, option_map, option_and_then, unwrap_or, slice_get, bytes_eq, codes, Ok, Err}
 use Rattle.std.specs.List.{list_any, starts_with}
-use Rattle.eo_base.specs.declared.FaultName.{FaultName}
-use Rattle.eo_base.specs.declared.FaultName.TheVariants.{BadLiteral, BadCommand, Redeclared, UnknownSymbol, BadArity, TermHeight}
+use Rattle.eo_base.specs.declared.FaultName.TheVariants.{BadLiteral, BadCommand, Redeclared, UnknownSymbol, BadArity}
 use Rattle.eo_base.specs.Checks.{Checked, value_or}
 use Rattle.eo_lit.specs.Literals.{Literal, Number, BitString, literal_value, string_value, numeral}
 use Rattle.eo_pattern.specs.Matching.{put}
@@ -10,149 +9,14 @@ use Rattle.eo_sexp.specs.declared.Kind.{Kind}
 use Rattle.eo_sexp.specs.declared.Kind.TheVariants as kind
 use Rattle.eo_sexp.specs.Sexp.{Sexp, Atom, Listed, Sexps, NoSexp, Next, children_of}
 use Rattle.eo_shape.specs.Words.{symbol_of, keyword_of, numeral_of, is_some_word}
-use Rattle.eo_sig.specs.Signature.{Signature, Macro, Attribute, Binder, Named, NamesConstant, NamesMacro, NamesProgram, lookup, is_free, program_at}
+use Rattle.eo_sig.specs.Signature.{Attribute, Binder, is_free}
 use Rattle.eo_term.specs.declared.OpCode.{OpCode}
-use Rattle.eo_term.specs.Tree.{Tree, Con, Num, Bits, Str, Par, Var, Arr, Op, to_trees, is_tall, tree_eq}
-use Rattle.eo_elab.specs.Operators.{Operator, operator_named}
-use Rattle.eo_elab.specs.Folding.{applied, attribute_at, least, folded}
-
--- Which kind of file a term stands in.
-pub data Setting : Type 0 where
-  -- a signature or a proof
-  InProof : Setting
-  -- a reference file
-  InReference : Setting
-  -- an `assert` of a reference file
-  InAssert : Setting
-
--- What the names in a term may stand for.
-pub record Context : Type 0 where
-  pub signature : Signature
-  pub macros : List Macro
-  pub setting : Setting
-
--- A name that a `let`, a binder or a parameter gives a tree. `list` marks a parameter that stands for a list.
-pub record Local : Type 0 where
-  pub name : List ℕ
-  pub tree : Tree
-  pub list : Bool
-
--- A name that a term gives itself by `:named` (SMT-LIB 2.6, section 3.6 "Terms and Formulas").
-pub record Label : Type 0 where
-  pub name : List ℕ
-  pub tree : Tree
-
--- ---- reading in order
-
--- What is read with the names given so far, and with those given then; or the first fault.
-abbrev pub Reader : Type 0 → Type 0
-Reader A = List Label → Checked (A × List Label)
-
-abbrev pub go_on : {A B : Type 0} → (A → Reader B) → Checked (A × List Label) → Checked (B × List Label)
-go_on f (Ok r) = f r.0 r.1
-go_on f (Err fault) = Err fault
-
-infixl 10 ◌>>=◌
-abbrev pub ◌>>=◌ : {A B : Type 0} → Reader A → (A → Reader B) → Reader B
-(m >>= f) labels = go_on f (m labels)
-
-abbrev pub give : {A : Type 0} → A → Reader A
-give x labels = Ok (x, labels)
-
-abbrev pub fail : {A : Type 0} → FaultName → Reader A
-fail fault labels = Err fault
-
-abbrev pub with_labels : {A : Type 0} → List Label → Checked A → Checked (A × List Label)
-with_labels labels (Ok x) = Ok (x, labels)
-with_labels labels (Err fault) = Err fault
-
-abbrev pub read : {A : Type 0} → Checked A → Reader A
-read c labels = with_labels labels c
-
--- the fault, unless the test holds
-abbrev pub unless : {A : Type 0} → Bool → FaultName → Reader A → Reader A
-unless true fault m = m
-unless false fault m = fail fault
-
--- a tree that is not too tall
-abbrev pub built : Tree → Reader Tree
-built t = unless (not (is_tall t)) TermHeight (give t)
-
--- ---- names
-
-abbrev pub is_reference : Setting → Bool
-is_reference InProof = false
-is_reference InReference = true
-is_reference InAssert = true
-
-abbrev pub is_assert : Setting → Bool
-is_assert InProof = false
-is_assert InReference = false
-is_assert InAssert = true
-
--- the innermost local of a name
-abbrev pub local_named : List Local → List ℕ → Option Tree
-local_named locals name = option_map (λ l. l.tree) (find (λ l. bytes_eq l.name name) locals)
-
--- an argument that stands for a list: a parameter marked so, however it is written
-abbrev pub is_list : List Local → Tree → Bool
-is_list locals (Par i) = list_any (λ l. l.list && tree_eq l.tree (Par i)) locals
-is_list locals t = false
-
--- What a symbol stands for.
-pub data Meant : Type 0 where
-  ATree : (tree : Tree) → Meant
-  AMacro : (macro : Macro) → Meant
-  AnOperator : (code : OpCode) (arity : ℕ) → Meant
-  Nothing : Meant
-
--- a macro without parameters is its tree
-abbrev pub macro_meant : Macro → Meant
-macro_meant m = if length m.parameters == 0 then ATree m.tree else AMacro m
-
-abbrev pub or_nothing : Option Meant → Meant
-or_nothing (Some m) = m
-or_nothing None = Nothing
-
-module _ (c : Context) where
-  abbrev pub program_meant : ℕ → Meant
-  program_meant p = or_nothing (option_map (λ program. AnOperator (OpCode.Prog p) (length program.inputs)) (program_at c.signature p))
-
-  abbrev pub global_meant : Option Named → Meant
-  global_meant None = Nothing
-  global_meant (Some (NamesConstant k)) = ATree (Con k)
-  global_meant (Some (NamesMacro m)) = or_nothing (option_map macro_meant (slice_get c.macros m))
-  global_meant (Some (NamesProgram p)) = program_meant p
-
-  -- a local name hides all others
-  abbrev pub local_meant : Option Tree → Option Named → Meant
-  local_meant (Some t) n = ATree t
-  local_meant None n = global_meant n
-
-  -- the names of operators are never looked up
-  abbrev pub operator_meant : Option Operator → Meant → Meant
-  operator_meant (Some o) m = AnOperator (OpCode.Builtin o.name) o.arity
-  operator_meant None m = m
-
-  abbrev pub meant : List Local → List ℕ → Meant
-  meant locals name = operator_meant (operator_named name) (local_meant (local_named locals name) (lookup c.signature c.macros name))
-
--- Words that are never looked up.
-pub data Word : Type 0 where
-  Underscore : Word
-  Arrow : Word
-  Let : Word
-  -- only in reference files
-  Annotation : Word
-  Name : Word
-
-abbrev pub word_of : Setting → List ℕ → Word
-word_of setting name =
-    if bytes_eq name (codes "_") then Underscore
-    else if bytes_eq name (codes "->") then Arrow
-    else if bytes_eq name (codes "let") then Let
-    else if is_reference setting && bytes_eq name (codes "!") then Annotation
-    else Name
+use Rattle.eo_term.specs.Tree.{Tree, Con, Num, Bits, Str, Op, to_trees}
+use Rattle.eo_names.specs.Binders.{pair_local, variable}
+use Rattle.eo_names.specs.Contexts.{Setting, InProof, InReference, InAssert, Context, Local, is_reference, is_assert, is_list}
+use Rattle.eo_names.specs.Meanings.{Meant, ATree, AMacro, AnOperator, Nothing, meant, Word, Underscore, Arrow, Let, Annotation, Name, word_of}
+use Rattle.eo_names.specs.Readers.{Label, Reader, go_on, ◌>>=◌, give, fail, with_labels, read, unless, built}
+use Rattle.eo_names.specs.Folding.{applied, attribute_at, least, folded, arrow, plainly}
 
 -- ---- atoms
 
@@ -236,23 +100,6 @@ indexed_bits width name =
 abbrev pub bit_vector : Sexps → Option Tree
 bit_vector (Next n (Next w NoSexp)) = option_and_then (λ width. option_and_then (indexed_bits width) (symbol_of n)) (numeral_of w)
 bit_vector args = None
-
-abbrev pub arrow : List Tree → Tree
-arrow [] = Con 0
-arrow (a ∷ []) = a
-arrow (a ∷ b ∷ rest) = Arr a (arrow (b ∷ rest))
-
--- the first applied to the others
-abbrev pub plainly : List Tree → Tree
-plainly [] = Con 0
-plainly (f ∷ args) = applied f args
-
-abbrev pub pair_local : List ℕ × Tree → Local
-pair_local p = record { name = p.0; tree = p.1; list = false }
-
--- a name and its type, as a variable
-abbrev pub variable : List ℕ × Tree → List ℕ × Tree
-variable p = (p.0, Var p.0 p.1)
 
 -- the meanings that an application may use, one for each form
 pub record Parts : Type 0 where

@@ -1,23 +1,22 @@
 //! The meaning of an atom.
-ghost use Rattle.std.specs.Prelude.{◌≡◌, ℕ, ◌<◌, Ok, Err, length, false, IfOk, IfErr, option_map};
+ghost use Rattle.std.specs.Prelude.{length, option_map};
 ghost use Rattle.eo_base.specs.Checks.{value_or};
 ghost use Rattle.eo_base.specs.declared.FaultName.TheVariants.{BadLiteral};
 ghost use Rattle.eo_lit.specs.Literals.{literal_value, string_value};
 ghost use Rattle.eo_term.specs.Tree.{Str};
-ghost use Rattle.eo_term.specs.Terms.{Terms, tree_at, Grows};
-ghost use Rattle.eo_elab.specs.Meaning.{atom, tree_alone, literal_tree};
+ghost use Rattle.eo_term.specs.Growth.{GrowsOn};
+ghost use Rattle.eo_elab.specs.Meaning.{tree_alone, literal_tree};
 ghost use Rattle.eo_sexp.specs.declared.Kind.TheVariants as kinds;
-ghost use Rattle.eo_elab.specs.Symbols.{read_meant, IsLive};
-ghost use Rattle.eo_elab.specs.Names.{read_locals};
-ghost use Rattle.eo_elab.specs.Refused.{is_memory, fault_of};
-ghost use Rattle.eo_elab.specs.Scopes.{bound_in};
-ghost use Rattle.eo_elab.specs.Walk.{context, IsReady};
+ghost use Rattle.eo_names.specs.Symbols.{read_meant, IsLive};
+ghost use Rattle.eo_names.specs.Gives.{GivesTree};
+ghost use Rattle.eo_names.specs.Scopes.{bound_in};
+ghost use Rattle.eo_names.specs.Ready.{IsReady};
+ghost use Rattle.eo_names.specs.Worlds.{world};
+ghost use Rattle.eo_elab.specs.Worlds.{atom_in};
 
 use crate::ElabRefused;
-use crate::leaves::{constant, leaf};
-use crate::scope::Scope;
-use crate::symbols::{Meant, Word, name_meant, word_of};
 use eo_lit::{LitRead, StringRefused, read_literal, read_string};
+use eo_names::{Meant, Scope, Word, constant, leaf, name_meant, word_of};
 use eo_sexp::Kind;
 use eo_sig::Signature;
 use eo_term::{Id, Node, Table};
@@ -39,11 +38,8 @@ pub(crate) fn atom(
     table: &mut Table,
 ) -> Result<Id, ElabRefused>
     requires { IsReady (length table.old.trees) sig.now (bound_in scope.now) }
-    ensures live { IfOk result (λ i. i < length table.new.trees) }
-    ensures tree { IfOk result (λ i. atom (context table.old.trees sig.now) (read_locals table.old.trees (bound_in scope.now)) kind text.now ≡ Ok (tree_at table.new.trees i)) }
-    ensures fault { IfErr result (λ e. is_memory e ≡ false → atom (context table.old.trees sig.now) (read_locals table.old.trees (bound_in scope.now)) kind text.now ≡ Err (fault_of e)) }
-    ensures grows { Grows table.old table.new }
-    ensures grown { (t : Terms) → Grows t table.old → Grows t table.new }
+    ensures gives { GivesTree table.new result (atom_in (world table.old sig.now scope.now) kind text.now) }
+    ensures grows { GrowsOn table.old table.new }
 {
     match kind {
         Kind::Symbol => symbol(text, scope, sig, table),
@@ -63,11 +59,8 @@ fn symbol(
     table: &mut Table,
 ) -> Result<Id, ElabRefused>
     requires { IsReady (length table.old.trees) sig.now (bound_in scope.now) }
-    ensures live { IfOk result (λ i. i < length table.new.trees) }
-    ensures tree { IfOk result (λ i. atom (context table.old.trees sig.now) (read_locals table.old.trees (bound_in scope.now)) kinds.Symbol name.now ≡ Ok (tree_at table.new.trees i)) }
-    ensures fault { IfErr result (λ e. is_memory e ≡ false → atom (context table.old.trees sig.now) (read_locals table.old.trees (bound_in scope.now)) kinds.Symbol name.now ≡ Err (fault_of e)) }
-    ensures grows { Grows table.old table.new }
-    ensures grown { (t : Terms) → Grows t table.old → Grows t table.new }
+    ensures gives { GivesTree table.new result (atom_in (world table.old sig.now scope.now) kinds.Symbol name.now) }
+    ensures grows { GrowsOn table.old table.new }
 {
     match word_of(name) {
         Word::Name => term_of(sig, name_meant(name, scope, sig), table),
@@ -80,11 +73,8 @@ fn symbol(
 // What stands for a term by itself.
 fn term_of(sig: &Signature, meant: Meant, table: &mut Table) -> Result<Id, ElabRefused>
     requires { IsLive (length table.old.trees) sig.now meant }
-    ensures live { IfOk result (λ i. i < length table.new.trees) }
-    ensures tree { IfOk result (λ i. tree_alone (read_meant table.old.trees sig.now meant) ≡ Ok (tree_at table.new.trees i)) }
-    ensures fault { IfErr result (λ e. is_memory e ≡ false → tree_alone (read_meant table.old.trees sig.now meant) ≡ Err (fault_of e)) }
-    ensures grows { Grows table.old table.new }
-    ensures grown { (t : Terms) → Grows t table.old → Grows t table.new }
+    ensures gives { GivesTree table.new result (tree_alone (read_meant table.old.trees sig.now meant)) }
+    ensures grows { GrowsOn table.old table.new }
 {
     match meant {
         Meant::Term(id) => Ok(id),
@@ -98,11 +88,8 @@ fn term_of(sig: &Signature, meant: Meant, table: &mut Table) -> Result<Id, ElabR
 // The value of a literal word.
 #[tactic(auto, unfolding(eo_base::specs::Checks::value_or))]
 fn literal(word: &[u8], table: &mut Table) -> Result<Id, ElabRefused>
-    ensures live { IfOk result (λ i. i < length table.new.trees) }
-    ensures tree { IfOk result (λ i. value_or BadLiteral (option_map literal_tree (literal_value word.now)) ≡ Ok (tree_at table.new.trees i)) }
-    ensures fault { IfErr result (λ e. is_memory e ≡ false → value_or BadLiteral (option_map literal_tree (literal_value word.now)) ≡ Err (fault_of e)) }
-    ensures grows { Grows table.old table.new }
-    ensures grown { (t : Terms) → Grows t table.old → Grows t table.new }
+    ensures gives { GivesTree table.new result (value_or BadLiteral (option_map literal_tree (literal_value word.now))) }
+    ensures grows { GrowsOn table.old table.new }
 {
     let node = match read_literal(word) {
         Ok(LitRead::Num(value)) => Node::Num(value),
@@ -115,11 +102,8 @@ fn literal(word: &[u8], table: &mut Table) -> Result<Id, ElabRefused>
 // The value of a string literal, from the bytes between its quotes.
 #[tactic(auto, unfolding(eo_base::specs::Checks::value_or))]
 fn string(alloc: Global, body: &[u8], table: &mut Table) -> Result<Id, ElabRefused>
-    ensures live { IfOk result (λ i. i < length table.new.trees) }
-    ensures tree { IfOk result (λ i. value_or BadLiteral (option_map Str (string_value body.now)) ≡ Ok (tree_at table.new.trees i)) }
-    ensures fault { IfErr result (λ e. is_memory e ≡ false → value_or BadLiteral (option_map Str (string_value body.now)) ≡ Err (fault_of e)) }
-    ensures grows { Grows table.old table.new }
-    ensures grown { (t : Terms) → Grows t table.old → Grows t table.new }
+    ensures gives { GivesTree table.new result (value_or BadLiteral (option_map Str (string_value body.now))) }
+    ensures grows { GrowsOn table.old table.new }
 {
     let characters = match read_string(alloc, body) {
         Ok(characters) => characters,

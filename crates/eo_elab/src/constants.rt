@@ -1,21 +1,22 @@
 //! The parts of a declared constant.
-ghost use Rattle.std.specs.Prelude.{◌≡◌, ◌<◌, ◌≤◌, ◌+◌, Ok, Err, List, [], length, map, true, false, All, IfOk, IfErr};
+ghost use Rattle.std.specs.Prelude.{◌≡◌, ◌<◌, ◌≤◌, ◌+◌, List, None, length, map, true, All, IfOk};
 ghost use Rattle.eo_base.specs.Limits.{parameters_limit, height_limit};
-ghost use Rattle.eo_sexp.specs.Owned.{owned};
+ghost use Rattle.eo_term.specs.Growth.{tree_in, GrowsOn, Makes};
 ghost use Rattle.eo_term.specs.Refused.{IsTall};
-ghost use Rattle.eo_term.specs.Terms.{Terms, tree_at, Grows};
 ghost use Rattle.eo_term.specs.Tree.{Tree, Arr, type_tree, height, is_tall};
-ghost use Rattle.eo_sig.specs.Reading.{Kept, read_attribute, read_parameter, read_constant, AttributeBelow, ConstBelow};
-ghost use Rattle.eo_shape.specs.Reading as shapes;
+ghost use Rattle.eo_sig.specs.Reading.{Kept, read_constant, AttributeBelow};
+ghost use Rattle.eo_sig.specs.Signature.{constant_fault};
 ghost use Rattle.eo_elab.specs.Declarations as declarations;
-ghost use Rattle.eo_elab.specs.Names.{read_locals};
-ghost use Rattle.eo_elab.specs.Refused.{is_memory, fault_of};
-ghost use Rattle.eo_elab.specs.Walk.{context, IsReady};
+ghost use Rattle.eo_elab.specs.Gives.{GivesTrees, GivesAttribute, GivesNumber, GivesConstant};
+ghost use Rattle.eo_elab.specs.Declaring.{bound_type_in, plain_constant_in};
+ghost use Rattle.eo_names.specs.Ready.{context, IsReady};
+ghost use Rattle.eo_names.specs.Worlds.{world_of};
+ghost use Rattle.eo_elab.specs.Worlds.{meanings_in, attribute_in, constant_in};
 
-use crate::leaves::leaf;
 use crate::{ElabRefused, Locals, term};
 use eo_base::Name;
-use eo_sexp::OwnedSexp;
+use eo_names::leaf;
+use eo_sexp::{Children, Sexp};
 use eo_shape::AttributeShape;
 use eo_sig::{Attribute, ConstDecl, Entry, Param, Params, Signature};
 use eo_term::{Id, Ids, Node, TYPE, Table, TermRefused};
@@ -43,28 +44,25 @@ fn is_reference_name(sig: &Signature, name: &[u8]) -> bool
 /// The meanings of terms in order.
 pub(crate) fn meanings(
     alloc: Global,
-    terms: &[OwnedSexp],
+    terms: &Children<'_>,
     locals: &Locals,
     sig: &Signature,
     table: &mut Table,
 ) -> Result<Ids, ElabRefused>
     requires ready { IsReady (length table.old.trees) sig.now locals.now }
-    ensures value { IfOk result (λ r. declarations.meanings (context table.old.trees sig.now) (read_locals table.old.trees locals.now) (map owned terms.now) ≡ Ok (map (tree_at table.new.trees) r)) }
-    ensures fault { IfErr result (λ e. is_memory e ≡ false → declarations.meanings (context table.old.trees sig.now) (read_locals table.old.trees locals.now) (map owned terms.now) ≡ Err (fault_of e)) }
-    ensures live { IfOk result (λ ids. All (λ i. i < length table.new.trees) ids) }
-    ensures grows { Grows table.old table.new }
-    ensures grown { (t : Terms) → Grows t table.old → Grows t table.new }
+    ensures gives { GivesTrees table.new result (meanings_in (world_of table.old sig.now locals.now) terms.now) }
+    ensures grows { GrowsOn table.old table.new }
 {
     let mut ids = Ids::new(alloc)?;
-    for s in terms {
-        let id = term(alloc, s, locals, sig, table)?;
+    for s in terms.again() {
+        let id = term(alloc, &s, locals, sig, table)?;
         ids.push(id)?;
     }
     Ok(ids)
 }
 
 /// How a constant folds its arguments.
-pub(crate) fn attribute(
+pub(crate) fn attribute_meant(
     alloc: Global,
     shape: &AttributeShape<'_>,
     locals: &Locals,
@@ -72,13 +70,10 @@ pub(crate) fn attribute(
     table: &mut Table,
 ) -> Result<Attribute, ElabRefused>
     requires ready { IsReady (length table.old.trees) sig.now locals.now }
-    ensures value { IfOk result (λ r. declarations.attribute (context table.old.trees sig.now) (read_locals table.old.trees locals.now) (shapes.read_attribute shape.now) ≡ Ok (read_attribute table.new.trees r)) }
-    ensures fault { IfErr result (λ e. is_memory e ≡ false → declarations.attribute (context table.old.trees sig.now) (read_locals table.old.trees locals.now) (shapes.read_attribute shape.now) ≡ Err (fault_of e)) }
-    ensures below { IfOk result (AttributeBelow (length table.new.trees)) }
-    ensures grows { Grows table.old table.new }
-    ensures grown { (t : Terms) → Grows t table.old → Grows t table.new }
+    ensures gives { GivesAttribute table.new result (attribute_in (world_of table.old sig.now locals.now) shape.now) }
+    ensures grows { GrowsOn table.old table.new }
 {
-    match *shape {
+    match shape {
         AttributeShape::None => Ok(Attribute::Plain),
         AttributeShape::RightNil(s) => Ok(Attribute::RightNil(term(alloc, s, locals, sig, table)?)),
         AttributeShape::LeftNil(s) => Ok(Attribute::LeftNil(term(alloc, s, locals, sig, table)?)),
@@ -99,16 +94,14 @@ pub(crate) fn attribute(
 // The number of the constant that a term means.
 fn constant_meant(
     alloc: Global,
-    s: &OwnedSexp,
+    s: &Sexp<'_>,
     locals: &Locals,
     sig: &Signature,
     table: &mut Table,
 ) -> Result<usize, ElabRefused>
     requires ready { IsReady (length table.old.trees) sig.now locals.now }
-    ensures value { IfOk result (λ r. declarations.constant_meant (context table.old.trees sig.now) (read_locals table.old.trees locals.now) (owned s.now) ≡ Ok (r)) }
-    ensures fault { IfErr result (λ e. is_memory e ≡ false → declarations.constant_meant (context table.old.trees sig.now) (read_locals table.old.trees locals.now) (owned s.now) ≡ Err (fault_of e)) }
-    ensures grows { Grows table.old table.new }
-    ensures grown { (t : Terms) → Grows t table.old → Grows t table.new }
+    ensures gives { GivesNumber result (constant_in (world_of table.old sig.now locals.now) s.now) }
+    ensures grows { GrowsOn table.old table.new }
 {
     let id = term(alloc, s, locals, sig, table)?;
     match table.node(id) {
@@ -119,10 +112,8 @@ fn constant_meant(
 
 /// The type of a sort with so many arguments.
 pub(crate) fn sort_type(table: &mut Table, arity: u8) -> Result<Id, AllocError>
-    ensures live { IfOk result (λ i. i < length table.new.trees) }
-    ensures tree { IfOk result (λ i. (k : Kept) → tree_at table.new.trees i ≡ declarations.sort_type (context table.old.trees k) arity) }
-    ensures grows { Grows table.old table.new }
-    ensures grown { (t : Terms) → Grows t table.old → Grows t table.new }
+    ensures makes { Makes table.new result (declarations.sort_type arity) }
+    ensures grows { GrowsOn table.old table.new }
 {
     prove!(table.len() > 0);
     let mut made = TYPE;
@@ -135,11 +126,9 @@ pub(crate) fn sort_type(table: &mut Table, arity: u8) -> Result<Id, AllocError>
 // The type of a sort with one argument more, where it is low.
 fn sort_over(table: &mut Table, to: Id) -> Result<Id, AllocError>
     requires live { to < length table.old.trees }
-    requires low { height (tree_at table.old.trees to) < height_limit }
-    ensures live { IfOk result (λ i. i < length table.new.trees) }
-    ensures tree { IfOk result (λ i. tree_at table.new.trees i ≡ Arr type_tree (tree_at table.old.trees to)) }
-    ensures grows { Grows table.old table.new }
-    ensures grown { (t : Terms) → Grows t table.old → Grows t table.new }
+    requires low { height (tree_in table.old to) < height_limit }
+    ensures makes { Makes table.new result (Arr type_tree (tree_in table.old to)) }
+    ensures grows { GrowsOn table.old table.new }
 {
     prove!(table.len() > 0);
     leaf(table, Node::Arr { from: TYPE, to })
@@ -156,11 +145,9 @@ pub(crate) fn bound_type(
     requires params { All (λ p. p.ty < length table.old.trees) params.now }
     requires ty { ty < length table.old.trees }
     requires few { first + length params.now ≤ parameters_limit }
-    ensures live { IfOk result (λ i. i < length table.new.trees) }
-    ensures tree { IfOk result (λ i. (k : Kept) → tree_at table.new.trees i ≡ declarations.bound_type (context table.old.trees k) first (map (read_parameter table.old.trees) params.now) (tree_at table.old.trees ty)) }
-    ensures tall { IsTall result → (k : Kept) → is_tall (declarations.bound_type (context table.old.trees k) first (map (read_parameter table.old.trees) params.now) (tree_at table.old.trees ty)) ≡ true }
-    ensures grows { Grows table.old table.new }
-    ensures grown { (t : Terms) → Grows t table.old → Grows t table.new }
+    ensures makes { Makes table.new result (bound_type_in table.old first params.now ty) }
+    ensures tall { IsTall result → is_tall (bound_type_in table.old first params.now ty) ≡ true }
+    ensures grows { GrowsOn table.old table.new }
 {
     let Some((p, rest)) = params.split_first() else {
         return Ok(ty);
@@ -187,9 +174,9 @@ pub(crate) fn plain_constant(
 ) -> Result<ConstDecl, ElabRefused>
     requires ty { ty < length table.now.trees }
     requires below { AttributeBelow (length table.now.trees) attribute }
-    ensures value { IfOk result (λ d. (ts : List Tree) (k : Kept) → declarations.plain_constant (context ts k) name.now (tree_at table.now.trees ty) (read_attribute table.now.trees attribute) ≡ Ok (read_constant table.now.trees d)) }
-    ensures fault { IfErr result (λ e. is_memory e ≡ false → (ts : List Tree) (k : Kept) → declarations.plain_constant (context ts k) name.now (tree_at table.now.trees ty) (read_attribute table.now.trees attribute) ≡ Err (fault_of e)) }
-    ensures below { IfOk result (ConstBelow (length table.now.trees)) }
+    ensures gives { (ts : List Tree) (k : Kept) → GivesConstant table.now result (plain_constant_in ts k name.now table.now ty attribute) }
+    ensures sound { IfOk result (λ d. constant_fault (read_constant table.now.trees d) ≡ None) }
+    ensures name { IfOk result (λ d. d.name ≡ name.now) }
 {
     let d = ConstDecl {
         name: Name::new(alloc, name)?,

@@ -1,22 +1,25 @@
 //! What a declaring command declares.
-ghost use Rattle.std.specs.Prelude.{◌≡◌, ◌<◌, ◌≤◌, Ok, Err, Some, [], length, map, true, false, All, IfOk, IfErr};
+ghost use Rattle.std.specs.Prelude.{◌≡◌, true, ◌<◌, ◌≤◌, [], length, All, IfOk, OnOk};
 ghost use Rattle.eo_base.specs.Limits.{parameters_limit};
-ghost use Rattle.eo_sexp.specs.Owned.{owned};
-ghost use Rattle.eo_term.specs.Terms.{Terms, tree_at, Grows};
-ghost use Rattle.eo_sig.specs.Reading.{read_constant, read_macro, AttributeBelow, ConstBelow, MacroBelow, IsBelow, Stays};
-ghost use Rattle.eo_shape.specs.Reading as shapes;
-ghost use Rattle.eo_elab.specs.Declarations as declarations;
-ghost use Rattle.eo_elab.specs.Declaring.{read_bound, read_declaration, read_typed, declared, declares, typed, typed_over, type_of_function, Declares, DeclarationBelow, MayBeDeclared};
-ghost use Rattle.eo_elab.specs.Refused.{is_memory, fault_of};
-ghost use Rattle.eo_elab.specs.Walk.{context, IsReady};
+ghost use Rattle.eo_term.specs.Growth.{GrowsOn};
+ghost use Rattle.eo_sig.specs.Growth.{GrowsUnder};
+ghost use Rattle.eo_sig.specs.Reading.{read_constant, read_macro, IsBelow, IsFree};
+ghost use Rattle.eo_shape.specs.Reading.{read_attribute, read_command};
+ghost use Rattle.eo_elab.specs.Declarations.{declared_fun, declared_sort, declared_literals, declaration, defined, is_free_or_reference};
+ghost use Rattle.eo_elab.specs.Declaring.{read_bound, read_declaration, declared, or_bad, typed, type_of_function, const_by, parameterized_by, typed_over_by, IsCommand, BoundBelow, MayRepeat, MayBeMacro, MayBeLiterals, MayBeDeclared};
+ghost use Rattle.eo_names.specs.Gives.{GivesTree};
+ghost use Rattle.eo_elab.specs.Gives.{GivesTyped, GivesConstant, GivesMacro, GivesDeclaration};
+ghost use Rattle.eo_elab.specs.Worlds.{context_in};
 
-use crate::arguments::function_type;
-use crate::constants::{attribute, bound_type, may_declare, meanings, plain_constant, sort_type};
+use crate::constants::{
+    attribute_meant, bound_type, may_declare, meanings, plain_constant, sort_type,
+};
 use crate::parameters::{Bound, bind, parameter};
 use crate::{ElabRefused, Locals, term};
 use eo_base::Name;
 use eo_base::limits::PARAMETERS;
-use eo_sexp::OwnedSexp;
+use eo_names::function_type;
+use eo_sexp::{Children, Sexp};
 use eo_shape::{AttributeShape, Command, ParameterShapes, command_of};
 use eo_sig::{Attribute, ConstDecl, Declaration, LiteralClass, MacroDecl, Signature};
 use eo_term::{HEIGHT_LIMIT, Id, Table};
@@ -28,7 +31,7 @@ use std::alloc::Global;
 ///
 /// A refusal is the first fault, in this order:
 ///
-/// - `BadCommand`: the command has a wrong shape.
+/// - `BadCommand`: the command has a wrong shape, or declares nothing.
 /// - `Redeclared`: the name may not be declared, and is none that the reference file declared; or
 ///   the class of literals has a type.
 /// - `Parameters`: there are more than 64 parameters.
@@ -44,19 +47,15 @@ use std::alloc::Global;
 /// leave new terms behind them.
 pub fn declaration(
     alloc: Global,
-    s: &OwnedSexp,
+    s: &Sexp<'_>,
     sig: &Signature,
     table: &mut Table,
 ) -> Result<Declaration, ElabRefused>
     requires ready { IsBelow (length table.old.trees) sig.now }
-    requires declares { Declares (owned s.now) }
-    ensures declared { IfOk result (λ r. declared (context table.old.trees sig.now) (owned s.now) ≡ Ok (read_declaration table.new.trees r)) }
-    ensures fault { IfErr result (λ e. is_memory e ≡ false → declared (context table.old.trees sig.now) (owned s.now) ≡ Err (fault_of e)) }
-    ensures named { IfOk result (λ d. MayBeDeclared (context table.old.trees sig.now) (read_declaration table.new.trees d)) }
-    ensures below { IfOk result (DeclarationBelow (length table.new.trees)) }
-    ensures grows { Grows table.old table.new }
-    ensures grown { (t : Terms) → Grows t table.old → Grows t table.new }
-    ensures stays { Stays sig.now table.old.trees table.new.trees }
+    requires command { IsCommand s.now }
+    ensures gives { GivesDeclaration table.new result (declared (context_in table.old sig.now) s.now) }
+    ensures named { IfOk result (λ d. MayBeDeclared (context_in table.old sig.now) (read_declaration table.new.trees d)) }
+    ensures grows { GrowsUnder sig.now table.old table.new }
 {
     match command_of(s, false) {
         Ok(command) => declared_by(alloc, &command, sig, table),
@@ -71,13 +70,10 @@ fn declared_by(
     sig: &Signature,
     table: &mut Table,
 ) -> Result<Declaration, ElabRefused>
-    requires ready { IsReady (length table.old.trees) sig.now [] }
-    requires declares { declares (shapes.read_command command.now) ≡ true }
-    ensures value { IfOk result (λ r. declarations.declaration (context table.old.trees sig.now) (shapes.read_command command.now) ≡ Some (Ok (read_declaration table.new.trees r))) }
-    ensures fault { IfErr result (λ e. is_memory e ≡ false → declarations.declaration (context table.old.trees sig.now) (shapes.read_command command.now) ≡ Some (Err (fault_of e))) }
-    ensures below { IfOk result (DeclarationBelow (length table.new.trees)) }
-    ensures grows { Grows table.old table.new }
-    ensures grown { (t : Terms) → Grows t table.old → Grows t table.new }
+    requires { IsBelow (length table.old.trees) sig.now }
+    ensures gives { GivesDeclaration table.new result (or_bad (declaration (context_in table.old sig.now) (read_command command.now))) }
+    ensures named { IfOk result (λ d. MayBeDeclared (context_in table.old sig.now) (read_declaration table.new.trees d)) }
+    ensures grows { GrowsUnder sig.now table.old table.new }
 {
     match command {
         Command::DeclareConst {
@@ -120,69 +116,81 @@ fn declared_by(
             let d = defined(alloc, name, params, body, sig, table)?;
             Ok(Declaration::Macro(d))
         }
-        Command::Assume { .. } => unreachable!(),
-        Command::Assert { .. } => unreachable!(),
+        Command::Assume { .. } => Err(ElabRefused::BadCommand),
+        Command::Assert { .. } => Err(ElabRefused::BadCommand),
     }
 }
 
-fn declared_const(
+/// `(declare-const NAME TYPE ATTRIBUTE)`: a constant without parameters.
+///
+/// A refusal is the first fault, in this order:
+///
+/// - `Redeclared`: the name may not be declared, and is none that the reference file declared.
+/// - a fault of a term: of the type, and then of the terminator or what joins (`UnknownSymbol`,
+///   where it is no constant).
+/// - `BadPattern`: the type holds what no declared type may, or the terminator is no value.
+/// - `Memory`: want of memory.
+#[tactic(auto, using(eo_sig::proofs::Growing::grows_under))]
+pub fn declared_const(
     alloc: Global,
     name: &[u8],
-    ty: &OwnedSexp,
-    shape: &AttributeShape<'_>,
+    ty: &Sexp<'_>,
+    attribute: &AttributeShape<'_>,
     sig: &Signature,
     table: &mut Table,
 ) -> Result<ConstDecl, ElabRefused>
-    requires ready { IsReady (length table.old.trees) sig.now [] }
-    ensures value { IfOk result (λ r. declarations.declared_const (context table.old.trees sig.now) name.now (owned ty.now) (shapes.read_attribute shape.now) ≡ Ok (read_constant table.new.trees r)) }
-    ensures fault { IfErr result (λ e. is_memory e ≡ false → declarations.declared_const (context table.old.trees sig.now) name.now (owned ty.now) (shapes.read_attribute shape.now) ≡ Err (fault_of e)) }
-    ensures below { IfOk result (ConstBelow (length table.new.trees)) }
-    ensures grows { Grows table.old table.new }
-    ensures grown { (t : Terms) → Grows t table.old → Grows t table.new }
+    requires { IsBelow (length table.old.trees) sig.now }
+    ensures gives { GivesConstant table.new result (const_by (context_in table.old sig.now) name.now ty.now attribute.now) }
+    ensures may { IfOk result (λ d. MayRepeat (context_in table.old sig.now) (read_constant table.new.trees d)) }
+    ensures grows { GrowsUnder sig.now table.old table.new }
 {
     if !may_declare(sig, name) {
         return Err(ElabRefused::Redeclared);
     }
-    let (ty, attribute) = typed(alloc, ty, shape, sig, table)?;
+    let (ty, attribute) = typed(alloc, ty, attribute, sig, table)?;
     plain_constant(alloc, name, ty, attribute, table)
 }
 
 // A type and an attribute.
 fn typed(
     alloc: Global,
-    ty: &OwnedSexp,
-    shape: &AttributeShape<'_>,
+    ty: &Sexp<'_>,
+    attribute: &AttributeShape<'_>,
     sig: &Signature,
     table: &mut Table,
 ) -> Result<(Id, Attribute), ElabRefused>
-    requires ready { IsReady (length table.old.trees) sig.now [] }
-    ensures value { IfOk result (λ r. typed (context table.old.trees sig.now) [] (owned ty.now) (shapes.read_attribute shape.now) ≡ Ok (read_typed table.new.trees r)) }
-    ensures fault { IfErr result (λ e. is_memory e ≡ false → typed (context table.old.trees sig.now) [] (owned ty.now) (shapes.read_attribute shape.now) ≡ Err (fault_of e)) }
-    ensures live { IfOk result (λ r. r.0 < length table.new.trees) }
-    ensures below { IfOk result (λ r. AttributeBelow (length table.new.trees) r.1) }
-    ensures grows { Grows table.old table.new }
-    ensures grown { (t : Terms) → Grows t table.old → Grows t table.new }
+    requires { IsBelow (length table.old.trees) sig.now }
+    ensures gives { GivesTyped table.new result (typed (context_in table.old sig.now) [] ty.now (read_attribute attribute.now)) }
+    ensures grows { GrowsOn table.old table.new }
 {
     let none = Locals::new(alloc)?;
     let ty = term(alloc, ty, &none, sig, table)?;
-    let attribute = attribute(alloc, shape, &none, sig, table)?;
+    let attribute = attribute_meant(alloc, attribute, &none, sig, table)?;
     Ok((ty, attribute))
 }
 
-fn declared_fun(
+/// `(declare-fun NAME (INPUT ..) OUTPUT)`: a constant of a function type.
+///
+/// A refusal is the first fault, in this order:
+///
+/// - `Redeclared`: the name may not be declared, and is none that the reference file declared.
+/// - a fault of a term: of the inputs in order, and then of the output.
+/// - `Tall`: the function type is taller than the limit.
+/// - `BadPattern`: the type holds what no declared type may.
+/// - `Memory`: want of memory.
+#[tactic(auto, using(eo_sig::proofs::Growing::grows_under))]
+pub fn declared_fun(
     alloc: Global,
     name: &[u8],
-    inputs: &[OwnedSexp],
-    output: &OwnedSexp,
+    inputs: &Children<'_>,
+    output: &Sexp<'_>,
     sig: &Signature,
     table: &mut Table,
 ) -> Result<ConstDecl, ElabRefused>
-    requires ready { IsReady (length table.old.trees) sig.now [] }
-    ensures value { IfOk result (λ r. declarations.declared_fun (context table.old.trees sig.now) name.now (map owned inputs.now) (owned output.now) ≡ Ok (read_constant table.new.trees r)) }
-    ensures fault { IfErr result (λ e. is_memory e ≡ false → declarations.declared_fun (context table.old.trees sig.now) name.now (map owned inputs.now) (owned output.now) ≡ Err (fault_of e)) }
-    ensures below { IfOk result (ConstBelow (length table.new.trees)) }
-    ensures grows { Grows table.old table.new }
-    ensures grown { (t : Terms) → Grows t table.old → Grows t table.new }
+    requires { IsBelow (length table.old.trees) sig.now }
+    ensures gives { GivesConstant table.new result (declared_fun (context_in table.old sig.now) name.now inputs.now output.now) }
+    ensures may { IfOk result (λ d. MayRepeat (context_in table.old sig.now) (read_constant table.new.trees d)) }
+    ensures grows { GrowsUnder sig.now table.old table.new }
 {
     if !may_declare(sig, name) {
         return Err(ElabRefused::Redeclared);
@@ -194,17 +202,14 @@ fn declared_fun(
 // The type of a function by its inputs and its output.
 fn type_of_function(
     alloc: Global,
-    inputs: &[OwnedSexp],
-    output: &OwnedSexp,
+    inputs: &Children<'_>,
+    output: &Sexp<'_>,
     sig: &Signature,
     table: &mut Table,
 ) -> Result<Id, ElabRefused>
-    requires ready { IsReady (length table.old.trees) sig.now [] }
-    ensures value { IfOk result (λ r. type_of_function (context table.old.trees sig.now) (map owned inputs.now) (owned output.now) ≡ Ok (tree_at table.new.trees r)) }
-    ensures fault { IfErr result (λ e. is_memory e ≡ false → type_of_function (context table.old.trees sig.now) (map owned inputs.now) (owned output.now) ≡ Err (fault_of e)) }
-    ensures live { IfOk result (λ i. i < length table.new.trees) }
-    ensures grows { Grows table.old table.new }
-    ensures grown { (t : Terms) → Grows t table.old → Grows t table.new }
+    requires { IsBelow (length table.old.trees) sig.now }
+    ensures gives { GivesTree table.new result (type_of_function (context_in table.old sig.now) inputs.now output.now) }
+    ensures grows { GrowsOn table.old table.new }
 {
     let none = Locals::new(alloc)?;
     let mut types = meanings(alloc, inputs, &none, sig, table)?;
@@ -215,19 +220,22 @@ fn type_of_function(
     Ok(made)
 }
 
-fn declared_sort(
+/// `(declare-sort NAME ARITY)`: a constant that makes a type of so many types.
+///
+/// `Redeclared`: the name may not be declared, and is none that the reference file declared.
+/// `Memory`: want of memory.
+#[tactic(auto, using(eo_sig::proofs::Growing::grows_under))]
+pub fn declared_sort(
     alloc: Global,
     name: &[u8],
     arity: u8,
     sig: &Signature,
     table: &mut Table,
 ) -> Result<ConstDecl, ElabRefused>
-    requires ready { IsReady (length table.old.trees) sig.now [] }
-    ensures value { IfOk result (λ r. declarations.declared_sort (context table.old.trees sig.now) name.now arity ≡ Ok (read_constant table.new.trees r)) }
-    ensures fault { IfErr result (λ e. is_memory e ≡ false → declarations.declared_sort (context table.old.trees sig.now) name.now arity ≡ Err (fault_of e)) }
-    ensures below { IfOk result (ConstBelow (length table.new.trees)) }
-    ensures grows { Grows table.old table.new }
-    ensures grown { (t : Terms) → Grows t table.old → Grows t table.new }
+    requires { IsBelow (length table.old.trees) sig.now }
+    ensures gives { GivesConstant table.new result (declared_sort (context_in table.old sig.now) name.now arity) }
+    ensures may { IfOk result (λ d. MayRepeat (context_in table.old sig.now) (read_constant table.new.trees d)) }
+    ensures grows { GrowsUnder sig.now table.old table.new }
 {
     if !may_declare(sig, name) {
         return Err(ElabRefused::Redeclared);
@@ -236,21 +244,32 @@ fn declared_sort(
     plain_constant(alloc, name, ty, Attribute::Plain, table)
 }
 
-fn declared_parameterized(
+/// `(declare-parameterized-const NAME (PARAMETER ..) TYPE ATTRIBUTE)`: a constant with parameters.
+///
+/// A refusal is the first fault, in this order:
+///
+/// - `Redeclared`: the name may not be declared.
+/// - `Parameters`: there are more than 64.
+/// - a fault of a term: of the parameters' types in order, where a name that an earlier parameter
+///   has is `Redeclared`, and of the type.
+/// - `Tall`: the type with its parameters is taller than the limit.
+/// - a fault of the terminator or what joins (`UnknownSymbol`, where it is no constant).
+/// - `Memory`: want of memory.
+#[tactic(auto, using(eo_sig::proofs::Growing::grows_under))]
+pub fn declared_parameterized(
     alloc: Global,
     name: &[u8],
     params: &ParameterShapes<'_>,
-    ty: &OwnedSexp,
-    shape: &AttributeShape<'_>,
+    ty: &Sexp<'_>,
+    attribute: &AttributeShape<'_>,
     sig: &Signature,
     table: &mut Table,
 ) -> Result<ConstDecl, ElabRefused>
-    requires ready { IsReady (length table.old.trees) sig.now [] }
-    ensures value { IfOk result (λ r. declarations.declared_parameterized (context table.old.trees sig.now) name.now params.now (owned ty.now) (shapes.read_attribute shape.now) ≡ Ok (read_constant table.new.trees r)) }
-    ensures fault { IfErr result (λ e. is_memory e ≡ false → declarations.declared_parameterized (context table.old.trees sig.now) name.now params.now (owned ty.now) (shapes.read_attribute shape.now) ≡ Err (fault_of e)) }
-    ensures below { IfOk result (ConstBelow (length table.new.trees)) }
-    ensures grows { Grows table.old table.new }
-    ensures grown { (t : Terms) → Grows t table.old → Grows t table.new }
+    requires { IsBelow (length table.old.trees) sig.now }
+    ensures gives { GivesConstant table.new result (parameterized_by (context_in table.old sig.now) name.now params.now ty.now attribute.now) }
+    ensures free { IfOk result (λ d. IsFree sig.now d.name) }
+    ensures named { IfOk result (λ d. is_free_or_reference (context_in table.old sig.now) d.name ≡ true) }
+    ensures grows { GrowsUnder sig.now table.old table.new }
 {
     if !sig.is_free(name) {
         return Err(ElabRefused::Redeclared);
@@ -259,7 +278,7 @@ fn declared_parameterized(
         return Err(ElabRefused::Parameters);
     }
     let bound = bind(alloc, params, sig, table)?;
-    let (ty, attribute) = typed_over(alloc, &bound, ty, shape, sig, table)?;
+    let (ty, attribute) = typed_over(alloc, &bound, ty, attribute, sig, table)?;
     Ok(ConstDecl {
         name: Name::new(alloc, name)?,
         params: bound.params,
@@ -274,41 +293,40 @@ fn declared_parameterized(
 fn typed_over(
     alloc: Global,
     bound: &Bound,
-    ty: &OwnedSexp,
-    shape: &AttributeShape<'_>,
+    ty: &Sexp<'_>,
+    attribute: &AttributeShape<'_>,
     sig: &Signature,
     table: &mut Table,
 ) -> Result<(Id, Attribute), ElabRefused>
-    requires params { All (λ p. p.ty < length table.old.trees) bound.now.params }
+    requires bound { BoundBelow (length table.old.trees) sig.now bound.now }
     requires few { length bound.now.params ≤ parameters_limit }
-    requires ready { IsReady (length table.old.trees) sig.now bound.now.locals }
-    ensures value { IfOk result (λ r. typed_over (context table.old.trees sig.now) (read_bound table.old.trees bound.now) (owned ty.now) (shapes.read_attribute shape.now) ≡ Ok (read_typed table.new.trees r)) }
-    ensures fault { IfErr result (λ e. is_memory e ≡ false → typed_over (context table.old.trees sig.now) (read_bound table.old.trees bound.now) (owned ty.now) (shapes.read_attribute shape.now) ≡ Err (fault_of e)) }
-    ensures live { IfOk result (λ r. r.0 < length table.new.trees) }
-    ensures below { IfOk result (λ r. AttributeBelow (length table.new.trees) r.1) }
-    ensures grows { Grows table.old table.new }
-    ensures grown { (t : Terms) → Grows t table.old → Grows t table.new }
+    ensures gives { GivesTyped table.new result (typed_over_by (context_in table.old sig.now) (read_bound table.old.trees bound.now) ty.now attribute.now) }
+    ensures grows { GrowsOn table.old table.new }
 {
     let result = term(alloc, ty, &bound.locals, sig, table)?;
     let whole = bound_type(table, 0, bound.params.as_slice(), result)?;
     prove!(table.height(whole) <= HEIGHT_LIMIT);
-    let attribute = attribute(alloc, shape, &bound.locals, sig, table)?;
+    let attribute = attribute_meant(alloc, attribute, &bound.locals, sig, table)?;
     Ok((whole, attribute))
 }
 
-fn declared_literals(
+/// `(declare-consts CLASS TYPE)`: the type of the literals of a class. In it, `eo::self` stands
+/// for the literal.
+///
+/// A refusal is `Redeclared`, where the class has a type; else the first fault of the term; or
+/// `Memory`: want of memory.
+#[tactic(auto, using(eo_sig::proofs::Growing::grows_under))]
+pub fn declared_literals(
     alloc: Global,
     class: LiteralClass,
-    ty: &OwnedSexp,
+    ty: &Sexp<'_>,
     sig: &Signature,
     table: &mut Table,
 ) -> Result<Id, ElabRefused>
-    requires ready { IsReady (length table.old.trees) sig.now [] }
-    ensures value { IfOk result (λ r. declarations.declared_literals (context table.old.trees sig.now) class (owned ty.now) ≡ Ok (tree_at table.new.trees r)) }
-    ensures fault { IfErr result (λ e. is_memory e ≡ false → declarations.declared_literals (context table.old.trees sig.now) class (owned ty.now) ≡ Err (fault_of e)) }
-    ensures live { IfOk result (λ i. i < length table.new.trees) }
-    ensures grows { Grows table.old table.new }
-    ensures grown { (t : Terms) → Grows t table.old → Grows t table.new }
+    requires { IsBelow (length table.old.trees) sig.now }
+    ensures gives { GivesTree table.new result (declared_literals (context_in table.old sig.now) class ty.now) }
+    ensures may { OnOk result (MayBeLiterals (context_in table.old sig.now) class) }
+    ensures grows { GrowsUnder sig.now table.old table.new }
 {
     if sig.literal_type(class).is_some() {
         return Err(ElabRefused::Redeclared);
@@ -319,20 +337,28 @@ fn declared_literals(
     term(alloc, ty, &names, sig, table)
 }
 
-fn defined(
+/// `(define NAME (PARAMETER ..) BODY)`: a macro.
+///
+/// A refusal is the first fault, in this order:
+///
+/// - `Redeclared`: the name may not be declared, and is none that the reference file declared.
+/// - `Parameters`: there are more than 64.
+/// - a fault of a term: of the parameters' types in order, where a name that an earlier parameter
+///   has is `Redeclared`, and of the body.
+/// - `Memory`: want of memory.
+#[tactic(auto, using(eo_sig::proofs::Growing::grows_under))]
+pub fn defined(
     alloc: Global,
     name: &[u8],
     params: &ParameterShapes<'_>,
-    body: &OwnedSexp,
+    body: &Sexp<'_>,
     sig: &Signature,
     table: &mut Table,
 ) -> Result<MacroDecl, ElabRefused>
-    requires ready { IsReady (length table.old.trees) sig.now [] }
-    ensures value { IfOk result (λ r. declarations.defined (context table.old.trees sig.now) name.now params.now (owned body.now) ≡ Ok (read_macro table.new.trees r)) }
-    ensures fault { IfErr result (λ e. is_memory e ≡ false → declarations.defined (context table.old.trees sig.now) name.now params.now (owned body.now) ≡ Err (fault_of e)) }
-    ensures below { IfOk result (MacroBelow (length table.new.trees)) }
-    ensures grows { Grows table.old table.new }
-    ensures grown { (t : Terms) → Grows t table.old → Grows t table.new }
+    requires { IsBelow (length table.old.trees) sig.now }
+    ensures gives { GivesMacro table.new result (defined (context_in table.old sig.now) name.now params.now body.now) }
+    ensures may { IfOk result (λ d. MayBeMacro (context_in table.old sig.now) (read_macro table.new.trees d)) }
+    ensures grows { GrowsUnder sig.now table.old table.new }
 {
     if !may_declare(sig, name) {
         return Err(ElabRefused::Redeclared);

@@ -1,20 +1,20 @@
 //! The parameters of a declaration.
-ghost use Rattle.std.specs.Prelude.{◌≡◌, ◌<◌, ◌≤◌, suc, Ok, Err, List, [], ◌∷◌, ◌++◌, length, map, false, bytes_eq, All, IfOk, IfErr, OnOk};
+ghost use Rattle.std.specs.Prelude.{◌≡◌, ◌<◌, ◌≤◌, suc, [], ◌∷◌, ◌++◌, length, bytes_eq, IfOk, OnOk};
 ghost use Rattle.std.specs.List.{list_any};
 ghost use Rattle.eo_base.specs.Limits.{parameters_limit};
-ghost use Rattle.eo_term.specs.Terms.{Terms, tree_at, Grows};
+ghost use Rattle.eo_sig.specs.Reading.{IsBelow};
+ghost use Rattle.eo_term.specs.Growth.{GrowsOn, Makes};
 ghost use Rattle.eo_term.specs.Tree.{Par};
 ghost use Rattle.eo_shape.specs.Reading as shapes;
-ghost use Rattle.eo_shape.specs.Shapes as forms;
 ghost use Rattle.eo_elab.specs.Declarations.{bind, unbound};
-ghost use Rattle.eo_elab.specs.Declaring.{read_bound};
-ghost use Rattle.eo_elab.specs.Names.{local};
-ghost use Rattle.eo_elab.specs.Refused.{is_memory, fault_of};
-ghost use Rattle.eo_elab.specs.Walk.{context, IsReady};
+ghost use Rattle.eo_elab.specs.Declaring.{BoundBelow};
+ghost use Rattle.eo_elab.specs.Gives.{GivesBound, ReadsParameter};
+ghost use Rattle.eo_names.specs.Names.{local};
+ghost use Rattle.eo_elab.specs.Worlds.{context_in};
 
-use crate::leaves::leaf;
 use crate::{ElabRefused, Locals, term};
 use eo_base::Name;
+use eo_names::leaf;
 use eo_shape::{ParameterShape, ParameterShapes};
 use eo_sig::{Param, Params, Signature};
 use eo_term::{Id, Node, Table};
@@ -38,19 +38,15 @@ pub(crate) fn bind(
     sig: &Signature,
     table: &mut Table,
 ) -> Result<Bound, ElabRefused>
-    requires ready { IsReady (length table.old.trees) sig.now [] }
+    requires ready { IsBelow (length table.old.trees) sig.now }
     requires few { length shapes.now ≤ parameters_limit }
-    ensures bound { IfOk result (λ b. bind (context table.old.trees sig.now) unbound shapes.now ≡ Ok (read_bound table.new.trees b)) }
-    ensures fault { IfErr result (λ e. is_memory e ≡ false → bind (context table.old.trees sig.now) unbound shapes.now ≡ Err (fault_of e)) }
-    ensures ready { IfOk result (λ b. IsReady (length table.new.trees) sig.now b.locals) }
-    ensures below { IfOk result (λ b. All (λ p. p.ty < length table.new.trees) b.params) }
+    ensures gives { GivesBound sig.now table.new result (bind (context_in table.old sig.now) unbound shapes.now) }
     ensures count { IfOk result (λ b. length b.params ≡ length shapes.now) }
-    ensures grows { Grows table.old table.new }
-    ensures grown { (t : Terms) → Grows t table.old → Grows t table.new }
+    ensures grows { GrowsOn table.old table.new }
 {
     let mut bound = no_parameters(alloc)?;
-    for i in 0..shapes.len() {
-        bound.read(alloc, &shapes.get(i), sig, table)?;
+    for shape in shapes.again() {
+        bound.read(alloc, &shape, sig, table)?;
     }
     Ok(bound)
 }
@@ -75,21 +71,16 @@ impl Bound {
         sig: &Signature,
         table: &mut Table,
     ) -> Result<(), ElabRefused>
-        requires ready { IsReady (length table.old.trees) sig.now self.old.locals }
-        requires below { All (λ p. p.ty < length table.old.trees) self.old.params }
+        requires bound { BoundBelow (length table.old.trees) sig.now self.old }
         requires room { length self.old.params < parameters_limit }
-        ensures bound { OnOk result ((rest : List forms.ParameterShape) → bind (context table.old.trees sig.now) (read_bound table.old.trees self.old) (shapes.read_parameter shape.now ∷ rest) ≡ bind (context table.old.trees sig.now) (read_bound table.new.trees self.new) rest) }
-        ensures fault { IfErr result (λ e. is_memory e ≡ false → (rest : List forms.ParameterShape) → bind (context table.old.trees sig.now) (read_bound table.old.trees self.old) (shapes.read_parameter shape.now ∷ rest) ≡ Err (fault_of e)) }
-        ensures ready { OnOk result (IsReady (length table.new.trees) sig.now self.new.locals) }
-        ensures below { OnOk result (All (λ p. p.ty < length table.new.trees) self.new.params) }
+        ensures reads { ReadsParameter sig.now table.old table.new (shapes.read_parameter shape.now) self.old self.new result }
         ensures count { OnOk result (length self.new.params ≡ suc (length self.old.params)) }
-        ensures grows { Grows table.old table.new }
-        ensures grown { (t : Terms) → Grows t table.old → Grows t table.new }
+        ensures grows { GrowsOn table.old table.new }
     {
         if self.has(shape.name) {
             return Err(ElabRefused::Redeclared);
         }
-        let ty = term(alloc, shape.ty, &self.locals, sig, table)?;
+        let ty = term(alloc, &shape.ty, &self.locals, sig, table)?;
         let id = parameter(table, self.params.as_slice().len() as u8)?;
         self.push(alloc, shape, ty, id)?;
         Ok(())
@@ -129,10 +120,9 @@ impl Bound {
 
 /// The parameter of this number.
 pub(crate) fn parameter(table: &mut Table, i: u8) -> Result<Id, AllocError>
-    ensures live { IfOk result (λ j. j < length table.new.trees) }
-    ensures tree { IfOk result (λ j. tree_at table.new.trees j ≡ Par i) }
-    ensures grows { Grows table.old table.new }
-    ensures grown { (t : Terms) → Grows t table.old → Grows t table.new }
+    requires { i < parameters_limit }
+    ensures makes { Makes table.new result (Par i) }
+    ensures grows { GrowsOn table.old table.new }
 {
     leaf(table, Node::Par(i))
 }

@@ -1,59 +1,64 @@
 //! Shapes of s-expressions: symbols, and the lists of pairs by which `let` and binders bind names.
-ghost use Rattle.std.specs.Prelude.{◌≡◌, map, option_map};
-ghost use Rattle.std.specs.List.{list_all};
-ghost use Rattle.eo_sexp.specs.Owned.{owned, sexps_of};
+ghost use Rattle.std.specs.Prelude.{◌≡◌, option_map};
+ghost use Rattle.eo_sexp.specs.Sexp.{sexps_of};
 ghost use Rattle.eo_elab.specs.Forms.{pair_of};
 ghost use Rattle.eo_shape.specs.Words.{symbol_of};
-ghost use Rattle.eo_elab.specs.Meaning.{is_pair, is_pair_list, is_let, begins_with_pairs};
+ghost use Rattle.eo_elab.specs.Meaning.{is_pair, all_pairs, is_pair_list, is_let, begins_with_pairs};
 
-use eo_sexp::{Kind, OwnedSexp};
+use eo_sexp::{Children, Kind, Sexp};
 
 /// Whether the arguments are a list of pairs and a body.
-pub(crate) fn is_let(args: &[OwnedSexp]) -> bool
-    ensures { result ≡ is_let (sexps_of (map owned args.now)) }
+pub(crate) fn is_let(args: &Children<'_>) -> bool
+    ensures { result ≡ is_let (sexps_of args.now) }
 {
-    match args {
-        [pairs, _] => is_pair_list(pairs),
-        _ => false,
+    match args.only_two() {
+        Some((pairs, _)) => is_pair_list(&pairs),
+        None => false,
     }
 }
 
 /// Whether the first argument is a list of pairs.
-pub(crate) fn begins_with_pairs(args: &[OwnedSexp]) -> bool
-    ensures { result ≡ begins_with_pairs (sexps_of (map owned args.now)) }
+pub(crate) fn begins_with_pairs(args: &Children<'_>) -> bool
+    ensures { result ≡ begins_with_pairs (sexps_of args.now) }
 {
-    match args {
-        [first, ..] => is_pair_list(first),
-        [] => false,
+    match args.split_first() {
+        Some((first, _)) => is_pair_list(&first),
+        None => false,
     }
 }
 
 // One or more lists of a symbol and one thing more.
-fn is_pair_list(s: &OwnedSexp) -> bool
-    ensures { result ≡ is_pair_list (owned s.now) }
+fn is_pair_list(s: &Sexp<'_>) -> bool
+    ensures { result ≡ is_pair_list s.now }
 {
     let pairs = s.children();
-    !pairs.is_empty() && are_pairs(pairs)
+    pairs.len() != 0 && are_pairs(&pairs)
 }
 
-fn are_pairs(pairs: &[OwnedSexp]) -> bool
-    ensures { result ≡ list_all (λ s. is_pair (owned s)) pairs.now }
+// Lists of a symbol and one thing more.
+fn are_pairs(pairs: &Children<'_>) -> bool
+    ensures { result ≡ all_pairs (sexps_of pairs.now) }
 {
-    pairs.iter().all(is_pair)
+    for s in pairs.again() {
+        if !is_pair(&s) {
+            return false;
+        }
+    }
+    true
 }
 
-fn is_pair(s: &OwnedSexp) -> bool
-    ensures { result ≡ is_pair (owned s.now) }
+fn is_pair(s: &Sexp<'_>) -> bool
+    ensures { result ≡ is_pair s.now }
 {
-    match s.children() {
-        [name, _] => name.kind() == Kind::Symbol,
-        _ => false,
+    match s.children().only_two() {
+        Some((name, _)) => name.kind() == Kind::Symbol,
+        None => false,
     }
 }
 
 /// The bytes of a symbol.
-pub(crate) fn symbol_of(s: &OwnedSexp) -> Option<&[u8]>
-    ensures { option_map (λ t. t.now) result ≡ symbol_of (owned s.now) }
+pub(crate) fn symbol_of<'b>(s: &Sexp<'b>) -> Option<&'b [u8]>
+    ensures { option_map (λ t. t.now) result ≡ symbol_of s.now }
 {
     if s.kind() == Kind::Symbol {
         Some(s.text())
@@ -64,18 +69,12 @@ pub(crate) fn symbol_of(s: &OwnedSexp) -> Option<&[u8]>
 
 /// The name of a pair, and what stands beside it; nothing, where it is no list of an atom and one
 /// thing more.
-pub(crate) fn pair_of(s: &OwnedSexp) -> Option<(&[u8], &OwnedSexp)>
-    ensures { option_map (λ p. (p.0.now, owned p.1.now)) result ≡ pair_of (owned s.now) }
+pub(crate) fn pair_of<'b>(s: &Sexp<'b>) -> Option<(&'b [u8], Sexp<'b>)>
+    ensures { option_map (λ p. (p.0.now, p.1)) result ≡ pair_of s.now }
 {
-    match s.children() {
-        [
-            OwnedSexp::Atom {
-                kind: _,
-                text,
-                span: _,
-            },
-            beside,
-        ] => Some((text.as_slice(), beside)),
-        _ => None,
+    let (name, beside) = s.children().only_two()?;
+    match name.list() {
+        None => Some((name.text(), beside)),
+        Some(_) => None,
     }
 }

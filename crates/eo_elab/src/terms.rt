@@ -1,16 +1,15 @@
 //! The meaning of a term.
-ghost use Rattle.std.specs.Prelude.{◌≡◌, ◌<◌, Ok, Err, length, false, IfOk, IfErr};
-ghost use Rattle.eo_sexp.specs.Owned.{owned};
-ghost use Rattle.eo_term.specs.Terms.{Terms, tree_at, Grows};
-ghost use Rattle.eo_elab.specs.Meaning.{meaning};
-ghost use Rattle.eo_elab.specs.Names.{read_locals};
-ghost use Rattle.eo_elab.specs.Refused.{is_memory, fault_of};
-ghost use Rattle.eo_elab.specs.Walk.{context, IsReady, Keeps};
+ghost use Rattle.std.specs.Prelude.{length};
+ghost use Rattle.eo_term.specs.Growth.{GrowsOn};
+ghost use Rattle.eo_names.specs.Gives.{GivesTree};
+ghost use Rattle.eo_names.specs.Ready.{IsReady, Keeps};
+ghost use Rattle.eo_names.specs.Worlds.{world_of};
+ghost use Rattle.eo_elab.specs.Worlds.{meaning_in};
 
-use crate::scope::Scope;
 use crate::walk::mean;
 use crate::{ElabRefused, Locals};
-use eo_sexp::OwnedSexp;
+use eo_names::Scope;
+use eo_sexp::{Children, Sexp};
 use eo_sig::Signature;
 use eo_term::{Id, Table};
 use std::alloc::Global;
@@ -32,17 +31,14 @@ use std::alloc::Global;
 /// refused call may leave new terms behind them.
 pub fn term(
     alloc: Global,
-    s: &OwnedSexp,
+    s: &Sexp<'_>,
     locals: &Locals,
     sig: &Signature,
     table: &mut Table,
 ) -> Result<Id, ElabRefused>
     requires ready { IsReady (length table.old.trees) sig.now locals.now }
-    ensures live { IfOk result (λ i. i < length table.new.trees) }
-    ensures tree { IfOk result (λ i. meaning (context table.old.trees sig.now) (read_locals table.old.trees locals.now) (owned s.now) ≡ Ok (tree_at table.new.trees i)) }
-    ensures fault { IfErr result (λ e. is_memory e ≡ false → meaning (context table.old.trees sig.now) (read_locals table.old.trees locals.now) (owned s.now) ≡ Err (fault_of e)) }
-    ensures grows { Grows table.old table.new }
-    ensures grown { (t : Terms) → Grows t table.old → Grows t table.new }
+    ensures gives { GivesTree table.new result (meaning_in (world_of table.old sig.now locals.now) s.now) }
+    ensures grows { GrowsOn table.old table.new }
     ensures keeps { Keeps sig.now locals.now table.old.trees table.new.trees }
 {
     mean(alloc, s, &Scope::Outer(locals), sig, table)

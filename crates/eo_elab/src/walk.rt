@@ -1,26 +1,22 @@
 //! The walk over a term.
-ghost use Rattle.std.specs.Prelude.{◌≡◌, ◌<◌, ◌≤◌, Ok, Err, [], ◌+◌, length, map, false, All, IfOk, IfErr};
-ghost use Rattle.eo_sexp.specs.Owned.{owned, sexps_of};
-ghost use Rattle.eo_sexp.specs.Sexp.{Sexp, Sexps, Listed, Next, Span};
-ghost use Rattle.eo_term.specs.Terms.{Terms, tree_at, Grows};
-ghost use Rattle.eo_elab.specs.Forms.{headed, arguments_used, arguments_for, parts_of, all_after};
-ghost use Rattle.eo_elab.specs.Meaning.{means, means_all, in_let, in_binder, pair_list, pairs_after};
-ghost use Rattle.eo_elab.specs.Names.{read_locals, read_pairs, BindingsBelow};
-ghost use Rattle.eo_elab.specs.Refused.{is_memory, fault_of};
-ghost use Rattle.eo_elab.specs.Scopes.{bound_in};
-ghost use Rattle.eo_elab.specs.Usage.{UseBelow, Suits};
-ghost use Rattle.eo_elab.specs.Walk.{context, IsReady};
+ghost use Rattle.std.specs.Prelude.{◌≡◌, ◌<◌, ◌≤◌, ◌+◌, length, All, IfOk};
+ghost use Rattle.eo_sexp.specs.Sexp.{Sexp, Span};
+ghost use Rattle.eo_term.specs.Growth.{trees_in, GrowsOn};
+ghost use Rattle.eo_names.specs.Gives.{GivesTerm};
+ghost use Rattle.eo_elab.specs.Gives.{GivesTerms, GivesPairs, AddsPair};
+ghost use Rattle.eo_names.specs.Names.{BindingsBelow};
+ghost use Rattle.eo_names.specs.Scopes.{bound_in};
+ghost use Rattle.eo_names.specs.Usage.{UseBelow, Suits};
+ghost use Rattle.eo_names.specs.Ready.{IsReady};
+ghost use Rattle.eo_names.specs.Worlds.{world};
+ghost use Rattle.eo_elab.specs.Worlds.{term_in, list_in, headed_in, use_in, arguments_in, all_in, let_in, binder_in, pairs_in};
 
 use crate::ElabRefused;
-use crate::arguments::use_arguments;
 use crate::atoms::atom;
-use crate::binders::bind;
-use crate::locals::Bindings;
 use crate::plan::{Form, form_of, use_of_term};
-use crate::scope::Scope;
 use crate::shapes::pair_of;
-use crate::usage::Use;
-use eo_sexp::OwnedSexp;
+use eo_names::{Bindings, Scope, Use, bind, use_arguments};
+use eo_sexp::{Children, Sexp};
 use eo_sig::Signature;
 use eo_term::{Id, Ids, Table};
 use std::alloc::Global;
@@ -32,27 +28,18 @@ use std::alloc::Global;
 #[cycle(walk)]
 pub(crate) fn mean(
     alloc: Global,
-    s: &OwnedSexp,
+    s: &Sexp<'_>,
     scope: &Scope<'_>,
     sig: &Signature,
     table: &mut Table,
 ) -> Result<Id, ElabRefused>
     requires ready { IsReady (length table.old.trees) sig.now (bound_in scope.now) }
-    ensures live { IfOk result (λ i. i < length table.new.trees) }
-    ensures tree { IfOk result (λ i. means (context table.old.trees sig.now) (read_locals table.old.trees (bound_in scope.now)) (owned s.now) [] ≡ Ok (tree_at table.new.trees i, [])) }
-    ensures fault { IfErr result (λ e. is_memory e ≡ false → means (context table.old.trees sig.now) (read_locals table.old.trees (bound_in scope.now)) (owned s.now) [] ≡ Err (fault_of e)) }
-    ensures grows { Grows table.old table.new }
-    ensures grown { (t : Terms) → Grows t table.old → Grows t table.new }
+    ensures gives { GivesTerm table.new result (term_in (world table.old sig.now scope.now) s.now) }
+    ensures grows { GrowsOn table.old table.new }
 {
-    match s {
-        OwnedSexp::Atom {
-            kind,
-            text,
-            span: _,
-        } => atom(alloc, *kind, text.as_slice(), scope, sig, table),
-        OwnedSexp::List { children, span: _ } => {
-            mean_list(alloc, children.as_slice(), scope, sig, table)
-        }
+    match s.list() {
+        None => atom(alloc, s.kind(), s.text(), scope, sig, table),
+        Some(children) => mean_list(alloc, &children, scope, sig, table),
     }
 }
 
@@ -60,25 +47,22 @@ pub(crate) fn mean(
 #[cycle(walk)]
 fn mean_list(
     alloc: Global,
-    terms: &[OwnedSexp],
+    terms: &Children<'_>,
     scope: &Scope<'_>,
     sig: &Signature,
     table: &mut Table,
 ) -> Result<Id, ElabRefused>
     requires ready { IsReady (length table.old.trees) sig.now (bound_in scope.now) }
-    ensures live { IfOk result (λ i. i < length table.new.trees) }
-    ensures tree { IfOk result (λ i. (span : Span) → means (context table.old.trees sig.now) (read_locals table.old.trees (bound_in scope.now)) (Listed (sexps_of (map owned terms.now)) span) [] ≡ Ok (tree_at table.new.trees i, [])) }
-    ensures fault { IfErr result (λ e. is_memory e ≡ false → (span : Span) → means (context table.old.trees sig.now) (read_locals table.old.trees (bound_in scope.now)) (Listed (sexps_of (map owned terms.now)) span) [] ≡ Err (fault_of e)) }
-    ensures grows { Grows table.old table.new }
-    ensures grown { (t : Terms) → Grows t table.old → Grows t table.new }
+    ensures gives { (span : Span) → GivesTerm table.new result (list_in (world table.old sig.now scope.now) terms.now span) }
+    ensures grows { GrowsOn table.old table.new }
 {
     let Some((head, args)) = terms.split_first() else {
         return Err(ElabRefused::BadArity);
     };
-    match form_of(head, args, scope, sig, table)? {
-        Form::Let => mean_let(alloc, args, scope, sig, table),
-        Form::Head => mean_head(alloc, head, args, scope, sig, table),
-        Form::Arguments(used) => mean_use(alloc, &used, args, scope, sig, table),
+    match form_of(&head, &args, scope, sig, table)? {
+        Form::Let => mean_let(alloc, &args, scope, sig, table),
+        Form::Head => mean_head(alloc, &head, &args, scope, sig, table),
+        Form::Arguments(used) => mean_use(alloc, &used, &args, scope, sig, table),
     }
 }
 
@@ -86,19 +70,16 @@ fn mean_list(
 #[cycle(walk)]
 fn mean_head(
     alloc: Global,
-    head: &OwnedSexp,
-    args: &[OwnedSexp],
+    head: &Sexp<'_>,
+    args: &Children<'_>,
     scope: &Scope<'_>,
     sig: &Signature,
     table: &mut Table,
 ) -> Result<Id, ElabRefused>
     requires ready { IsReady (length table.old.trees) sig.now (bound_in scope.now) }
     requires some { 1 ≤ length args.now }
-    ensures live { IfOk result (λ i. i < length table.new.trees) }
-    ensures tree { IfOk result (λ i. headed (context table.old.trees sig.now) (read_locals table.old.trees (bound_in scope.now)) (sexps_of (map owned args.now)) (parts_of (context table.old.trees sig.now) (read_locals table.old.trees (bound_in scope.now)) (owned head.now) (sexps_of (map owned args.now))) [] ≡ Ok (tree_at table.new.trees i, [])) }
-    ensures fault { IfErr result (λ e. is_memory e ≡ false → headed (context table.old.trees sig.now) (read_locals table.old.trees (bound_in scope.now)) (sexps_of (map owned args.now)) (parts_of (context table.old.trees sig.now) (read_locals table.old.trees (bound_in scope.now)) (owned head.now) (sexps_of (map owned args.now))) [] ≡ Err (fault_of e)) }
-    ensures grows { Grows table.old table.new }
-    ensures grown { (t : Terms) → Grows t table.old → Grows t table.new }
+    ensures gives { GivesTerm table.new result (headed_in (world table.old sig.now scope.now) head.now args.now) }
+    ensures grows { GrowsOn table.old table.new }
 {
     let f = mean(alloc, head, scope, sig, table)?;
     let used = use_of_term(f, args, sig, table)?;
@@ -110,7 +91,7 @@ fn mean_head(
 fn mean_use(
     alloc: Global,
     used: &Use,
-    args: &[OwnedSexp],
+    args: &Children<'_>,
     scope: &Scope<'_>,
     sig: &Signature,
     table: &mut Table,
@@ -118,11 +99,8 @@ fn mean_use(
     requires ready { IsReady (length table.old.trees) sig.now (bound_in scope.now) }
     requires below { UseBelow (length table.old.trees) used.now }
     requires suits { Suits used.now (length args.now) }
-    ensures live { IfOk result (λ i. i < length table.new.trees) }
-    ensures tree { IfOk result (λ i. (h : Sexp) → arguments_used table.old.trees (context table.old.trees sig.now) (read_locals table.old.trees (bound_in scope.now)) (parts_of (context table.old.trees sig.now) (read_locals table.old.trees (bound_in scope.now)) h (sexps_of (map owned args.now))) used.now [] ≡ Ok (tree_at table.new.trees i, [])) }
-    ensures fault { IfErr result (λ e. is_memory e ≡ false → (h : Sexp) → arguments_used table.old.trees (context table.old.trees sig.now) (read_locals table.old.trees (bound_in scope.now)) (parts_of (context table.old.trees sig.now) (read_locals table.old.trees (bound_in scope.now)) h (sexps_of (map owned args.now))) used.now [] ≡ Err (fault_of e)) }
-    ensures grows { Grows table.old table.new }
-    ensures grown { (t : Terms) → Grows t table.old → Grows t table.new }
+    ensures gives { (h : Sexp) → GivesTerm table.new result (use_in (world table.old sig.now scope.now) table.old h args.now used.now) }
+    ensures grows { GrowsOn table.old table.new }
 {
     let ids = mean_arguments(alloc, used, args, scope, sig, table)?;
     use_arguments(alloc, *used, ids.as_slice(), scope, sig, table)
@@ -133,18 +111,16 @@ fn mean_use(
 fn mean_arguments(
     alloc: Global,
     used: &Use,
-    args: &[OwnedSexp],
+    args: &Children<'_>,
     scope: &Scope<'_>,
     sig: &Signature,
     table: &mut Table,
 ) -> Result<Ids, ElabRefused>
     requires ready { IsReady (length table.old.trees) sig.now (bound_in scope.now) }
-    ensures live { IfOk result (λ ids. All (λ i. i < length table.new.trees) ids) }
-    ensures trees { IfOk result (λ ids. (h : Sexp) → arguments_for (parts_of (context table.old.trees sig.now) (read_locals table.old.trees (bound_in scope.now)) h (sexps_of (map owned args.now))) used.now [] ≡ Ok (map (tree_at table.new.trees) ids, [])) }
+    ensures live { IfOk result (All (λ i. i < length table.new.trees)) }
+    ensures gives { (h : Sexp) → GivesTerms table.new result (arguments_in (world table.old sig.now scope.now) h args.now used.now) }
     ensures suits { IfOk result (λ ids. Suits used.now (length args.now) → Suits used.now (length ids)) }
-    ensures fault { IfErr result (λ e. is_memory e ≡ false → (h : Sexp) → arguments_for (parts_of (context table.old.trees sig.now) (read_locals table.old.trees (bound_in scope.now)) h (sexps_of (map owned args.now))) used.now [] ≡ Err (fault_of e)) }
-    ensures grows { Grows table.old table.new }
-    ensures grown { (t : Terms) → Grows t table.old → Grows t table.new }
+    ensures grows { GrowsOn table.old table.new }
 {
     match used {
         Use::Bind {
@@ -159,7 +135,7 @@ fn mean_arguments(
 #[cycle(walk)]
 fn mean_all(
     alloc: Global,
-    terms: &[OwnedSexp],
+    terms: &Children<'_>,
     before: Ids,
     scope: &Scope<'_>,
     sig: &Signature,
@@ -167,16 +143,13 @@ fn mean_all(
 ) -> Result<Ids, ElabRefused>
     requires ready { IsReady (length table.old.trees) sig.now (bound_in scope.now) }
     requires before { All (λ i. i < length table.old.trees) before }
-    ensures live { IfOk result (λ ids. All (λ i. i < length table.new.trees) ids) }
-    ensures trees { IfOk result (λ ids. all_after (map (tree_at table.old.trees) before) (means_all (context table.old.trees sig.now) (read_locals table.old.trees (bound_in scope.now)) (sexps_of (map owned terms.now))) [] ≡ Ok (map (tree_at table.new.trees) ids, [])) }
+    ensures gives { GivesTerms table.new result (all_in (world table.old sig.now scope.now) (trees_in table.old before) terms.now) }
     ensures count { IfOk result (λ ids. length ids ≡ length before + length terms.now) }
-    ensures fault { IfErr result (λ e. is_memory e ≡ false → all_after (map (tree_at table.old.trees) before) (means_all (context table.old.trees sig.now) (read_locals table.old.trees (bound_in scope.now)) (sexps_of (map owned terms.now))) [] ≡ Err (fault_of e)) }
-    ensures grows { Grows table.old table.new }
-    ensures grown { (t : Terms) → Grows t table.old → Grows t table.new }
+    ensures grows { GrowsOn table.old table.new }
 {
     let mut ids = before;
-    for s in terms {
-        let id = mean(alloc, s, scope, sig, table)?;
+    for s in terms.again() {
+        let id = mean(alloc, &s, scope, sig, table)?;
         ids.push(id)?;
     }
     Ok(ids)
@@ -186,25 +159,20 @@ fn mean_all(
 #[cycle(walk)]
 fn mean_let(
     alloc: Global,
-    args: &[OwnedSexp],
+    args: &Children<'_>,
     scope: &Scope<'_>,
     sig: &Signature,
     table: &mut Table,
 ) -> Result<Id, ElabRefused>
     requires ready { IsReady (length table.old.trees) sig.now (bound_in scope.now) }
-    ensures live { IfOk result (λ i. i < length table.new.trees) }
-    ensures tree { IfOk result (λ i. in_let (context table.old.trees sig.now) (read_locals table.old.trees (bound_in scope.now)) (sexps_of (map owned args.now)) [] ≡ Ok (tree_at table.new.trees i, [])) }
-    ensures fault { IfErr result (λ e. is_memory e ≡ false → in_let (context table.old.trees sig.now) (read_locals table.old.trees (bound_in scope.now)) (sexps_of (map owned args.now)) [] ≡ Err (fault_of e)) }
-    ensures grows { Grows table.old table.new }
-    ensures grown { (t : Terms) → Grows t table.old → Grows t table.new }
+    ensures gives { GivesTerm table.new result (let_in (world table.old sig.now scope.now) args.now) }
+    ensures grows { GrowsOn table.old table.new }
 {
-    if args.len() != 2 {
+    let Some((pairs, body)) = args.only_two() else {
         return Err(ElabRefused::BadCommand);
-    }
-    let pairs = &args[0];
-    let body = &args[1];
-    let names = mean_pairs(alloc, pairs, scope, sig, table)?;
-    mean(alloc, body, &Scope::Inner(&names, &*scope), sig, table)
+    };
+    let names = mean_pairs(alloc, &pairs, scope, sig, table)?;
+    mean(alloc, &body, &Scope::Inner(&names, &*scope), sig, table)
 }
 
 // The list of a binder's variables, and its other arguments, in which they are bound.
@@ -212,28 +180,25 @@ fn mean_let(
 fn mean_bound(
     alloc: Global,
     collector: usize,
-    args: &[OwnedSexp],
+    args: &Children<'_>,
     scope: &Scope<'_>,
     sig: &Signature,
     table: &mut Table,
 ) -> Result<Ids, ElabRefused>
     requires ready { IsReady (length table.old.trees) sig.now (bound_in scope.now) }
-    ensures live { IfOk result (λ ids. All (λ i. i < length table.new.trees) ids) }
-    ensures trees { IfOk result (λ ids. in_binder (context table.old.trees sig.now) (read_locals table.old.trees (bound_in scope.now)) (sexps_of (map owned args.now)) collector [] ≡ Ok (map (tree_at table.new.trees) ids, [])) }
-    ensures fault { IfErr result (λ e. is_memory e ≡ false → in_binder (context table.old.trees sig.now) (read_locals table.old.trees (bound_in scope.now)) (sexps_of (map owned args.now)) collector [] ≡ Err (fault_of e)) }
-    ensures grows { Grows table.old table.new }
-    ensures grown { (t : Terms) → Grows t table.old → Grows t table.new }
+    ensures gives { GivesTerms table.new result (binder_in (world table.old sig.now scope.now) args.now collector) }
+    ensures grows { GrowsOn table.old table.new }
 {
     let Some((pairs, others)) = args.split_first() else {
         return Err(ElabRefused::BadCommand);
     };
-    let mut names = mean_pairs(alloc, pairs, scope, sig, table)?;
+    let mut names = mean_pairs(alloc, &pairs, scope, sig, table)?;
     let list = bind(alloc, collector, &mut names, scope, sig, table)?;
     let mut ids = Ids::new(alloc)?;
     ids.push(list)?;
     mean_all(
         alloc,
-        others,
+        &others,
         ids,
         &Scope::Inner(&names, &*scope),
         sig,
@@ -246,39 +211,30 @@ fn mean_bound(
 #[cycle(walk)]
 fn mean_pairs(
     alloc: Global,
-    pairs: &OwnedSexp,
+    pairs: &Sexp<'_>,
     scope: &Scope<'_>,
     sig: &Signature,
     table: &mut Table,
 ) -> Result<Bindings, ElabRefused>
     requires ready { IsReady (length table.old.trees) sig.now (bound_in scope.now) }
-    ensures live { IfOk result (λ bs. BindingsBelow (length table.new.trees) bs) }
-    ensures pairs { IfOk result (λ bs. pair_list (context table.old.trees sig.now) (read_locals table.old.trees (bound_in scope.now)) (owned pairs.now) [] ≡ Ok (read_pairs table.new.trees bs, [])) }
-    ensures fault { IfErr result (λ e. is_memory e ≡ false → pair_list (context table.old.trees sig.now) (read_locals table.old.trees (bound_in scope.now)) (owned pairs.now) [] ≡ Err (fault_of e)) }
-    ensures grows { Grows table.old table.new }
-    ensures grown { (t : Terms) → Grows t table.old → Grows t table.new }
+    ensures gives { GivesPairs table.new result (pairs_in (world table.old sig.now scope.now) pairs.now) }
+    ensures grows { GrowsOn table.old table.new }
 {
-    match pairs {
-        OwnedSexp::Atom {
-            kind: _,
-            text: _,
-            span: _,
-        } => Err(ElabRefused::BadCommand),
-        OwnedSexp::List { children, span: _ } => {
-            let mut names = Bindings::new(alloc);
-            for pair in children.as_slice() {
-                mean_pair(alloc, pair, &mut names, scope, sig, table)?;
-            }
-            Ok(names)
-        }
+    let Some(children) = pairs.list() else {
+        return Err(ElabRefused::BadCommand);
+    };
+    let mut names = Bindings::new(alloc);
+    for pair in children {
+        mean_pair(alloc, &pair, &mut names, scope, sig, table)?;
     }
+    Ok(names)
 }
 
 // Adds the name of a pair, with the meaning of what stands beside it.
 #[cycle(walk)]
 fn mean_pair(
     alloc: Global,
-    pair: &OwnedSexp,
+    pair: &Sexp<'_>,
     names: &mut Bindings,
     scope: &Scope<'_>,
     sig: &Signature,
@@ -286,11 +242,8 @@ fn mean_pair(
 ) -> Result<(), ElabRefused>
     requires ready { IsReady (length table.old.trees) sig.now (bound_in scope.now) }
     requires names { BindingsBelow (length table.old.trees) names.old }
-    ensures live { IfOk result (λ _. BindingsBelow (length table.new.trees) names.new) }
-    ensures pairs { IfOk result (λ _. (rest : Sexps) → pairs_after (context table.old.trees sig.now) (read_locals table.old.trees (bound_in scope.now)) (Next (owned pair.now) rest) (read_pairs table.old.trees names.old) [] ≡ pairs_after (context table.old.trees sig.now) (read_locals table.old.trees (bound_in scope.now)) rest (read_pairs table.new.trees names.new) []) }
-    ensures fault { IfErr result (λ e. is_memory e ≡ false → (rest : Sexps) → pairs_after (context table.old.trees sig.now) (read_locals table.old.trees (bound_in scope.now)) (Next (owned pair.now) rest) (read_pairs table.old.trees names.old) [] ≡ Err (fault_of e)) }
-    ensures grows { Grows table.old table.new }
-    ensures grown { (t : Terms) → Grows t table.old → Grows t table.new }
+    ensures adds { AddsPair (world table.old sig.now scope.now) table.old table.new pair.now names.old names.new result }
+    ensures grows { GrowsOn table.old table.new }
 {
     let Some((name, beside)) = pair_of(pair) else {
         return Err(ElabRefused::BadCommand);
@@ -298,7 +251,7 @@ fn mean_pair(
     if names.contains(name) {
         return Err(ElabRefused::Redeclared);
     }
-    let id = mean(alloc, beside, scope, sig, table)?;
+    let id = mean(alloc, &beside, scope, sig, table)?;
     names.push(name, id)?;
     Ok(())
 }

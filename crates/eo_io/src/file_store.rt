@@ -6,6 +6,7 @@ ghost use Rattle.eo_io.specs.Stored.{nothing_stored, with_file, IsFileOf, after_
 use crate::OPEN_FILES;
 use indexmap::IndexMap;
 use std::alloc::{AllocError, Global};
+use std::hash::{BuildHasherDefault, DefaultHasher};
 use std::marker::Model;
 
 /// An open file: where its bytes stand, and how many of them are read.
@@ -19,8 +20,9 @@ pub(crate) struct OpenFile {
 #[derive(Drop)]
 pub(crate) struct FileStore {
     alloc: Global,
-    /// Where the bytes of each path's file stand.
-    places: IndexMap<Vec<u8>, usize>,
+    /// Where the bytes of each path's file stand. Files choose the paths, so they are hashed by
+    /// SipHash.
+    places: IndexMap<Vec<u8>, usize, BuildHasherDefault<DefaultHasher>>,
     /// The bytes of each file that was ever added, so that an open file stays as it is where
     /// another takes its path.
     contents: Vec<Vec<u8>>,
@@ -47,7 +49,7 @@ impl FileStore {
     {
         Ok(FileStore {
             alloc,
-            places: IndexMap::new(alloc),
+            places: IndexMap::with_hasher(alloc, BuildHasherDefault::new()),
             contents: Vec::new(alloc),
             opened: Vec::with_capacity(alloc, OPEN_FILES)?,
         })

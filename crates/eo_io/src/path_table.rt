@@ -4,14 +4,16 @@ ghost use Rattle.eo_io.specs.Paths.{with_path, Extends};
 
 use indexmap::IndexSet;
 use std::alloc::{AllocError, Global};
+use std::hash::{BuildHasherDefault, DefaultHasher};
 use std::marker::Model;
 
 /// Paths in the order in which they were added, no two of them equal. A path's number is how many
-/// paths were added before it.
+/// paths were added before it. A path is found by its hash, which is SipHash, since a file chooses
+/// the paths that it names.
 #[derive(Drop)]
 pub struct Paths {
     alloc: Global,
-    paths: IndexSet<Vec<u8>>,
+    paths: IndexSet<Vec<u8>, BuildHasherDefault<DefaultHasher>>,
 }
 
 impl Model for Paths {
@@ -29,7 +31,7 @@ impl Paths {
     {
         Ok(Paths {
             alloc,
-            paths: IndexSet::new(alloc),
+            paths: IndexSet::with_hasher(alloc, BuildHasherDefault::new()),
         })
     }
 

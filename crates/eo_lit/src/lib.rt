@@ -16,6 +16,17 @@ use std::alloc::AllocError;
 pub use strings::read_string;
 use thiserror::Error;
 
+/// A class of literals that gets one declared type.
+#[derive(Clone, Copy, Debug, PartialEq, Eq)]
+pub enum LiteralClass {
+    /// Integers.
+    Numeral,
+    /// Bit strings.
+    Binary,
+    /// Strings of characters.
+    String,
+}
+
 /// The value of a literal.
 #[derive(Clone, Copy, Debug, PartialEq, Eq)]
 pub enum LitRead {

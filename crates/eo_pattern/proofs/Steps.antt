@@ -4,14 +4,20 @@ use Rattle.std.proofs.Common.{sym, ◌∙◌, ap, ap₂, subst, true≢false}
 use Rattle.std.proofs.lemmas.Bool.Decides.{Decides-eqb}
 use Rattle.std.proofs.lemmas.Option.{none-some, same_Some}
 use mathlib.Core.Path.{fun_ext}
-use Rattle.eo_term.specs.Tree.{Tree, Con, Num, Bits, Str, Par, Var, App, Arr, Qar, Op, Trees, NoTree, More, to_list, is_closed, all_closed, occurs, occurs_in, occurs_in_all}
+use Rattle.eo_term.specs.Tree.{Tree, Con, Num, Bits, Str, Par, Var, App, Arr, Qar, Op, Trees, NoTree, More, to_list, is_closed, all_closed, occurs, occurs_in, occurs_in_all, is_tall}
 use Rattle.eo_term.specs.declared.OpCode.{OpCode}
 use Rattle.eo_term.proofs.Equality.{both}
+use Rattle.eo_term.specs.ParamSet.{has}
+use Rattle.std.specs.Prelude.{IfSome, IfNone}
+use Rattle.eo_term.specs.Memo.{told, TellsOnly}
+use Rattle.eo_term.proofs.Memos.{tells_more, tells_weaker}
 use Rattle.eo_term.proofs.Values.{clash}
-use Rattle.eo_pattern.specs.Matching.{Assignment, assign, value_or_par, put, put_all, Matches}
-use Rattle.eo_pattern.specs.Slots.{Slots, SlotBelow, AreBelow, Holds, Leads, Keeps}
+use Rattle.eo_pattern.specs.Matching.{Assignment, empty, assign, value_or_par, put, put_all, Matches}
+use Rattle.eo_pattern.specs.Slots.{Slots, SlotBelow, AreBelow, Holds, Leads, Keeps, held, IsPut, IsAssigned}
+use Rattle.eo_pattern.specs.Matched.{IsKept, AreMatched}
+use Rattle.eo_pattern.specs.Steps.{IsMade, IsNext}
 use Rattle.eo_term.specs.Arguments.{count_of, argument_at}
-use Rattle.std.proofs.Common.{arith, length, get_or, set, take, drop, slice_get, ◌+◌, ◌≤◌}
+use Rattle.std.proofs.Common.{inl, inr, ◌⊎◌, arith, length, get_or, set, take, drop, slice_get, ◌+◌, ◌≤◌}
 use Rattle.std.proofs.Math.Seq.{drop-cons}
 use Rattle.std.proofs.Common.{All}
 use Rattle.std.proofs.lemmas.List.Elements.{All-head, All-tail, All-weaker}
@@ -69,6 +75,28 @@ mutual
   put_all_closed : (σ : Assignment) (ts : Trees) → all_closed ts ≡ true → put_all σ ts ≡ ts
   put_all_closed σ NoTree h = refl
   put_all_closed σ (More t ts) h = ap₂ More (put_closed σ t (both h).0) (put_all_closed σ ts (both h).1)
+
+-- a tree with no assigned parameter stays
+mutual
+  put_nothing : (t : Tree) → put empty t ≡ t
+  put_nothing (Con k) = refl
+  put_nothing (Num z) = refl
+  put_nothing (Bits w v) = refl
+  put_nothing (Str s) = refl
+  put_nothing (Par j) = refl
+  put_nothing (Var s t) = ap (Var s) (put_nothing t)
+  put_nothing (App f x) = ap₂ App (put_nothing f) (put_nothing x)
+  put_nothing (Arr f x) = ap₂ Arr (put_nothing f) (put_nothing x)
+  put_nothing (Qar j f x) = ap₂ (Qar j) (put_nothing f) (put_nothing x)
+  put_nothing (Op c ts) = ap (Op c) (put_nothing_in_all ts)
+
+  put_nothing_in_all : (ts : Trees) → put_all empty ts ≡ ts
+  put_nothing_in_all NoTree = refl
+  put_nothing_in_all (More t ts) = ap₂ More (put_nothing t) (put_nothing_in_all ts)
+
+pub put_missed : (ts : List Tree) (s : Slots) (set own : ℕ) (t : Tree) → IsAssigned set s → ((i : ℕ) → has own i ≡ occurs i t) → ((i : ℕ) → has own i ≡ true → (i < 64) × (has set i ≡ false)) → put (held ts s) t ≡ t
+put_missed ts s set own t a same apart =
+    put_agree (held ts s) empty t (λ i o. let p = apart i (same i ∙ o) in ap (option_map (tree_at ts)) (a.lacks i p.0 p.1)) ∙ put_nothing t
 
 pub closed_equal : (σ : Assignment) (p t : Tree) → is_closed p ≡ true → p ≡ t → Matches σ (p ∷ []) (t ∷ []) σ
 closed_equal σ p t h e = record {
@@ -176,6 +204,45 @@ module _ (σ ρ : Assignment) (p t : Tree) (ps ts : List Tree) (m : Matches σ (
         let e : put ρ p ∷ map (put ρ) ps ≡ t ∷ ts = m.equal in
         cc;
   }
+
+-- what was matched stays so as more is assigned
+
+pub matches_later : (σ τ : Assignment) (p t : Tree) → ((i : ℕ) (u : Tree) → σ i ≡ Some u → τ i ≡ Some u) → Matches σ (p ∷ []) (t ∷ []) σ → Matches τ (p ∷ []) (t ∷ []) τ
+matches_later σ τ p t more m = record {
+  extends = λ i u e. e;
+  names = λ i. by i (occurs i p || false) refl;
+  equal = more_put σ τ (p ∷ []) more (λ i o. m.names i ∙ or_right (is_some (σ i)) (occurs i p || false) o) ∙ m.equal;
+}
+  where
+    some : (i : ℕ) (o : Option Tree) → σ i ≡ o → is_some o ≡ true → is_some (τ i) ≡ true
+    some i None e h = absurd (true≢false (sym h))
+    some i (Some u) e h = ap is_some (more i u e)
+
+    by : (i : ℕ) (b : Bool) → (occurs i p || false) ≡ b → is_some (τ i) ≡ (is_some (τ i) || b)
+    by i true e = let own : is_some (τ i) ≡ true = some i (σ i) refl (m.names i ∙ or_right (is_some (σ i)) (occurs i p || false) e) in own ∙ sym (or_right (is_some (τ i)) true refl)
+    by i false e = sym (or_false (is_some (τ i)))
+
+-- what was matched is matched from there
+pub matches_again : (σ τ : Assignment) (p t : Tree) → Matches σ (p ∷ []) (t ∷ []) τ → Matches τ (p ∷ []) (t ∷ []) τ
+matches_again σ τ p t m = record { extends = λ i u e. e; names = λ i. by i (occurs i p || false) refl; equal = m.equal }
+  where
+    by : (i : ℕ) (b : Bool) → (occurs i p || false) ≡ b → is_some (τ i) ≡ (is_some (τ i) || b)
+    by i true e = let own : is_some (τ i) ≡ true = m.names i ∙ or_right (is_some (σ i)) (occurs i p || false) e in own ∙ sym (or_right (is_some (τ i)) true refl)
+    by i false e = sym (or_false (is_some (τ i)))
+
+pub still_matched : (ts : List Tree) (σ τ : Assignment) (m : List (Option (ℕ × ℕ))) → ((i : ℕ) (u : Tree) → σ i ≡ Some u → τ i ≡ Some u) → AreMatched ts σ m → AreMatched ts τ m
+still_matched ts σ τ m more h = record { each = λ p t k. matches_later σ τ (tree_at ts p) (tree_at ts t) more (h.each p t k) }
+
+pub none_matched : (ts : List Tree) (σ : Assignment) (m : List (Option (ℕ × ℕ))) → ((p t : ℕ) → IsKept m p t → ⊥) → AreMatched ts σ m
+none_matched ts σ m n = record { each = λ p t k. absurd (n p t k) }
+
+pub more_matched : (ts : List Tree) (σ : Assignment) (m n : List (Option (ℕ × ℕ))) (p t : ℕ) → ((q u : ℕ) → IsKept n q u → ((q ≡ p) × (u ≡ t)) ⊎ IsKept m q u) → AreMatched ts σ m → Matches σ (tree_at ts p ∷ []) (tree_at ts t ∷ []) σ → AreMatched ts σ n
+more_matched ts σ m n p t f h own = record {
+  each = λ q u k. elim (f q u k) [
+    | inl e ↦ subst (λ (x : ℕ). Matches σ (tree_at ts x ∷ []) (tree_at ts u ∷ []) σ) (sym e.0) (subst (λ (y : ℕ). Matches σ (tree_at ts p ∷ []) (tree_at ts y ∷ []) σ) (sym e.1) own)
+    | inr e ↦ h.each q u e
+  ];
+}
 
 -- loops
 
@@ -296,6 +363,52 @@ holds_grown s old new h g = record {
   held = fun_ext (λ j. slot_same (length old.trees) old.trees new.trees (record { at = g.tree }) s.values j h.slots);
   below = record { slots = All-weaker (SlotBelow (length old.trees)) (SlotBelow (length new.trees)) (slot_more (length old.trees) (length new.trees) g.more_trees) s.values h.slots };
 }
+
+-- and what a term becomes
+pub put_later : (s : Slots) (old new : Terms) (k : ℕ) → AreBelow (length old.trees) s → Grows old new → k < length old.trees → put (held new.trees s) (tree_at new.trees k) ≡ put (held old.trees s) (tree_at old.trees k)
+put_later s old new k h g l = λ i. put ((holds_grown s old new h g).held i) (g.tree k l i)
+
+-- what a memo tells stays
+pub puts_grown : (s : Slots) (old new : Terms) (m : List (ℕ × ℕ)) → AreBelow (length old.trees) s → Grows old new → TellsOnly (IsPut (held old.trees s) old.trees) m → TellsOnly (IsPut (held new.trees s) new.trees) m
+puts_grown s old new m h g t =
+    let same = (holds_grown s old new h g).held in
+    tells_weaker (IsPut (held old.trees s) old.trees) (IsPut (held new.trees s) new.trees) m (λ k v p. record {
+      term = omega (arith, p.term, g.more_trees);
+      made = omega (arith, p.made, g.more_trees);
+      tree = g.tree v p.made ∙ p.tree ∙ (λ i. put (sym same i) (sym (g.tree k p.term) i));
+    }) t
+
+-- where the term k becomes too tall, so does the term id
+abbrev pub Overtops : Assignment → List Tree → ℕ → ℕ → Type 0
+Overtops σ ts id k = is_tall (put σ (tree_at ts k)) ≡ true → is_tall (put σ (tree_at ts id)) ≡ true
+
+-- a step of the walk for the term id, at the term k, with the table old at its start, mid before the step and new after it
+module _ (s : Slots) (old mid new : Terms) (id k : ℕ) (b : AreBelow (length old.trees) s) (g : Grows old mid) (r : Overtops (held old.trees s) old.trees id k) (l : k < length old.trees) where
+  pub step_tall : is_tall (put (held mid.trees s) (tree_at mid.trees k)) ≡ true → is_tall (put (held old.trees s) (tree_at old.trees id)) ≡ true
+  step_tall h = r (ap is_tall (sym (put_later s old mid k b g l)) ∙ h)
+
+  pub step_part : (m : List (ℕ × ℕ)) (p : ℕ) → IsNext (held mid.trees s) mid.trees m k p → Overtops (held old.trees s) old.trees id p
+  step_part m p n h = step_tall (n.tall (ap is_tall (put_later s old mid p b g (omega (arith, n.older, l))) ∙ h))
+
+  pub step_made : (v : ℕ) → k ≡ id → IsMade (held mid.trees s) mid.trees k new.trees v → IsMade (held old.trees s) old.trees id new.trees v
+  step_made v e p =
+      let same : put (held mid.trees s) (tree_at mid.trees k) ≡ put (held old.trees s) (tree_at old.trees id) = put_later s old mid k b g l ∙ ap (λ j. put (held old.trees s) (tree_at old.trees j)) e in
+      record { live = p.live; tree = p.tree ∙ same; low = ap is_tall (sym same) ∙ p.low }
+
+  pub step_kept : (v : ℕ) (m n : List (ℕ × ℕ)) → Grows mid new → ((j : ℕ) → told n j ≡ (if nat_eq k j then Some v else told m j)) → TellsOnly (IsPut (held mid.trees s) mid.trees) m → IsMade (held mid.trees s) mid.trees k new.trees v → TellsOnly (IsPut (held new.trees s) new.trees) n
+  step_kept v m n w f t p =
+      let below = (holds_grown s old mid b g).below in
+      let live : k < length mid.trees = omega (arith, l, g.more_trees) in
+      tells_more (IsPut (held new.trees s) new.trees) m n k v f (puts_grown s mid new m below w t) (record {
+        term = omega (arith, live, w.more_trees);
+        made = p.live;
+        tree = p.tree ∙ sym (put_later s mid new k below w live);
+      })
+
+-- what a memo tells of a term
+pub told_put : (σ : Assignment) (ts : List Tree) (m : List (ℕ × ℕ)) (k : ℕ) (o : Option ℕ) → o ≡ told m k → TellsOnly (IsPut σ ts) m → IfSome o (λ v. v < length ts) × (IfSome o (λ v. tree_at ts v ≡ put σ (tree_at ts k)) × IfNone o (told m k ≡ None))
+told_put σ ts m k None e h = (tt, (tt, sym e))
+told_put σ ts m k (Some v) e h = let p = h k v (sym e) in (p.made, (p.tree, tt))
 
 pub slot_live : (n : ℕ) (vs : List (Option ℕ)) (j v : ℕ) → All (SlotBelow n) vs → option_flatten (slice_get vs j) ≡ Some v → v < n
 slot_live n [] j v h e = absurd (none-some v e)

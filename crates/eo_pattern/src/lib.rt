@@ -2,6 +2,7 @@
 //! puts it in.
 #![tactic(auto)]
 
+mod matched;
 mod matching;
 mod subst;
 mod substitution;

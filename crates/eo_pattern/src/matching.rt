@@ -4,10 +4,12 @@ ghost use Rattle.eo_term.specs.Tree.{Tree, Par, occurs_in, to_list};
 ghost use Rattle.eo_term.specs.Terms.{tree_at};
 ghost use Rattle.eo_pattern.specs.Matching.{Assignment, Matches, matching, empty};
 ghost use Rattle.eo_pattern.specs.Slots.{held, AreBelow, AreEmpty, HasRoom, HasPars, Keeps};
+ghost use Rattle.eo_pattern.specs.Matched.{AreMatched};
 ghost use Rattle.eo_term.specs.Arguments.{count_of, arguments_of};
 ghost use Rattle.eo_pattern.specs.Split.{IsSplit};
 
 use crate::Subst;
+use crate::matched::{PAIRS, is_matched, keep};
 use eo_term::{Id, Node, Table};
 
 /// Whether some assignment that extends the present one, by just the patterns' parameters, makes
@@ -28,7 +30,7 @@ pub fn match_terms(table: &Table, patterns: &[Id], terms: &[Id], subst: &mut Sub
     ensures kept { Keeps (length table.now.trees) subst.old subst.new }
 {
     for i in 0..patterns.len() {
-        if !match_one(table, patterns[i], terms[i], subst) {
+        if !match_pattern(table, patterns[i], terms[i], subst) {
             subst.clear();
             return false;
         }
@@ -37,8 +39,7 @@ pub fn match_terms(table: &Table, patterns: &[Id], terms: &[Id], subst: &mut Sub
 }
 
 // The same for one pattern and one term, but that after `false` anything may be held.
-#[cycle(walk)]
-fn match_one(table: &Table, pattern: Id, term: Id, subst: &mut Subst) -> bool
+fn match_pattern(table: &Table, pattern: Id, term: Id, subst: &mut Subst) -> bool
     requires pattern { pattern < length table.now.trees }
     requires term { term < length table.now.trees }
     requires room { HasPars subst.old (tree_at table.now.trees pattern) }
@@ -47,19 +48,122 @@ fn match_one(table: &Table, pattern: Id, term: Id, subst: &mut Subst) -> bool
     ensures no { IsFalse result → (σ : Assignment) → Matches (held table.now.trees subst.old) (tree_at table.now.trees pattern ∷ []) (tree_at table.now.trees term ∷ []) σ → ⊥ }
     ensures kept { Keeps (length table.now.trees) subst.old subst.new }
 {
+    let height = table.height(pattern);
+    if height < 3 || height < 8 && table.is_plain(pattern) {
+        // Few parts, and applications alone: nothing is kept.
+        return match_one(table, pattern, term, subst, &mut []);
+    }
+    match_large(table, pattern, term, subst)
+}
+
+// The same for a pattern with many parts, whose pairs are kept.
+fn match_large(table: &Table, pattern: Id, term: Id, subst: &mut Subst) -> bool
+    requires pattern { pattern < length table.now.trees }
+    requires term { term < length table.now.trees }
+    requires room { HasPars subst.old (tree_at table.now.trees pattern) }
+    requires below { AreBelow (length table.now.trees) subst.old }
+    ensures yes { IsTrue result → Matches (held table.now.trees subst.old) (tree_at table.now.trees pattern ∷ []) (tree_at table.now.trees term ∷ []) (held table.now.trees subst.new) }
+    ensures no { IsFalse result → (σ : Assignment) → Matches (held table.now.trees subst.old) (tree_at table.now.trees pattern ∷ []) (tree_at table.now.trees term ∷ []) σ → ⊥ }
+    ensures kept { Keeps (length table.now.trees) subst.old subst.new }
+{
+    let mut matched = [None; PAIRS];
+    match_one(table, pattern, term, subst, &mut matched)
+}
+
+// The same, where these pairs were matched.
+#[cycle(walk)]
+fn match_one(
+    table: &Table,
+    pattern: Id,
+    term: Id,
+    subst: &mut Subst,
+    matched: &mut [Option<(Id, Id)>],
+) -> bool
+    requires pattern { pattern < length table.now.trees }
+    requires term { term < length table.now.trees }
+    requires room { HasPars subst.old (tree_at table.now.trees pattern) }
+    requires below { AreBelow (length table.now.trees) subst.old }
+    requires matched { AreMatched table.now.trees (held table.now.trees subst.old) matched.old }
+    ensures yes { IsTrue result → Matches (held table.now.trees subst.old) (tree_at table.now.trees pattern ∷ []) (tree_at table.now.trees term ∷ []) (held table.now.trees subst.new) }
+    ensures no { IsFalse result → (σ : Assignment) → Matches (held table.now.trees subst.old) (tree_at table.now.trees pattern ∷ []) (tree_at table.now.trees term ∷ []) σ → ⊥ }
+    ensures matched { IsTrue result → AreMatched table.now.trees (held table.now.trees subst.new) matched.new }
+    ensures kept { Keeps (length table.now.trees) subst.old subst.new }
+{
+    if table.is_closed(pattern) || table.height(pattern) < 3 {
+        return match_roots(table, pattern, term, subst, matched);
+    }
+    match_tall(table, pattern, term, subst, matched)
+}
+
+// The same for a pattern that may have been matched before.
+#[cycle(walk)]
+fn match_tall(
+    table: &Table,
+    pattern: Id,
+    term: Id,
+    subst: &mut Subst,
+    matched: &mut [Option<(Id, Id)>],
+) -> bool
+    requires pattern { pattern < length table.now.trees }
+    requires term { term < length table.now.trees }
+    requires room { HasPars subst.old (tree_at table.now.trees pattern) }
+    requires below { AreBelow (length table.now.trees) subst.old }
+    requires matched { AreMatched table.now.trees (held table.now.trees subst.old) matched.old }
+    ensures yes { IsTrue result → Matches (held table.now.trees subst.old) (tree_at table.now.trees pattern ∷ []) (tree_at table.now.trees term ∷ []) (held table.now.trees subst.new) }
+    ensures no { IsFalse result → (σ : Assignment) → Matches (held table.now.trees subst.old) (tree_at table.now.trees pattern ∷ []) (tree_at table.now.trees term ∷ []) σ → ⊥ }
+    ensures matched { IsTrue result → AreMatched table.now.trees (held table.now.trees subst.new) matched.new }
+    ensures kept { Keeps (length table.now.trees) subst.old subst.new }
+{
+    if is_matched(matched, pattern, term) {
+        return true;
+    }
+    if !match_roots(table, pattern, term, subst, matched) {
+        return false;
+    }
+    keep(matched, pattern, term);
+    true
+}
+
+// The same, by the roots.
+#[cycle(walk)]
+fn match_roots(
+    table: &Table,
+    pattern: Id,
+    term: Id,
+    subst: &mut Subst,
+    matched: &mut [Option<(Id, Id)>],
+) -> bool
+    requires pattern { pattern < length table.now.trees }
+    requires term { term < length table.now.trees }
+    requires room { HasPars subst.old (tree_at table.now.trees pattern) }
+    requires below { AreBelow (length table.now.trees) subst.old }
+    requires matched { AreMatched table.now.trees (held table.now.trees subst.old) matched.old }
+    ensures yes { IsTrue result → Matches (held table.now.trees subst.old) (tree_at table.now.trees pattern ∷ []) (tree_at table.now.trees term ∷ []) (held table.now.trees subst.new) }
+    ensures no { IsFalse result → (σ : Assignment) → Matches (held table.now.trees subst.old) (tree_at table.now.trees pattern ∷ []) (tree_at table.now.trees term ∷ []) σ → ⊥ }
+    ensures matched { IsTrue result → AreMatched table.now.trees (held table.now.trees subst.new) matched.new }
+    ensures kept { Keeps (length table.now.trees) subst.old subst.new }
+{
     match split_roots(table, pattern, term) {
         Split::Differ => false,
         Split::Equal => true,
         Split::Par(i) => match_par(table, i, term, subst),
-        Split::One(p, t) => match_one(table, p, t, subst),
-        Split::Two(p, q, t, u) => match_two(table, p, q, t, u, subst),
-        Split::Args(n) => match_args(table, pattern, term, n as usize, subst),
+        Split::One(p, t) => match_one(table, p, t, subst, matched),
+        Split::Two(p, q, t, u) => match_two(table, p, q, t, u, subst, matched),
+        Split::Args(n) => match_args(table, pattern, term, n as usize, subst, matched),
     }
 }
 
 // The same for two patterns and two terms.
 #[cycle(walk)]
-fn match_two(table: &Table, p: Id, q: Id, t: Id, u: Id, subst: &mut Subst) -> bool
+fn match_two(
+    table: &Table,
+    p: Id,
+    q: Id,
+    t: Id,
+    u: Id,
+    subst: &mut Subst,
+    matched: &mut [Option<(Id, Id)>],
+) -> bool
     requires p { p < length table.now.trees }
     requires q { q < length table.now.trees }
     requires t { t < length table.now.trees }
@@ -67,31 +171,48 @@ fn match_two(table: &Table, p: Id, q: Id, t: Id, u: Id, subst: &mut Subst) -> bo
     requires room_p { HasPars subst.old (tree_at table.now.trees p) }
     requires room_q { HasPars subst.old (tree_at table.now.trees q) }
     requires below { AreBelow (length table.now.trees) subst.old }
+    requires matched { AreMatched table.now.trees (held table.now.trees subst.old) matched.old }
     ensures yes { IsTrue result → Matches (held table.now.trees subst.old) (tree_at table.now.trees p ∷ tree_at table.now.trees q ∷ []) (tree_at table.now.trees t ∷ tree_at table.now.trees u ∷ []) (held table.now.trees subst.new) }
     ensures no { IsFalse result → (σ : Assignment) → Matches (held table.now.trees subst.old) (tree_at table.now.trees p ∷ tree_at table.now.trees q ∷ []) (tree_at table.now.trees t ∷ tree_at table.now.trees u ∷ []) σ → ⊥ }
+    ensures matched { IsTrue result → AreMatched table.now.trees (held table.now.trees subst.new) matched.new }
     ensures kept { Keeps (length table.now.trees) subst.old subst.new }
 {
-    if !match_one(table, p, t, subst) {
+    if !match_one(table, p, t, subst, matched) {
         return false;
     }
-    match_one(table, q, u, subst)
+    match_one(table, q, u, subst, matched)
 }
 
 // The same for the arguments of two operators.
 #[cycle(walk)]
-fn match_args(table: &Table, pattern: Id, term: Id, count: usize, subst: &mut Subst) -> bool
+fn match_args(
+    table: &Table,
+    pattern: Id,
+    term: Id,
+    count: usize,
+    subst: &mut Subst,
+    matched: &mut [Option<(Id, Id)>],
+) -> bool
     requires pattern { pattern < length table.now.trees }
     requires term { term < length table.now.trees }
     requires count { count_of (arguments_of (tree_at table.now.trees pattern)) ≡ count }
     requires same { count_of (arguments_of (tree_at table.now.trees term)) ≡ count }
     requires room { (i : ℕ) → occurs_in i (to_list (arguments_of (tree_at table.now.trees pattern))) ≡ true → i < length subst.old.values }
     requires below { AreBelow (length table.now.trees) subst.old }
+    requires matched { AreMatched table.now.trees (held table.now.trees subst.old) matched.old }
     ensures yes { IsTrue result → Matches (held table.now.trees subst.old) (to_list (arguments_of (tree_at table.now.trees pattern))) (to_list (arguments_of (tree_at table.now.trees term))) (held table.now.trees subst.new) }
     ensures no { IsFalse result → (σ : Assignment) → Matches (held table.now.trees subst.old) (to_list (arguments_of (tree_at table.now.trees pattern))) (to_list (arguments_of (tree_at table.now.trees term))) σ → ⊥ }
+    ensures matched { IsTrue result → AreMatched table.now.trees (held table.now.trees subst.new) matched.new }
     ensures kept { Keeps (length table.now.trees) subst.old subst.new }
 {
     for i in 0..count {
-        if !match_one(table, table.arg(pattern, i), table.arg(term, i), subst) {
+        if !match_one(
+            table,
+            table.arg(pattern, i),
+            table.arg(term, i),
+            subst,
+            matched,
+        ) {
             return false;
         }
     }

@@ -4,9 +4,9 @@ ghost use Rattle.std.specs.Option.{option_flatten};
 ghost use Rattle.eo_term.specs.Tree.{Tree};
 ghost use Rattle.eo_term.specs.Terms.{tree_at};
 ghost use Rattle.eo_pattern.specs.Matching.{assign, empty};
-ghost use Rattle.eo_pattern.specs.Slots.{held, AreBelow, AreEmpty};
+ghost use Rattle.eo_pattern.specs.Slots.{held, AreBelow, AreEmpty, IsAssigned};
 
-use eo_term::Id;
+use eo_term::{Id, ParamSet};
 use std::alloc::{AllocError, Global};
 use std::marker::Model;
 
@@ -14,6 +14,7 @@ use std::marker::Model;
 /// number and for patterns up to a height; no call lessens it.
 #[derive(Drop)]
 pub struct Subst {
+    pub(crate) alloc: Global,
     values: Vec<Option<Id>>,
     height: usize,
 }
@@ -33,6 +34,7 @@ impl Subst {
         ensures below { IfOk result (λ s. (n : ℕ) → AreBelow n s) }
     {
         Ok(Subst {
+            alloc,
             values: Vec::new(alloc),
             height: 0,
         })
@@ -62,6 +64,19 @@ impl Subst {
         ensures value { result ≡ option_flatten (slice_get self.now.values i) }
     {
         self.values.get(usize::from(i)).copied().flatten()
+    }
+
+    /// The parameters below 64 for which something stands.
+    pub(crate) fn assigned(&self) -> ParamSet
+        ensures { IsAssigned result self.now }
+    {
+        let mut set = ParamSet::new();
+        for i in 0..self.values.len().min(64) {
+            if self.values[i].is_some() {
+                set.add_all(ParamSet::of(i as u8));
+            }
+        }
+        set
     }
 
     /// Drops what is held. The room stays.

@@ -1,18 +1,21 @@
 //! What is held, put in for the parameters of a term.
-ghost use Rattle.std.specs.Prelude.{◌≡◌, ◌<◌, ◌≤◌, length, true, false, IfOk, OnErr};
-ghost use Rattle.eo_term.specs.Tree.{App, Op, is_tall};
+ghost use Rattle.std.specs.Prelude.{◌≡◌, ℕ, ◌<◌, ◌≤◌, [], length, true, false, None, IfOk, IfSome, IfNone, OnErr};
+ghost use Rattle.eo_term.specs.Tree.{Op, Par, is_tall};
+ghost use Rattle.eo_term.specs.Memo.{told, TellsOnly};
 ghost use Rattle.eo_term.specs.Refused.{IsTall};
 ghost use Rattle.eo_term.specs.Terms.{Terms, tree_at, Grows, HasArity};
 ghost use Rattle.eo_term.specs.Arguments.{arguments_of, count_of};
-ghost use Rattle.eo_pattern.specs.Matching.{put, put_all};
-ghost use Rattle.eo_pattern.specs.Slots.{held, AreBelow, Holds};
+ghost use Rattle.eo_pattern.specs.Matching.{put};
+ghost use Rattle.eo_pattern.specs.Slots.{held, AreBelow, Holds, IsPut, IsAssigned};
+ghost use Rattle.eo_pattern.specs.Steps.{IsStep};
 
 use crate::Subst;
 use eo_base::limits::PARAMETERS;
-use eo_term::{Id, Node, OpCode, TYPE, Table, TermRefused};
+use eo_term::{Id, Memo, Node, OpCode, ParamSet, Step, TYPE, Table, TermRefused, Walk};
 
 /// The term in which each parameter that has a value is replaced by it. Nothing is renamed. A part
-/// without parameters is taken as it is, and its own parts are not looked at.
+/// without such parameters is taken as it is, and its own parts are not looked at. A part that stands at
+/// several places is looked at once.
 ///
 /// Where there is memory, it is refused with [`TermRefused::Tall`] exactly where that term is too
 /// tall. A refused call leaves the table as it is. Older terms stay what they are.
@@ -29,7 +32,7 @@ pub fn substitute(table: &mut Table, subst: &Subst, id: Id) -> Result<Id, TermRe
     ensures grown { (t : Terms) → Grows t table.old → Grows t table.new }
 {
     let mark = table.mark();
-    let made = put_term(table, subst, id);
+    let made = put_from(table, subst, id);
     if made.is_err() {
         table.release(mark);
     }
@@ -37,96 +40,197 @@ pub fn substitute(table: &mut Table, subst: &Subst, id: Id) -> Result<Id, TermRe
 }
 
 // The same, but that a refused call leaves the terms that it made.
-#[cycle(walk)]
-fn put_term(table: &mut Table, subst: &Subst, id: Id) -> Result<Id, TermRefused>
+fn put_from(table: &mut Table, subst: &Subst, id: Id) -> Result<Id, TermRefused>
     requires live { id < length table.old.trees }
     requires below { AreBelow (length table.old.trees) subst.now }
     ensures live { IfOk result (λ i. i < length table.new.trees) }
     ensures tree { IfOk result (λ i. tree_at table.new.trees i ≡ put (held table.old.trees subst.now) (tree_at table.old.trees id)) }
     ensures tall { IsTall result → is_tall (put (held table.old.trees subst.now) (tree_at table.old.trees id)) ≡ true }
     ensures low { IfOk result (λ _. is_tall (put (held table.old.trees subst.now) (tree_at table.old.trees id)) ≡ false) }
-    ensures holds { Holds subst.now table.old.trees table.new.trees }
     ensures grows { Grows table.old table.new }
     ensures grown { (t : Terms) → Grows t table.old → Grows t table.new }
 {
-    if table.is_closed(id) {
+    let _low = table.len();
+    let assigned = subst.assigned();
+    if table.parameters(id).is_apart(assigned) {
         return Ok(id);
     }
-    match table.node(id) {
-        Node::Par(i) => match subst.get(i) {
-            Some(v) => Ok(v),
-            None => Ok(id),
-        },
-        Node::Var { name, ty } => {
-            let ty = put_term(table, subst, ty)?;
-            table.intern(Node::Var { name, ty })
+    let mut walk = Walk::new(subst.alloc, id);
+    put_walk(table, subst, &assigned, &mut walk)
+}
+
+// The same, as a walk over its parts.
+fn put_walk(
+    table: &mut Table,
+    subst: &Subst,
+    assigned: &ParamSet,
+    walk: &mut Walk,
+) -> Result<Id, TermRefused>
+    requires live { walk.old.top < length table.old.trees }
+    requires below { AreBelow (length table.old.trees) subst.now }
+    requires assigned { IsAssigned assigned.now subst.now }
+    requires told { (k : ℕ) → told walk.old.memo k ≡ None }
+    requires waiting { walk.old.waiting ≡ [] }
+    ensures live { IfOk result (λ i. i < length table.new.trees) }
+    ensures tree { IfOk result (λ i. tree_at table.new.trees i ≡ put (held table.old.trees subst.now) (tree_at table.old.trees walk.old.top)) }
+    ensures tall { IsTall result → is_tall (put (held table.old.trees subst.now) (tree_at table.old.trees walk.old.top)) ≡ true }
+    ensures low { IfOk result (λ _. is_tall (put (held table.old.trees subst.now) (tree_at table.old.trees walk.old.top)) ≡ false) }
+    ensures grows { Grows table.old table.new }
+    ensures grown { (t : Terms) → Grows t table.old → Grows t table.new }
+{
+    loop {
+        match put_node(table, subst, assigned, walk.memo(), walk.top())? {
+            Step::Made(made) => {
+                if !walk.finish(made)? {
+                    return Ok(made);
+                }
+            }
+            Step::Part(part) => walk.begin(part)?,
         }
-        Node::App { fun, arg } => {
-            let (fun, arg) = put_two(table, subst, fun, arg)?;
-            table.intern(Node::App { fun, arg })
-        }
-        Node::Arr { from, to } => {
-            let (from, to) = put_two(table, subst, from, to)?;
-            table.intern(Node::Arr { from, to })
-        }
-        Node::Qar { par, ty, to } => {
-            let (ty, to) = put_two(table, subst, ty, to)?;
-            table.intern(Node::Qar { par, ty, to })
-        }
-        Node::Op { code, count } => put_op(table, subst, id, code, count as usize),
-        Node::Con(_) => unreachable!(),
-        Node::Num(_) => unreachable!(),
-        Node::Bits { .. } => unreachable!(),
-        Node::Str(_) => unreachable!(),
     }
 }
 
-// Both terms with what is held put in. It is too tall where a term that has both as parts would be.
-#[cycle(walk)]
-fn put_two(table: &mut Table, subst: &Subst, a: Id, b: Id) -> Result<(Id, Id), TermRefused>
-    requires a { a < length table.old.trees }
-    requires b { b < length table.old.trees }
+// The same for one term, where it is known what its parts become.
+fn put_node(
+    table: &mut Table,
+    subst: &Subst,
+    assigned: &ParamSet,
+    memo: &Memo,
+    id: Id,
+) -> Result<Step, TermRefused>
+    requires live { id < length table.old.trees }
     requires below { AreBelow (length table.old.trees) subst.now }
-    ensures live_a { IfOk result (λ r. r.0 < length table.new.trees) }
-    ensures live_b { IfOk result (λ r. r.1 < length table.new.trees) }
-    ensures a { IfOk result (λ r. tree_at table.new.trees r.0 ≡ put (held table.old.trees subst.now) (tree_at table.old.trees a)) }
-    ensures b { IfOk result (λ r. tree_at table.new.trees r.1 ≡ put (held table.old.trees subst.now) (tree_at table.old.trees b)) }
-    ensures tall { IsTall result → is_tall (App (put (held table.old.trees subst.now) (tree_at table.old.trees a)) (put (held table.old.trees subst.now) (tree_at table.old.trees b))) ≡ true }
-    ensures holds { Holds subst.now table.old.trees table.new.trees }
+    requires assigned { IsAssigned assigned.now subst.now }
+    requires memo { TellsOnly (IsPut (held table.old.trees subst.now) table.old.trees) memo.now }
+    ensures step { IfOk result (λ s. IsStep (held table.old.trees subst.now) table.old.trees memo.now id table.new.trees s) }
+    ensures tall { IsTall result → is_tall (put (held table.old.trees subst.now) (tree_at table.old.trees id)) ≡ true }
     ensures grows { Grows table.old table.new }
     ensures grown { (t : Terms) → Grows t table.old → Grows t table.new }
 {
-    let first = put_term(table, subst, a)?;
-    let second = put_term(table, subst, b)?;
-    Ok((first, second))
+    let _low = table.len();
+    match table.node(id) {
+        Node::Par(i) => Ok(Step::Made(put_par(table, subst, id, i))),
+        Node::Var { name, ty } => {
+            let Some(put) = known(table, subst, assigned, memo, ty) else {
+                return Ok(Step::Part(ty));
+            };
+            let made = table.intern(Node::Var { name, ty: put })?;
+            Ok(Step::Made(made))
+        }
+        Node::App { fun, arg } => {
+            let Some(put_fun) = known(table, subst, assigned, memo, fun) else {
+                return Ok(Step::Part(fun));
+            };
+            let Some(put_arg) = known(table, subst, assigned, memo, arg) else {
+                return Ok(Step::Part(arg));
+            };
+            let made = table.intern(Node::App {
+                fun: put_fun,
+                arg: put_arg,
+            })?;
+            Ok(Step::Made(made))
+        }
+        Node::Arr { from, to } => {
+            let Some(put_from) = known(table, subst, assigned, memo, from) else {
+                return Ok(Step::Part(from));
+            };
+            let Some(put_to) = known(table, subst, assigned, memo, to) else {
+                return Ok(Step::Part(to));
+            };
+            let made = table.intern(Node::Arr {
+                from: put_from,
+                to: put_to,
+            })?;
+            Ok(Step::Made(made))
+        }
+        Node::Qar { par, ty, to } => {
+            let Some(put_ty) = known(table, subst, assigned, memo, ty) else {
+                return Ok(Step::Part(ty));
+            };
+            let Some(put_to) = known(table, subst, assigned, memo, to) else {
+                return Ok(Step::Part(to));
+            };
+            let made = table.intern(Node::Qar {
+                par,
+                ty: put_ty,
+                to: put_to,
+            })?;
+            Ok(Step::Made(made))
+        }
+        Node::Op { code, count } => put_op(table, subst, assigned, memo, id, code, count as usize),
+        Node::Con(_) => Ok(Step::Made(id)),
+        Node::Num(_) => Ok(Step::Made(id)),
+        Node::Bits { .. } => Ok(Step::Made(id)),
+        Node::Str(_) => Ok(Step::Made(id)),
+    }
 }
 
 // The operator `id` over its arguments with what is held put in.
-#[cycle(walk)]
 fn put_op(
     table: &mut Table,
     subst: &Subst,
+    assigned: &ParamSet,
+    memo: &Memo,
     id: Id,
     code: OpCode,
     count: usize,
-) -> Result<Id, TermRefused>
+) -> Result<Step, TermRefused>
     requires live { id < length table.old.trees }
     requires below { AreBelow (length table.old.trees) subst.now }
+    requires assigned { IsAssigned assigned.now subst.now }
+    requires memo { TellsOnly (IsPut (held table.old.trees subst.now) table.old.trees) memo.now }
+    requires tree { Op code (arguments_of (tree_at table.old.trees id)) ≡ tree_at table.old.trees id }
     requires count { count_of (arguments_of (tree_at table.old.trees id)) ≡ count }
     requires arity { HasArity code count }
     requires small { count ≤ 64 }
-    ensures live { IfOk result (λ i. i < length table.new.trees) }
-    ensures tree { IfOk result (λ i. tree_at table.new.trees i ≡ Op code (put_all (held table.old.trees subst.now) (arguments_of (tree_at table.old.trees id)))) }
-    ensures tall { IsTall result → is_tall (Op code (put_all (held table.old.trees subst.now) (arguments_of (tree_at table.old.trees id)))) ≡ true }
-    ensures low { IfOk result (λ _. is_tall (Op code (put_all (held table.old.trees subst.now) (arguments_of (tree_at table.old.trees id)))) ≡ false) }
-    ensures holds { Holds subst.now table.old.trees table.new.trees }
+    ensures step { IfOk result (λ s. IsStep (held table.old.trees subst.now) table.old.trees memo.now id table.new.trees s) }
+    ensures tall { IsTall result → is_tall (put (held table.old.trees subst.now) (tree_at table.old.trees id)) ≡ true }
     ensures grows { Grows table.old table.new }
     ensures grown { (t : Terms) → Grows t table.old → Grows t table.new }
 {
     let mut args = [TYPE; PARAMETERS];
     for i in 0..count {
         let arg = table.arg(id, i);
-        args[i] = put_term(table, subst, arg)?;
+        let Some(put) = known(table, subst, assigned, memo, arg) else {
+            return Ok(Step::Part(arg));
+        };
+        args[i] = put;
     }
-    table.intern_op(code, &args[..count])
+    let made = table.intern_op(code, &args[..count])?;
+    Ok(Step::Made(made))
+}
+
+// What the part of a term becomes, where that is known without its own parts.
+fn known(table: &Table, subst: &Subst, assigned: &ParamSet, memo: &Memo, id: Id) -> Option<Id>
+    requires live { id < length table.now.trees }
+    requires below { AreBelow (length table.now.trees) subst.now }
+    requires assigned { IsAssigned assigned.now subst.now }
+    requires memo { TellsOnly (IsPut (held table.now.trees subst.now) table.now.trees) memo.now }
+    ensures live { IfSome result (λ i. i < length table.now.trees) }
+    ensures tree { IfSome result (λ i. tree_at table.now.trees i ≡ put (held table.now.trees subst.now) (tree_at table.now.trees id)) }
+    ensures untold { IfNone result (told memo.now id ≡ None) }
+{
+    if table.parameters(id).is_apart(*assigned) {
+        return Some(id);
+    }
+    if let Node::Par(i) = table.node(id) {
+        return Some(put_par(table, subst, id, i));
+    }
+    memo.get(id)
+}
+
+// What the parameter `id`, whose number is `i`, becomes.
+fn put_par(table: &Table, subst: &Subst, id: Id, i: u8) -> Id
+    requires live { id < length table.now.trees }
+    requires below { AreBelow (length table.now.trees) subst.now }
+    requires tree { tree_at table.now.trees id ≡ Par i }
+    ensures live { result < length table.now.trees }
+    ensures tree { tree_at table.now.trees result ≡ put (held table.now.trees subst.now) (tree_at table.now.trees id) }
+    ensures low { is_tall (put (held table.now.trees subst.now) (tree_at table.now.trees id)) ≡ false }
+{
+    let _low = table.len();
+    match subst.get(i) {
+        Some(term) => term,
+        None => id,
+    }
 }

@@ -9,19 +9,18 @@ use Rattle.eo_sexp.specs.declared.Spot.{Spot}
 use Rattle.eo_sexp.specs.declared.Fed.TheVariants as fed
 use Rattle.eo_sexp.specs.declared.Finished.TheVariants as finished
 use Rattle.eo_sexp.specs.Texts.{Phase, Then, Ends, Placed}
-use Rattle.eo_sexp.specs.Collecting.{Collecting, Within, AtCommand, Taken, Failed as FailedAt, NoMemory, IsLive, IsWithin, IsAtCommand, here_of, fed_with, finished_with, fed_answer, finish_answer}
+use Rattle.eo_sexp.specs.Collecting.{Collecting, Within, AtCommand, Failed as FailedAt, NoMemory, IsLive, IsWithin, IsAtCommand, here_of, fed_with, finished_with, fed_answer, finish_answer}
 use Rattle.eo_sexp.specs.Cutting.{IsWaiting, rest_of, ReadsInPieces}
 use Rattle.eo_sexp.specs.Answering.{IsAnswer, IsLexical, AnswersAlone}
 use Rattle.eo_run.specs.State.{State}
-use Rattle.eo_run.specs.Step.{Origin}
 use Rattle.eo_run.specs.Reading.{behind, at_end as ending, Leads, Fails, IsFed}
 use Rattle.eo_run.proofs.Running.{leads-same, fails-fault}
-use Rattle.eo_run.proofs.Feeding.{IsCommand, at_more, at_command, at_fault, at_end, at_end_command, at_end_fault, rest_of-taken, count_of, here-used}
+use Rattle.eo_run.proofs.Feeding.{IsCommand, at_more, at_command, at_fault, at_end, at_end_command, at_end_fault, count_of, here-used}
+use Rattle.eo_run.specs.declared.Origin.{Origin}
 
 pub live-within : (c : Collecting) → IsWithin c → IsLive c
 live-within (Within phase comment start begun) w = tt
 live-within (AtCommand k phase) w = absurd w
-live-within (Taken bytes start phase) w = absurd w
 live-within (FailedAt name at) w = absurd w
 live-within NoMemory w = absurd w
 
@@ -59,32 +58,31 @@ module _ (law : ReadsInPieces limits) (alone : AnswersAlone limits) (from : Orig
     pub fed-command : (u : ℕ) → fed.Command u ≡ fed_answer c d → IsCommand c d u
     fed-command u e = at_command c d u answer e
 
-    module _ (u : ℕ) (e : fed.Command u ≡ fed_answer c d) (n : Collecting) (takes : (k : Placed) (phase : Phase) → d ≡ AtCommand k phase → n ≡ Taken k.bytes k.start phase) where
+    module _ (u : ℕ) (e : fed.Command u ≡ fed_answer c d) where
       pub fed-size : u ≤ length p
       fed-size = let k = fed-command u e in let own = law.command true c p [] k.command k.phase waiting (sym is ∙ k.is) in omega (arith, own.0, k.size)
 
-      pub fed-gives : (closes : Bool) (more : List ℕ) → behind c p closes more ≡ Then (fed-command u e).command (behind n (drop u p) closes more)
+      pub fed-gives : (closes : Bool) (more : List ℕ) → behind c p closes more ≡ Then (fed-command u e).command (behind d (drop u p) closes more)
       fed-gives closes more =
           let k = fed-command u e in
           let own = law.command closes c p more k.command k.phase waiting (sym is ∙ k.is) in
           own.1
           ∙ ap (λ i. Then k.command (rest_of limits closes (AtCommand k.command k.phase) (drop i p ++ more))) (sym k.size)
-          ∙ ap (Then k.command) (rest_of-taken closes k.command k.phase (drop u p ++ more))
-          ∙ ap (λ x. Then k.command (rest_of limits closes x (drop u p ++ more))) (sym (takes k.command k.phase k.is))
+          ∙ ap (λ x. Then k.command (rest_of limits closes x (drop u p ++ more))) (sym k.is)
 
-      pub fed-live : IsLive n
-      fed-live = let k = fed-command u e in subst IsLive (sym (takes k.command k.phase k.is)) tt
+      pub fed-live : IsLive d
+      fed-live = let k = fed-command u e in subst IsLive (sym k.is) tt
 
-      pub fed-waiting : IsWaiting limits n
-      fed-waiting = let k = fed-command u e in subst (IsWaiting limits) (sym (takes k.command k.phase k.is)) tt
+      pub fed-waiting : IsWaiting limits d
+      fed-waiting = let k = fed-command u e in subst (IsWaiting limits) (sym k.is) tt
 
-      pub fed-here : (here_of n).offset + length (drop u p) ≤ (here_of c).offset + length p
+      pub fed-here : (here_of d).offset + length (drop u p) ≤ (here_of c).offset + length p
       fed-here =
           let k = fed-command u e in
-          let same = ap (λ x. (here_of x).offset) (takes k.command k.phase k.is) in
+          let same = ap (λ x. (here_of x).offset) k.is in
           omega (arith, same, here-used c k.command k.phase, k.size, fed-size, length-drop u p)
 
-      pub fed-smaller : count_of (rest_of limits false n (drop u p ++ [])) < count_of (rest_of limits false c (p ++ []))
+      pub fed-smaller : count_of (rest_of limits false d (drop u p ++ [])) < count_of (rest_of limits false c (p ++ []))
       fed-smaller = let given = ap count_of (fed-gives false []) in omega (arith, given)
 
     -- a fault
@@ -109,21 +107,20 @@ module _ (law : ReadsInPieces limits) (alone : AnswersAlone limits) (from : Orig
     pub end-command : finished.Command ≡ finish_answer d → (k : Placed) × (phase : Phase) × (d ≡ AtCommand k phase)
     end-command e = at_end_command d answer-end e
 
-    module _ (e : finished.Command ≡ finish_answer d) (n : Collecting) (takes : (k : Placed) (phase : Phase) → d ≡ AtCommand k phase → n ≡ Taken k.bytes k.start phase) where
-      pub end-gives : (closes : Bool) (more : List ℕ) → ending c closes more ≡ Then (end-command e).0 (ending n closes more)
+    module _ (e : finished.Command ≡ finish_answer d) where
+      pub end-gives : (closes : Bool) (more : List ℕ) → ending c closes more ≡ Then (end-command e).0 (ending d closes more)
       end-gives closes more =
           let k = end-command e in
           law.ends.command c k.0 k.1 waiting (sym is ∙ k.2)
-          ∙ ap (Then k.0) (rest_of-taken true k.0 k.1 [])
-          ∙ ap (λ x. Then k.0 (rest_of limits true x [])) (sym (takes k.0 k.1 k.2))
+          ∙ ap (λ x. Then k.0 (rest_of limits true x [])) (sym k.2)
 
-      pub end-live : IsLive n
-      end-live = let k = end-command e in subst IsLive (sym (takes k.0 k.1 k.2)) tt
+      pub end-live : IsLive d
+      end-live = let k = end-command e in subst IsLive (sym k.2) tt
 
-      pub end-waiting : IsWaiting limits n
-      end-waiting = let k = end-command e in subst (IsWaiting limits) (sym (takes k.0 k.1 k.2)) tt
+      pub end-waiting : IsWaiting limits d
+      end-waiting = let k = end-command e in subst (IsWaiting limits) (sym k.2) tt
 
-      pub end-smaller : count_of (rest_of limits true n []) < count_of (rest_of limits true c [])
+      pub end-smaller : count_of (rest_of limits true d []) < count_of (rest_of limits true c [])
       end-smaller = let given = ap count_of (end-gives true []) in omega (arith, given)
 
     pub end-fault : (name : FaultName) (at : Spot) → finished.Fault name at ≡ finish_answer d → (st : State) → Fails from st (ending c) name at × (name ≢ FileAbsent)

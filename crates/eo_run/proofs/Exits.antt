@@ -7,16 +7,16 @@ use Rattle.eo_sexp.specs.declared.Spot.{Spot}
 use Rattle.eo_sexp.specs.Texts.{Then, Placed}
 use Rattle.eo_sexp.specs.Collecting.{Collecting}
 use Rattle.eo_run.specs.State.{State}
-use Rattle.eo_run.specs.Step.{Origin}
 use Rattle.eo_run.specs.Reading.{Continuation, behind, at_end, Leads, Fails, ChecksCommand, ChecksPiece, ChecksEnd}
 use Rattle.eo_run.specs.declared.reading.Stop.{Stop}
 use Rattle.eo_run.specs.declared.reading.Stop.TheVariants as stop
 use Rattle.eo_run.proofs.Running.{leads-fails, fails-command}
+use Rattle.eo_run.specs.declared.Origin.{Origin}
 
 -- what a `?` returns is the error
-pub at_exit : {A : Type 0} (P : Result A Stop → Type 0) (r : Result A Stop) (x : Stop) → IsErrAnd r (λ e. e ≡ x) → P (Err x) → P r
+pub at_exit : {A E : Type 0} (P : Result A E → Type 0) (r : Result A E) (x : E) → IsErrAnd r (λ e. e ≡ x) → P (Err x) → P r
 at_exit P (Ok y) x e h = absurd e
-at_exit P (Err y) x e h = subst (λ (z : Stop). P (Err z)) (sym e) h
+at_exit P (Err y) x e h = subst (λ z. P (Err z)) (sym e) h
 
 module _ (A : Type 0) (from : Origin) (old st new : State) (r t s : Continuation) (k : Placed) (leads : Leads from old st r t) (gives : (closes : Bool) (more : List ℕ) → t closes more ≡ Then k (s closes more)) where
   -- a refused command refuses the run

@@ -1,13 +1,11 @@
 -- What the answers of a collector leave of a file to be read.
-use Rattle.std.proofs.Common.{◌≡◌, refl, ℕ, ◌+◌, ◌≤◌, Bool, List, ap, subst, ◌∙◌, arith}
+use Rattle.std.proofs.Common.{◌≡◌, refl, ℕ, ◌+◌, ◌≤◌, ap, subst, ◌∙◌, arith}
 use Rattle.eo_base.specs.declared.FaultName.{FaultName}
-use Rattle.eo_base.specs.Limits.{limits}
 use Rattle.eo_sexp.specs.declared.Spot.{Spot}
 use Rattle.eo_sexp.specs.declared.Fed.TheVariants as fed
 use Rattle.eo_sexp.specs.declared.Finished.TheVariants as finished
 use Rattle.eo_sexp.specs.Texts.{Phase, Reads, Then, Ends, Fails, Placed}
-use Rattle.eo_sexp.specs.Collecting.{Collecting, Within, AtCommand, Taken, Failed, NoMemory, IsWithin, here_of, used, fed_answer, finish_answer}
-use Rattle.eo_sexp.specs.Cutting.{rest_of}
+use Rattle.eo_sexp.specs.Collecting.{Collecting, Within, AtCommand, Failed, NoMemory, IsWithin, here_of, used, fed_answer, finish_answer}
 use Rattle.eo_sexp.specs.Answering.{IsAnswer, IsLexical}
 
 -- ---- the answers, by what the collector then stands for
@@ -15,7 +13,6 @@ use Rattle.eo_sexp.specs.Answering.{IsAnswer, IsLexical}
 pub at_more : (c d : Collecting) → IsAnswer d → fed.More ≡ fed_answer c d → IsWithin d
 at_more c (Within phase comment start begun) a e = tt
 at_more c (AtCommand k phase) a e = absurd cc
-at_more c (Taken bytes start phase) a e = absurd a
 at_more c (Failed name at) a e = absurd cc
 at_more c NoMemory a e = absurd a
 
@@ -28,7 +25,6 @@ pub record IsCommand (c d : Collecting) (u : ℕ) : Type 0 where
 pub at_command : (c d : Collecting) (u : ℕ) → IsAnswer d → fed.Command u ≡ fed_answer c d → IsCommand c d u
 at_command c (Within phase comment start begun) u a e = absurd cc
 at_command c (AtCommand k phase) u a e = record { command = k; phase = phase; is = refl; size = cc }
-at_command c (Taken bytes start phase) u a e = absurd a
 at_command c (Failed name at) u a e = absurd cc
 at_command c NoMemory u a e = absurd a
 
@@ -39,7 +35,6 @@ pub record IsFault (d : Collecting) (name : FaultName) (at : Spot) : Type 0 wher
 pub at_fault : (c d : Collecting) (name : FaultName) (at : Spot) → IsAnswer d → fed.Fault name at ≡ fed_answer c d → IsFault d name at
 at_fault c (Within phase comment start begun) name at a e = absurd cc
 at_fault c (AtCommand k phase) name at a e = absurd cc
-at_fault c (Taken bytes start phase) name at a e = absurd a
 at_fault c (Failed other there) name at a e =
     let same : other ≡ name = cc in
     let place : there ≡ at = cc in
@@ -49,32 +44,23 @@ at_fault c NoMemory name at a e = absurd a
 pub at_end : (d : Collecting) → IsAnswer d → finished.End ≡ finish_answer d → IsWithin d
 at_end (Within phase comment start begun) a e = tt
 at_end (AtCommand k phase) a e = absurd cc
-at_end (Taken bytes start phase) a e = absurd a
 at_end (Failed name at) a e = absurd cc
 at_end NoMemory a e = absurd a
 
 pub at_end_command : (d : Collecting) → IsAnswer d → finished.Command ≡ finish_answer d → (k : Placed) × (phase : Phase) × (d ≡ AtCommand k phase)
 at_end_command (Within phase comment start begun) a e = absurd cc
 at_end_command (AtCommand k phase) a e = (k, phase, refl)
-at_end_command (Taken bytes start phase) a e = absurd a
 at_end_command (Failed name at) a e = absurd cc
 at_end_command NoMemory a e = absurd a
 
 pub at_end_fault : (d : Collecting) (name : FaultName) (at : Spot) → IsAnswer d → finished.Fault name at ≡ finish_answer d → IsFault d name at
 at_end_fault (Within phase comment start begun) name at a e = absurd cc
 at_end_fault (AtCommand k phase) name at a e = absurd cc
-at_end_fault (Taken bytes start phase) name at a e = absurd a
 at_end_fault (Failed other there) name at a e =
     let same : other ≡ name = cc in
     let place : there ≡ at = cc in
     record { is = ap (λ n. Failed n there) same ∙ ap (Failed name) place; lexical = subst IsLexical same a }
 at_end_fault NoMemory name at a e = absurd a
-
--- ---- a command that is taken out leaves the same to be read
-
-pub rest_of-taken : (closes : Bool) (k : Placed) (phase : Phase) (rest : List ℕ) → rest_of limits closes (AtCommand k phase) rest ≡ rest_of limits closes (Taken k.bytes k.start phase) rest
-unfolding rest_of
-rest_of-taken closes k phase rest = refl
 
 -- how many commands come
 abbrev pub count_of : Reads → ℕ

@@ -1,23 +1,26 @@
 -- What is held, and the state that it is.
-use Rattle.std.proofs.Common.{◌≡◌, refl, ℕ, zero, suc, ◌<◌, ◌≤◌, Bool, true, false, not, List, [], ◌∷◌, ◌++◌, length, map, take, All, sym, ap, ◌∙◌, arith, subst, true≢false}
+use Rattle.std.proofs.Common.{◌≡◌, refl, ℕ, zero, suc, ◌<◌, ◌≤◌, Bool, true, false, List, [], ◌∷◌, ◌++◌, length, map, take, All, sym, ap, ◌∙◌, arith, subst}
 use Rattle.std.specs.Prelude.{bytes_eq, nat_eq, ◌||◌, if◌then◌else◌}
 use Rattle.std.specs.List.{list_any}
 use Rattle.std.proofs.lemmas.List.{map-append}
 use Rattle.std.proofs.lemmas.Bool.{eqb-true, eq-eqb}
 use Rattle.std.proofs.lemmas.List.Elements.{All-head, All-tail, All-weaker, All-push}
 use Rattle.eo_term.specs.Tree.{Tree, tree_eq, truth}
-use Rattle.eo_term.specs.Terms.{Terms, tree_at, Grows, first_trees}
+use Rattle.eo_term.specs.Growth.{GrowsOn}
+use Rattle.eo_term.specs.Terms.{Terms, tree_at, first_trees}
 use Rattle.eo_term.proofs.Equality.{tree_same, tree_refl}
 use Rattle.eo_sig.specs.Signature.{Entry, Macro, first_signature}
-use Rattle.eo_sig.specs.Reading.{Kept, IsBelow, Adds, AddsMacro, first_kept}
+use Rattle.eo_sig.specs.Reading.{Kept, IsBelow, Stays, Adds, AddsMacro, first_kept}
 use Rattle.eo_sig.specs.Reading.{signature as signature_of, macros as macros_of}
-use Rattle.eo_sig.proofs.Same.{signature_grown, macros_grown, below_grown}
+use Rattle.eo_names.specs.declared.locals.LocalName.{LocalName}
+use Rattle.eo_names.specs.Contexts.{Context}
+use Rattle.eo_names.specs.Ready as walk
 use Rattle.eo_type.specs.Known.{Fits}
 use Rattle.eo_type.proofs.Fitting.{fits_grown, fits_more}
 use Rattle.eo_run.specs.declared.held.Held.{Held}
 use Rattle.eo_run.specs.Ids.{has_id, with_id, Named, is_named, holds_false}
-use Rattle.eo_run.specs.Held.{read_fact, state_of, IsWhole}
-use Rattle.eo_run.specs.State.{State, Fact, first_state, is_asserted, is_live, has_false, with_entry, with_macro, with_fact, with_assertion}
+use Rattle.eo_run.specs.Held.{read_fact, state_of, IsWhole, Keeps}
+use Rattle.eo_run.specs.State.{first_state, is_live, has_false, with_entry, with_macro, with_fact, with_assertion}
 
 -- ---- facts
 
@@ -76,6 +79,10 @@ truth_at ts e false i h = subst (λ (j : ℕ). (tree_at ts j ≡ truth false) ×
 
 -- ---- a table that grows
 
+-- where names keep what they stand for, the signature stays
+pub stays_kept : (k : Kept) (ls : List LocalName) (old new : List Tree) → walk.Keeps k ls old new → Stays k old new
+stays_kept k ls old new h = record { signature = ap (λ (c : Context). c.signature) h.context; macros = ap (λ (c : Context). c.macros) h.context; below = h.ready.below }
+
 map_grown : {A : Type 0} (f g : A → Tree) (P : A → Type 0) → ((x : A) → P x → f x ≡ g x) → (xs : List A) → All P xs → map f xs ≡ map g xs
 map_grown f g P h [] a = refl
 map_grown f g P h (x ∷ xs) a = (λ k. h x (All-head P x xs a) k ∷ map_grown f g P h xs (All-tail P x xs a) k)
@@ -94,26 +101,29 @@ module _ (h : Held) (whole : IsWhole h) where
   abbrev trees : List Tree
   trees = h.table.trees
 
-  module _ (t : Terms) (grows : Grows h.table t) where
-    pub state_table : state_of (record h { table = t }) ≡ state_of h
+  -- terms that come leave the state, and so do types that are found
+  module _ (t : Terms) (stays : Stays h.signature trees t.trees) (grows : GrowsOn h.table t) where
+    state_table : state_of (record h { table = t }) ≡ state_of h
     state_table =
-        let a = map_grown (tree_at t.trees) (tree_at trees) (λ i. i < length trees) grows.tree h.assertions whole.assertions in
-        let f = facts_grown trees t.trees (length trees) grows.tree h.facts whole.facts in
-        let s = signature_grown h.table t h.signature whole.signature grows in
-        let m = macros_grown h.table t h.signature whole.signature grows in
-        (λ k. record { signature = s k; macros = m k; assertions = a k; has_reference = h.has_reference; facts = f k; closed = h.closed; commands = h.commands })
+        let a = map_grown (tree_at t.trees) (tree_at trees) (λ i. i < length trees) grows.now.tree h.assertions whole.assertions in
+        let f = facts_grown trees t.trees (length trees) grows.now.tree h.facts whole.facts in
+        (λ k. record { signature = stays.signature k; macros = stays.macros k; assertions = a k; has_reference = h.has_reference; facts = f k; closed = h.closed; commands = h.commands })
 
-    pub whole_table : IsWhole (record h { table = t })
-    whole_table = record {
-      signature = below_grown h.table t h.signature grows whole.signature;
-      assertions = ids_below (length trees) (length t.trees) grows.more_trees h.assertions whole.assertions;
-      facts = named_below (length trees) (length t.trees) grows.more_trees h.facts whole.facts;
-      types = fits_grown h.signature h.table t whole.signature grows h.types whole.types;
+    pub keeps_types : (types : List (ℕ × ℕ)) → Fits (signature_of t.trees h.signature) t.trees types → Keeps h (record h { table = t; types = types })
+    keeps_types types fits = record {
+      whole = record {
+        signature = stays.below;
+        assertions = ids_below (length trees) (length t.trees) grows.now.more_trees h.assertions whole.assertions;
+        facts = named_below (length trees) (length t.trees) grows.now.more_trees h.facts whole.facts;
+        types = fits;
+      };
+      same = state_table;
+      signature = refl;
+      grows = grows;
     }
 
-  -- types that were found for a larger table
-  pub whole_types : (t : Terms) (grows : Grows h.table t) (types : List (ℕ × ℕ)) → Fits (signature_of t.trees h.signature) t.trees types → IsWhole (record h { table = t; types = types })
-  whole_types t grows types fits = let w = whole_table t grows in record { signature = w.signature; assertions = w.assertions; facts = w.facts; types = fits }
+    pub keeps_table : Keeps h (record h { table = t })
+    keeps_table = keeps_types h.types (fits_grown h.signature h.table t whole.signature grows.now h.types whole.types)
 
   module _ (k : Kept) (below : IsBelow (length trees) k) where
     pub whole_entry : (e : Entry) → Adds trees h.signature e k → IsWhole (record h { signature = k })

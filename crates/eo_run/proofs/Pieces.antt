@@ -1,5 +1,5 @@
 -- A file that is read in pieces.
-use Rattle.std.proofs.Common.{◌≡◌, refl, ℕ, zero, suc, ◌+◌, ◌-◌, ◌≤◌, ◌<◌, Bool, true, false, not, List, [], ◌∷◌, ◌++◌, length, take, drop, sym, ap, subst, ◌∙◌, arith, append_assoc, append-nil, length-append, length-take}
+use Rattle.std.proofs.Common.{◌≡◌, refl, ℕ, zero, suc, ◌+◌, ◌-◌, ◌≤◌, ◌<◌, Bool, true, false, List, [], ◌∷◌, ◌++◌, length, take, drop, sym, ap, subst, ◌∙◌, arith, append_assoc, append-nil, length-append, length-take}
 use Rattle.std.specs.Prelude.{Result, Ok, Err, Some, None, nat_le, ◌≢◌}
 use Rattle.std.proofs.Math.Seq.{take-append-add}
 use Rattle.std.proofs.lemmas.List.{take-append-drop}
@@ -15,20 +15,17 @@ use Rattle.eo_sexp.specs.Collecting.{Collecting, new_collector, here_of, IsLive,
 use Rattle.eo_sexp.specs.Cutting.{rest_of, ReadsInPieces}
 use Rattle.eo_sexp.specs.Answering.{AnswersAlone, end_of}
 use Rattle.eo_run.specs.State.{State}
-use Rattle.eo_run.specs.Step.{Origin, FromProof, FromReference, is_in_proof, is_in_reference}
+use Rattle.eo_run.specs.Step.{is_in_proof}
 use Rattle.eo_run.specs.Run.{commands_of, run_commands}
 use Rattle.eo_run.specs.Reading.{behind, Leads, Fails, IsFed, IsRead, Passes, StaysOpen, RunsOpen, RunsBytes, ChecksPiece, ChecksEnd}
 use Rattle.eo_run.specs.declared.reading.Stop.{Stop}
 use Rattle.eo_run.specs.declared.reading.Stop.TheVariants as stop
 use Rattle.eo_run.proofs.Running.{leads-refl, leads-trans, leads-fails}
+use Rattle.eo_run.specs.declared.Origin.{Origin}
 
 pub file_limit : limits.file ≡ 1099511627776
 unfolding limits
 file_limit = refl
-
-pub proof-origin : (from : Origin) → not (is_in_reference from) ≡ is_in_proof from
-proof-origin FromProof = refl
-proof-origin FromReference = refl
 
 take-nothing : (n : ℕ) → take {A = ℕ} n [] ≡ []
 take-nothing zero = refl

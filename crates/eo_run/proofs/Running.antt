@@ -1,5 +1,5 @@
 -- Runs of the commands of a file, from one state to the next.
-use Rattle.std.proofs.Common.{◌≡◌, refl, ℕ, Bool, List, sym, ap, ◌∙◌}
+use Rattle.std.proofs.Common.{◌≡◌, refl, ℕ, Bool, List, ap, ◌∙◌}
 use Rattle.std.specs.Prelude.{Ok, Err}
 use Rattle.eo_base.specs.declared.FaultName.{FaultName}
 use Rattle.eo_sexp.specs.declared.Spot.{Spot}
@@ -7,9 +7,10 @@ use Rattle.eo_sexp.specs.Texts.{Phase, Reads, Then, Ends, Placed}
 use Rattle.eo_sexp.specs.Texts as texts
 use Rattle.eo_sexp.specs.Answering.{end_of}
 use Rattle.eo_run.specs.State.{State}
-use Rattle.eo_run.specs.Step.{Origin, step}
+use Rattle.eo_run.specs.Step.{step}
 use Rattle.eo_run.specs.Run.{Ran, ◌>>=◌, placed, refusal_at, run_commands}
 use Rattle.eo_run.specs.Reading.{Continuation, Leads, Fails}
+use Rattle.eo_run.specs.declared.Origin.{Origin}
 
 -- ---- one command more
 

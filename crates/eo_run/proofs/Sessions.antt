@@ -1,22 +1,23 @@
 -- What each command does to a state.
 use Rattle.std.proofs.Common.{◌≡◌, refl, ℕ, Bool, true, false, not, List, [], sym, ap, subst, ◌∙◌, true≢false}
-use Rattle.std.specs.Prelude.{◌≢◌, Option, Some, None, option_and_then, Result, Ok, Err, IfErr, bytes_eq, codes, if◌then◌else◌, ◌&&◌}
+use Rattle.std.specs.Prelude.{◌≢◌, Option, Some, None, option_and_then, Result, Ok, Err, bytes_eq, codes, if◌then◌else◌, ◌&&◌}
 use Rattle.std.specs.Result.{IsErrAnd}
 use Rattle.eo_base.specs.declared.FaultName.{FaultName}
 use Rattle.eo_base.specs.declared.FaultName.TheVariants.{Redeclared, IllTyped, NotBool, Stuck, UnknownSymbol, NotAsserted, NoReference, NoRefutation, SecondReference, NumberRange, TermHeight, FileAbsent}
-use Rattle.eo_base.specs.Checks.{Checked, Passed, ◌>>=◌, require, value_or}
+use Rattle.eo_base.specs.Answers.{Tells}
+use Rattle.eo_base.specs.Checks.{Checked, ◌>>=◌, require, value_or}
 use Rattle.eo_sexp.specs.Sexp.{Sexp}
 use Rattle.eo_shape.specs.Words.{symbol_of}
 use Rattle.eo_shape.specs.Shapes.{Command, command_of}
 use Rattle.eo_term.specs.Tree.{Tree, bool_tree, truth, is_value, tree_eq}
-use Rattle.eo_type.specs.Types.{TypeOutcome, Typed, Untyped, TypeRange, TypeTall, on_typed, typed_if, type_of, value_type}
+use Rattle.eo_type.specs.Types.{TypeOutcome, Typed, Untyped, TypeRange, TypeTall, on_typed, typed_if, type_of}
 use Rattle.eo_term.specs.Terms.{tree_at}
 use Rattle.eo_elab.specs.Meaning.{meaning}
-use Rattle.eo_elab.specs.Names.{read_locals}
-use Rattle.eo_elab.specs.declared.locals.LocalName.{LocalName}
-use Rattle.eo_elab.specs.declared.refused.ElabRefused.{ElabRefused}
-use Rattle.eo_elab.specs.declared.refused.ElabRefused.TheVariants as elab
-use Rattle.eo_elab.specs.Refused.{is_memory, fault_of}
+use Rattle.eo_names.specs.Names.{read_locals}
+use Rattle.eo_names.specs.declared.locals.LocalName.{LocalName}
+use Rattle.eo_names.specs.declared.refused.ElabRefused.{ElabRefused}
+use Rattle.eo_names.specs.declared.refused.ElabRefused.TheVariants as elab
+use Rattle.eo_names.specs.Refused.{told as elab_told}
 use Rattle.eo_run.specs.declared.held.Held.{Held}
 use Rattle.eo_run.specs.declared.refused.Refused.{Refused}
 use Rattle.eo_run.specs.declared.refused.Refused.TheVariants as refused
@@ -24,8 +25,10 @@ use Rattle.eo_type.specs.Outcomes.{Answers}
 use Rattle.eo_type.specs.declared.refused.TypeRefused.{TypeRefused}
 use Rattle.eo_type.specs.declared.refused.TypeRefused.TheVariants as kind
 use Rattle.eo_run.specs.Stepping.{of_elab, of_type, Refuses, Does}
+use Rattle.eo_run.proofs.Exits.{at_exit}
 use Rattle.eo_run.specs.State.{State, context, with_assertion, with_fact, with_command, is_asserted, has_false, begin_reference, end_fault}
-use Rattle.eo_run.specs.Step.{Origin, is_in_reference, is_free_fact, truth_of, asserted_truth, evaluated, value, typed_or, typed, formula, assume, assert, by_command, uncounted, step}
+use Rattle.eo_run.specs.Step.{is_in_reference, is_free_fact, truth_of, asserted_truth, evaluated, value, typed_or, typed, formula, assume, assert, by_command, uncounted, step}
+use Rattle.eo_run.specs.declared.Origin.{Origin}
 
 -- ---- the formulas of a reference file
 
@@ -116,9 +119,6 @@ module _ (st : State) (s : Sexp) where
 module _ (st : State) (v : Tree) where
   abbrev by_type : TypeOutcome Tree → Checked Tree
   by_type o = typed_or (on_typed o (λ u. typed_if (is_value u) u))
-
-  abbrev as_value : Tree → Bool → Checked Tree
-  as_value u b = typed_or (typed_if b u)
 
   pub typed-none : type_of st.signature v ≡ Untyped → typed st v ≡ Err IllTyped
   unfolding typed
@@ -216,40 +216,27 @@ module _ (st : State) (from : Origin) (s : Sexp) where
 
 -- ---- refusals
 
-pub refuses-elab : {A B : Type 0} (m : Checked B) (r : Result A Refused) (x : ElabRefused) → IsErrAnd r (λ e. e ≡ of_elab x) → (is_memory x ≡ false → m ≡ Err (fault_of x)) → IfErr r (Refuses m)
-refuses-elab m (Ok y) x e h = tt
-refuses-elab m (Err y) x e h = subst (Refuses m) (sym e) (by x h)
-  where
-    by : (x : ElabRefused) → (is_memory x ≡ false → m ≡ Err (fault_of x)) → Refuses m (of_elab x)
-    by elab.BadLiteral h = (h refl, λ q. absurd cc)
-    by elab.BadCommand h = (h refl, λ q. absurd cc)
-    by elab.Redeclared h = (h refl, λ q. absurd cc)
-    by elab.UnknownSymbol h = (h refl, λ q. absurd cc)
-    by elab.BadArity h = (h refl, λ q. absurd cc)
-    by elab.Tall h = (h refl, λ q. absurd cc)
-    by elab.Parameters h = (h refl, λ q. absurd cc)
-    by elab.BadPattern h = (h refl, λ q. absurd cc)
-    by (elab.Memory e) h = tt
+-- the refusal of a term or a declaration
+pub refuses_elab : {B : Type 0} (m : Checked B) (x : ElabRefused) → Tells elab_told x m → Refuses m (of_elab x)
+refuses_elab m elab.BadLiteral h = (h, λ q. absurd cc)
+refuses_elab m elab.BadCommand h = (h, λ q. absurd cc)
+refuses_elab m elab.Redeclared h = (h, λ q. absurd cc)
+refuses_elab m elab.UnknownSymbol h = (h, λ q. absurd cc)
+refuses_elab m elab.BadArity h = (h, λ q. absurd cc)
+refuses_elab m elab.Tall h = (h, λ q. absurd cc)
+refuses_elab m elab.Parameters h = (h, λ q. absurd cc)
+refuses_elab m elab.BadPattern h = (h, λ q. absurd cc)
+refuses_elab m (elab.Memory e) h = (tt, tt)
 
 -- a refusal that is passed on, of what leads to the same fault
-pub refuses-on : {A B C : Type 0} (m : Checked B) (n : Checked C) (r : Result A Refused) (x : Refused) → IsErrAnd r (λ e. e ≡ x) → Refuses m x → ((name : FaultName) → m ≡ Err name → n ≡ Err name) → IfErr r (Refuses n)
-refuses-on m n (Ok y) x e h f = tt
-refuses-on m n (Err y) x e h f = subst (Refuses n) (sym e) (by x h)
-  where
-    by : (x : Refused) → Refuses m x → Refuses n x
-    by (refused.Fault name) h = (f name h.0, h.1)
-    by refused.Ended h = h
-    by (refused.Memory e) h = tt
-
--- what is answered for a refusal says so of the whole
-pub does-refused : (m : Checked State) (r : Result (Unit {0}) Refused) (new : Held) (x : Refused) → IsErrAnd r (λ e. e ≡ x) → IfErr r (Refuses m) → Does r m new
-does-refused m (Ok y) new x e h = absurd e
-does-refused m (Err y) new x e h = h
+pub refuses_on : {B C : Type 0} (m : Checked B) (n : Checked C) (x : Refused) → Refuses m x → ((name : FaultName) → m ≡ Err name → n ≡ Err name) → Refuses n x
+refuses_on m n (refused.Fault name) h f = (f name h.0, h.1)
+refuses_on m n refused.Ended h f = h
+refuses_on m n (refused.Memory e) h f = h
 
 -- a fault that is answered is that of the definition
 pub does-fault : (m : Checked State) (r : Result (Unit {0}) Refused) (new : Held) (name : FaultName) → m ≡ Err name → name ≢ FileAbsent → IsErrAnd r (λ e. e ≡ refused.Fault name) → Does r m new
-does-fault m (Ok y) new name h n e = absurd e
-does-fault m (Err y) new name h n e = subst (Refuses m) (sym e) (h, n)
+does-fault m r new name h n e = at_exit (λ (r : Result (Unit {0}) Refused). Does r m new) r (refused.Fault name) e (h, n)
 
 -- ---- the reference file, and the end
 
@@ -281,14 +268,10 @@ module _ (st : State) where
   end-correct e f = ap (λ r. by_end r (has_false st.facts)) e ∙ ap (by_end true) f
 
 -- a type that is not found
-pub refuses-type : {A : Type 0} (st : State) (v : Tree) (ts : List Tree) (r : Result A Refused) (x : TypeRefused) → IsErrAnd r (λ e. e ≡ of_type x) → Answers ts (Err x) (type_of st.signature v) → IfErr r (Refuses (typed st v))
-refuses-type st v ts (Ok y) x e h = tt
-refuses-type st v ts (Err y) x e h = subst (Refuses (typed st v)) (sym e) (by x h)
-  where
-    by : (x : TypeRefused) → Answers ts (Err x) (type_of st.signature v) → Refuses (typed st v) (of_type x)
-    by kind.NumberRange h = (typed-range st v h, λ q. absurd cc)
-    by kind.Tall h = (typed-tall st v h, λ q. absurd cc)
-    by (kind.Memory e) h = tt
+pub refuses_type : (st : State) (v : Tree) (ts : List Tree) (x : TypeRefused) → Answers ts (Err x) (type_of st.signature v) → Refuses (typed st v) (of_type x)
+refuses_type st v ts kind.NumberRange h = (typed-range st v h, λ q. absurd cc)
+refuses_type st v ts kind.Tall h = (typed-tall st v h, λ q. absurd cc)
+refuses_type st v ts (kind.Memory e) h = (tt, tt)
 
 pub outcome-none : (ts : List Tree) (o : Option ℕ) (m : TypeOutcome Tree) → o ≡ None → Answers ts (Ok o) m → m ≡ Untyped
 outcome-none ts o m e h = subst (λ (x : Option ℕ). Answers ts (Ok x) m) e h

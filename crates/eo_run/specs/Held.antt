@@ -1,7 +1,8 @@
 -- What a session holds, with numbers of terms, and the state that this is.
-use Rattle.std.specs.Prelude.{ℕ, ◌<◌, List, map, length, All}
+use Rattle.std.specs.Prelude.{◌≡◌, ◌<◌, List, map, length, All}
 use Rattle.eo_sig.specs.Reading.{signature, macros, IsBelow}
 use Rattle.eo_type.specs.Known.{Fits}
+use Rattle.eo_term.specs.Growth.{GrowsOn}
 use Rattle.eo_term.specs.Tree.{Tree}
 use Rattle.eo_term.specs.Terms.{tree_at}
 use Rattle.eo_run.specs.Ids.{Named}
@@ -30,3 +31,10 @@ pub record IsWhole (h : Held) : Type 0 where
   pub signature : IsBelow (length h.table.trees) h.signature
   pub assertions : All (λ i. i < length h.table.trees) h.assertions
   pub facts : All (λ (f : Named). f.1 < length h.table.trees) h.facts
+
+-- The state has stayed: terms alone, and types that were found, may have come.
+pub record Keeps (old new : Held) : Type 0 where
+  pub whole : IsWhole new
+  pub same : state_of new ≡ state_of old
+  pub signature : new.signature ≡ old.signature
+  pub grows : GrowsOn old.table new.table

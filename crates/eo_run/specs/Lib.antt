@@ -12,4 +12,3 @@ pub mod Pieces
 pub mod Ids
 pub mod Held
 pub mod StateCode
-pub mod Adding

@@ -1,21 +1,22 @@
 -- What the reading of a file does to a session.
-use Rattle.std.specs.Prelude.{◌≡◌, ◌≢◌, ℕ, ◌+◌, ◌≤◌, Bool, true, List, [], ◌∷◌, ◌++◌, length, Option, Some, None, Result, Ok, Err, ⊤}
+use Rattle.std.specs.Prelude.{◌≡◌, ◌≢◌, ℕ, ◌+◌, ◌≤◌, Bool, true, List, [], ◌∷◌, ◌++◌, length, Option, Some, None, IfSome, Result, Ok, Err, ⊤}
 use Rattle.eo_base.specs.declared.FaultName.{FaultName}
 use Rattle.eo_base.specs.declared.FaultName.TheVariants.{FileAbsent}
 use Rattle.eo_base.specs.Causes.{Rose}
 use Rattle.eo_base.specs.Limits.{limits}
 use Rattle.eo_io.specs.Library.{Files, Rest}
 use Rattle.eo_sexp.specs.declared.Spot.{Spot}
-use Rattle.eo_sexp.specs.Texts.{Reads, Ends, Placed, first_spot, spot_after}
-use Rattle.eo_sexp.specs.Collecting.{Collecting, new_collector, here_of, IsLive}
+use Rattle.eo_sexp.specs.Texts.{Phase, Reads, Ends, Placed, first_spot, spot_after}
+use Rattle.eo_sexp.specs.Collecting.{Collecting, AtCommand, new_collector, here_of, IsLive}
 use Rattle.eo_sexp.specs.Cutting.{IsWaiting, rest_of}
 use Rattle.eo_sexp.specs.Answering.{end_of}
 use Rattle.eo_run.specs.State.{State}
-use Rattle.eo_run.specs.Step.{Origin, is_in_proof, step}
+use Rattle.eo_run.specs.Step.{is_in_proof, step}
 use Rattle.eo_run.specs.Run.{commands_of, refusal_at, run_commands, run_file}
 use Rattle.eo_run.specs.Check.{file_end}
 use Rattle.eo_run.specs.declared.reading.Stop.{Stop}
 use Rattle.eo_run.specs.declared.reading.Stop.TheVariants as stop
+use Rattle.eo_run.specs.declared.Origin.{Origin}
 
 -- How a file goes on, by whether it ends behind the bytes that a file may have, and by those that are still to come.
 abbrev pub Continuation : Type 0
@@ -34,28 +35,47 @@ pub record Leads (from : Origin) (old new : State) (r s : Continuation) : Type 0
 pub record Fails (from : Origin) (old : State) (r : Continuation) (name : FaultName) (at : Spot) : Type 0 where
   pub fails : (path : List ℕ) (closes : Bool) (more : List ℕ) → run_commands path from (r closes more) old ≡ Err (refusal_at path at name)
 
--- a file that is there is not called absent
-abbrev pub IsPresent : {A : Type 0} → Result A Stop → Type 0
-IsPresent (Ok x) = ⊤
-IsPresent (Err (stop.Fault name at)) = name ≢ FileAbsent
-IsPresent (Err stop.ReadFault) = ⊤
-IsPresent (Err stop.Memory) = ⊤
+-- ---- what stops
 
--- the library did not fail
-abbrev pub HasRead : {A : Type 0} → Result A Stop → Type 0
-HasRead (Ok x) = ⊤
-HasRead (Err (stop.Fault name at)) = ⊤
-HasRead (Err stop.ReadFault) = ⊥
-HasRead (Err stop.Memory) = ⊤
+-- The library did not fail, and a file that is there is not called absent.
+abbrev pub IsOfText : {A : Type 0} → Result A Stop → Type 0
+IsOfText (Ok x) = ⊤
+IsOfText (Err (stop.Fault name at)) = name ≢ FileAbsent
+IsOfText (Err stop.ReadFault) = ⊥
+IsOfText (Err stop.Memory) = ⊤
+
+-- The same, where the library may fail as well.
+abbrev pub IsOfFile : {A : Type 0} → Result A Stop → (before now : ℕ) → Type 0
+IsOfFile (Ok x) before now = ⊤
+IsOfFile (Err (stop.Fault name at)) before now = name ≢ FileAbsent
+IsOfFile (Err stop.ReadFault) before now = Rose before now
+IsOfFile (Err stop.Memory) before now = ⊤
+
+-- ---- libraries
+
+-- what is told stays, and faults are counted on
+pub record GoesOn {S F : Type 0} (told : S → Option F) (faults : S → ℕ) (old new : S) : Type 0 where
+  pub same : told new ≡ told old
+  pub later : faults old ≤ faults new
+
+-- the same, and the same files are open
+pub record LibraryStays {S F : Type 0} (told : S → Option F) (open_files : S → List Rest) (faults : S → ℕ) (old new : S) : Type 0 where
+  pub same : told new ≡ told old
+  pub closed : open_files new ≡ open_files old
+  pub later : faults old ≤ faults new
 
 -- ---- a command
 
--- The last command is taken out of the collector and checked.
+-- The command is checked.
 abbrev pub ChecksCommand : {A : Type 0} → Origin → Result A Stop → (old new : State) → Placed → Type 0
 ChecksCommand from (Ok x) old new k = step old from k.sexp ≡ Ok new
 ChecksCommand from (Err (stop.Fault name at)) old new k = (step old from k.sexp ≡ Err name) × (at ≡ k.start)
 ChecksCommand from (Err stop.ReadFault) old new k = ⊤
 ChecksCommand from (Err stop.Memory) old new k = ⊤
+
+-- the same of the last command of a collector
+abbrev pub ChecksLast : {A : Type 0} → Origin → Result A Stop → (old new : State) → Collecting → Type 0
+ChecksLast from result old new c = (k : Placed) (phase : Phase) → c ≡ AtCommand k phase → ChecksCommand from result old new k
 
 -- ---- a piece
 
@@ -127,8 +147,12 @@ StopHasCause (Err stop.ReadFault) told before now = Rose before now
 StopHasCause (Err stop.Memory) told before now = ⊤
 
 -- the file with this path is run
-abbrev pub RunsFile : Files → List ℕ → Origin → Result Spot Stop → (old new : State) → Type 0
-RunsFile files path from (Ok at) old new = (run_file files path from old ≡ Ok new) × (at ≡ file_end files path)
-RunsFile files path from (Err (stop.Fault name at)) old new = run_file files path from old ≡ Err (refusal_at path at name)
-RunsFile files path from (Err stop.ReadFault) old new = ⊤
-RunsFile files path from (Err stop.Memory) old new = ⊤
+abbrev pub RunsIn : Files → List ℕ → Origin → Result Spot Stop → (old new : State) → Type 0
+RunsIn files path from (Ok at) old new = (run_file files path from old ≡ Ok new) × (at ≡ file_end files path)
+RunsIn files path from (Err (stop.Fault name at)) old new = run_file files path from old ≡ Err (refusal_at path at name)
+RunsIn files path from (Err stop.ReadFault) old new = ⊤
+RunsIn files path from (Err stop.Memory) old new = ⊤
+
+-- the same, where files are told
+abbrev pub RunsFile : Option Files → List ℕ → Origin → Result Spot Stop → (old new : State) → Type 0
+RunsFile told path from result old new = IfSome told (λ files. RunsIn files path from result old new)

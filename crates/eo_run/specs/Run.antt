@@ -8,8 +8,10 @@ use Rattle.eo_io.specs.Library.{Files, file_at}
 use Rattle.eo_sexp.specs.declared.Spot.{Spot}
 use Rattle.eo_sexp.specs.Texts.{Reads, Then, Ends, Fails, first_spot, reads_file}
 use Rattle.eo_run.specs.State.{State, first_state, begin_reference}
-use Rattle.eo_run.specs.Step.{Origin, FromProof, FromReference, is_in_proof, step}
+use Rattle.eo_run.specs.Step.{is_in_proof, step}
 use Rattle.eo_run.specs.Verdict.{Refusal}
+use Rattle.eo_run.specs.declared.Origin.{Origin}
+use Rattle.eo_run.specs.declared.Origin.TheVariants as origin
 
 abbrev pub Ran : Type 0
 Ran = Result State Refusal
@@ -43,20 +45,27 @@ commands_of proof bytes = reads_file limits proof bytes
 unfoldable pub run_commands : List ℕ → Origin → Reads → State → Ran
 run_commands path from (Ends at) st = Ok st
 run_commands path from (Fails name at) st = Err (refusal_at path at name)
-run_commands path from (Then c others) st = placed path c.start (step st from c.sexp) >>= run_commands path from others
+run_commands path from (Then c others) st = do
+  new ← placed path c.start (step st from c.sexp)
+  run_commands path from others new
 
 -- ---- files
 
 module _ (files : Files) where
   -- a file of a check, which is refused at its start where it is absent
   unfoldable pub run_file : List ℕ → Origin → State → Ran
-  run_file path from st =
-      or_fault path first_spot FileAbsent (file_at files path) >>= λ bytes. run_commands path from (commands_of (is_in_proof from) bytes) st
+  run_file path from st = do
+    bytes ← or_fault path first_spot FileAbsent (file_at files path)
+    run_commands path from (commands_of (is_in_proof from) bytes) st
 
   -- the reference file, from a state on
   unfoldable pub run_reference : List ℕ → State → Ran
-  run_reference path st = placed path first_spot (begin_reference st) >>= run_file path FromReference
+  run_reference path st = do
+    begun ← placed path first_spot (begin_reference st)
+    run_file path origin.Reference begun
 
   -- the reference file, and then the proof
   unfoldable pub run_check : (reference proof : List ℕ) → Ran
-  run_check reference proof = run_reference reference (first_state false) >>= run_file proof FromProof
+  run_check reference proof = do
+    st ← run_reference reference (first_state false)
+    run_file proof origin.Proof st

@@ -6,7 +6,7 @@ use Rattle.eo_base.specs.declared.FaultName.TheVariants.{NoReference, NoRefutati
 use Rattle.eo_base.specs.Checks.{Checked}
 use Rattle.eo_sig.specs.Signature.{Signature, Entry, Macro, first_signature}
 use Rattle.eo_term.specs.Tree.{Tree, tree_eq, truth}
-use Rattle.eo_elab.specs.Meaning.{Context, InProof}
+use Rattle.eo_names.specs.Contexts.{Context, InProof}
 
 -- a formula that is assumed, with its name
 pub record Fact : Type 0 where

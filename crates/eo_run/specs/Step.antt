@@ -4,7 +4,7 @@ use Rattle.std.specs.Option.{option_map_or}
 use Rattle.eo_base.specs.declared.FaultName.TheVariants.{Redeclared, IllTyped, Stuck, NumberRange, TermHeight, UnknownSymbol, NotBool, NotAsserted, NoReference}
 use Rattle.eo_base.specs.Checks.{Checked, ◌>>=◌, require, no_fault, value_or}
 use Rattle.eo_sexp.specs.Sexp.{Sexp}
-use Rattle.eo_sig.specs.declared.LiteralClass.{LiteralClass}
+use Rattle.eo_lit.specs.declared.LiteralClass.{LiteralClass}
 use Rattle.eo_sig.specs.Signature.{IsConstant, IsLiteralType, Attribute, Plain, Constant, Macro, Named, NamesConstant, NamesMacro, lookup, constant_at, is_reserved, constant_fault, literal_type_fault}
 use Rattle.eo_shape.specs.Words.{symbol_of}
 use Rattle.eo_shape.specs.Shapes.{ParameterShape, AttributeShape, Command, DeclareConst, DeclareFun, DeclareSort, DeclareParameterized, DeclareLiterals, Define, Assume, Assert, command_of}
@@ -13,29 +13,32 @@ use Rattle.eo_type.specs.Types.{TypeOutcome, Typed, Untyped, TypeRange, TypeTall
 use Rattle.eo_elab.specs.Meaning.{meaning}
 use Rattle.eo_elab.specs.Declarations.{is_reference_name, declared_const, declared_fun, declared_sort, declared_parameterized, declared_literals, defined}
 use Rattle.eo_run.specs.State.{State, context, with_entry, with_macro, with_assertion, with_fact, with_command, is_asserted, is_live}
+use Rattle.eo_run.specs.declared.Origin.{Origin}
+use Rattle.eo_run.specs.declared.Origin.TheVariants as origin
 
--- The file that a command stands in: a proof, or a reference file.
-pub data Origin : Type 0 where
-  FromProof : Origin
-  FromReference : Origin
+-- ---- the file that a command stands in
 
 abbrev pub is_in_reference : Origin → Bool
-is_in_reference FromProof = false
-is_in_reference FromReference = true
+is_in_reference origin.Proof = false
+is_in_reference origin.Reference = true
 
 abbrev pub is_in_proof : Origin → Bool
-is_in_proof FromProof = true
-is_in_proof FromReference = false
+is_in_proof origin.Proof = true
+is_in_proof origin.Reference = false
 
 -- ---- checks
 
 -- A value is its own value. Nothing else has one, since no operator is evaluated yet.
 abbrev pub evaluated : Tree → Checked Tree
-evaluated t = require (is_value t) Stuck >>= λ _. Ok t
+evaluated t = do
+  _ ← require (is_value t) Stuck
+  Ok t
 
 -- the value of a term
 unfoldable pub value : State → Sexp → Checked Tree
-value st s = meaning (context st) [] s >>= evaluated
+value st s = do
+  t ← meaning (context st) [] s
+  evaluated t
 
 abbrev pub typed_or : TypeOutcome Tree → Checked Tree
 typed_or (Typed t) = Ok t
@@ -49,7 +52,11 @@ typed st v = typed_or (value_type st.signature v)
 
 -- the value of a term, which is a formula
 unfoldable pub formula : State → Sexp → Checked Tree
-formula st s = value st s >>= λ v. typed st v >>= λ k. require (tree_eq k bool_tree) NotBool >>= λ _. Ok v
+formula st s = do
+  v ← value st s
+  type ← typed st v
+  _ ← require (tree_eq type bool_tree) NotBool
+  Ok v
 
 abbrev pub is_free_fact : State → List ℕ → Bool
 is_free_fact st name = not (is_reserved name) && not (is_live st.facts name)
@@ -69,34 +76,55 @@ repeats_constant st d n = false
 -- A name of the reference file is accepted again where the constant is the same; nothing changes.
 unfoldable pub added_constant : State → Constant → Checked State
 added_constant st d =
-    if is_reference_name (context st) d.name
-    then (require (repeats_constant st d (lookup st.signature st.macros d.name)) Redeclared >>= λ _. Ok st)
-    else Ok (with_entry st (IsConstant d))
+    if is_reference_name (context st) d.name then (do
+      _ ← require (repeats_constant st d (lookup st.signature st.macros d.name)) Redeclared
+      Ok st
+    ) else Ok (with_entry st (IsConstant d))
 
 -- the declared type is the value of the type, which has type `Type`
 unfoldable pub typed_constant : State → Constant → Checked State
-typed_constant st d =
-    evaluated d.type >>= λ v. typed st v >>= λ k. require (tree_eq k type_tree) IllTyped >>= λ _.
-    added_constant st (record d { type = v })
+typed_constant st d = do
+  v ← evaluated d.type
+  type ← typed st v
+  _ ← require (tree_eq type type_tree) IllTyped
+  added_constant st (record d { type = v })
 
-unfoldable pub declare_const : State → List ℕ → Sexp → AttributeShape → Checked State
-declare_const st name type shape = declared_const (context st) name type shape >>= typed_constant st
+-- the constant is added, unless its declaration has a fault
+abbrev pub checked_constant : State → Constant → Checked State
+checked_constant st d = do
+  _ ← no_fault (constant_fault d)
+  Ok (with_entry st (IsConstant d))
 
-unfoldable pub declare_fun : State → List ℕ → List Sexp → Sexp → Checked State
-declare_fun st name inputs output = declared_fun (context st) name inputs output >>= typed_constant st
+-- and so is the type of a class of literals
+abbrev pub checked_literals : State → LiteralClass → Tree → Checked State
+checked_literals st class t = do
+  _ ← no_fault (literal_type_fault st.signature class t)
+  Ok (with_entry st (IsLiteralType class t))
 
-unfoldable pub declare_sort : State → List ℕ → ℕ → Checked State
-declare_sort st name arity = declared_sort (context st) name arity >>= typed_constant st
+abbrev pub declare_const : State → List ℕ → Sexp → AttributeShape → Checked State
+declare_const st name type shape = do
+  d ← declared_const (context st) name type shape
+  typed_constant st d
 
-unfoldable pub declare_parameterized : State → List ℕ → List ParameterShape → Sexp → AttributeShape → Checked State
-declare_parameterized st name shapes type shape =
-    declared_parameterized (context st) name shapes type shape >>= λ d.
-    no_fault (constant_fault d) >>= λ _. Ok (with_entry st (IsConstant d))
+abbrev pub declare_fun : State → List ℕ → List Sexp → Sexp → Checked State
+declare_fun st name inputs output = do
+  d ← declared_fun (context st) name inputs output
+  typed_constant st d
 
-unfoldable pub declare_literals : State → LiteralClass → Sexp → Checked State
-declare_literals st class type =
-    declared_literals (context st) class type >>= λ t.
-    no_fault (literal_type_fault st.signature class t) >>= λ _. Ok (with_entry st (IsLiteralType class t))
+abbrev pub declare_sort : State → List ℕ → ℕ → Checked State
+declare_sort st name arity = do
+  d ← declared_sort (context st) name arity
+  typed_constant st d
+
+abbrev pub declare_parameterized : State → List ℕ → List ParameterShape → Sexp → AttributeShape → Checked State
+declare_parameterized st name shapes type shape = do
+  d ← declared_parameterized (context st) name shapes type shape
+  checked_constant st d
+
+abbrev pub declare_literals : State → LiteralClass → Sexp → Checked State
+declare_literals st class type = do
+  t ← declared_literals (context st) class type
+  checked_literals st class t
 
 -- ---- macros
 
@@ -108,21 +136,26 @@ repeats_macro st m n = false
 
 unfoldable pub added_macro : State → Macro → Checked State
 added_macro st m =
-    if is_reference_name (context st) m.name
-    then (require (repeats_macro st m (lookup st.signature st.macros m.name)) Redeclared >>= λ _. Ok st)
-    else Ok (with_macro st m)
+    if is_reference_name (context st) m.name then (do
+      _ ← require (repeats_macro st m (lookup st.signature st.macros m.name)) Redeclared
+      Ok st
+    ) else Ok (with_macro st m)
 
-unfoldable pub define : State → List ℕ → List ParameterShape → Sexp → Checked State
-define st name shapes body = defined (context st) name shapes body >>= added_macro st
+abbrev pub define : State → List ℕ → List ParameterShape → Sexp → Checked State
+define st name shapes body = do
+  m ← defined (context st) name shapes body
+  added_macro st m
 
 -- ---- assumptions and assertions
 
 -- the name is free, the formula is one, and it is asserted
 unfoldable pub assume : State → List ℕ → Sexp → Checked State
-assume st name s =
-    require (is_free_fact st name) Redeclared >>= λ _. formula st s >>= λ v.
-    require st.has_reference NoReference >>= λ _. require (is_asserted st v) NotAsserted >>= λ _.
-    Ok (with_fact st name v)
+assume st name s = do
+  _ ← require (is_free_fact st name) Redeclared
+  v ← formula st s
+  _ ← require st.has_reference NoReference
+  _ ← require (is_asserted st v) NotAsserted
+  Ok (with_fact st name v)
 
 -- what a word says as a formula
 abbrev pub truth_of : List ℕ → Option Bool
@@ -133,11 +166,13 @@ unfoldable pub asserted_truth : Sexp → Checked Bool
 asserted_truth s = value_or UnknownSymbol (option_and_then truth_of (symbol_of s))
 
 unfoldable pub assert : State → Sexp → Checked State
-assert st s = asserted_truth s >>= λ b. Ok (with_assertion st (truth b))
+assert st s = do
+  b ← asserted_truth s
+  Ok (with_assertion st (truth b))
 
 -- ---- each command
 
-unfoldable pub by_command : State → Command → Checked State
+abbrev pub by_command : State → Command → Checked State
 by_command st (DeclareConst name type shape) = declare_const st name type shape
 by_command st (DeclareFun name inputs output) = declare_fun st name inputs output
 by_command st (DeclareSort name arity) = declare_sort st name arity
@@ -149,8 +184,12 @@ by_command st (Assert s) = assert st s
 
 -- its shape, and then the checks of its own
 unfoldable pub uncounted : State → Origin → Sexp → Checked State
-uncounted st from s = command_of (is_in_reference from) s >>= by_command st
+uncounted st from s = do
+  command ← command_of (is_in_reference from) s
+  by_command st command
 
 -- One command, which is counted where it is accepted.
 unfoldable pub step : State → Origin → Sexp → Checked State
-step st from s = uncounted st from s >>= λ new. Ok (with_command new)
+step st from s = do
+  new ← uncounted st from s
+  Ok (with_command new)

@@ -1,29 +1,24 @@
 -- What a session does with a command.
-use Rattle.std.specs.Prelude.{◌≡◌, ◌≢◌, ℕ, Bool, true, false, Option, Some, None, Result, Ok, Err, ⊤}
+use Rattle.std.specs.Prelude.{◌≡◌, ◌≢◌, ℕ, ◌<◌, length, Bool, true, false, Option, Some, None, Result, Ok, Err, ⊤}
 use Rattle.eo_base.specs.declared.FaultName.{FaultName}
 use Rattle.eo_base.specs.declared.FaultName.TheVariants as fault
+use Rattle.eo_base.specs.Answers.{Tells, IsGiven}
 use Rattle.eo_base.specs.Checks.{Checked}
-use Rattle.eo_elab.specs.declared.refused.ElabRefused.{ElabRefused}
-use Rattle.eo_elab.specs.declared.refused.ElabRefused.TheVariants as elab
+use Rattle.eo_names.specs.declared.refused.ElabRefused.{ElabRefused}
+use Rattle.eo_names.specs.declared.refused.ElabRefused.TheVariants as elab
 use Rattle.eo_sig.specs.declared.refused.SigRefused.{SigRefused}
 use Rattle.eo_sig.specs.declared.refused.SigRefused.TheVariants as sig
 use Rattle.eo_type.specs.declared.refused.TypeRefused.{TypeRefused}
 use Rattle.eo_type.specs.declared.refused.TypeRefused.TheVariants as kind
+use Rattle.eo_term.specs.Growth.{tree_in}
 use Rattle.eo_term.specs.Tree.{Tree, Con, tree_eq}
 use Rattle.eo_run.specs.State.{State}
-use Rattle.eo_run.specs.Step as step
-use Rattle.eo_run.specs.Held.{state_of, IsWhole}
+use Rattle.eo_run.specs.Held.{state_of}
 use Rattle.eo_run.specs.declared.held.Held.{Held}
-use Rattle.eo_run.specs.declared.session.Origin.{Origin}
-use Rattle.eo_run.specs.declared.session.Origin.TheVariants as origin
 use Rattle.eo_run.specs.declared.session.EndAnswer.{EndAnswer}
 use Rattle.eo_run.specs.declared.session.EndAnswer.TheVariants as end
 use Rattle.eo_run.specs.declared.refused.Refused.{Refused}
 use Rattle.eo_run.specs.declared.refused.Refused.TheVariants as refused
-
-abbrev pub origin_of : Origin → step.Origin
-origin_of origin.Proof = step.FromProof
-origin_of origin.Reference = step.FromReference
 
 abbrev pub IsMemory : Refused → Type 0
 IsMemory (refused.Fault name) = ⊥
@@ -55,11 +50,31 @@ of_type kind.NumberRange = refused.Fault fault.NumberRange
 of_type kind.Tall = refused.Fault fault.TermHeight
 of_type (kind.Memory e) = refused.Memory e
 
--- A fault that is answered is that of the definition, and none is that of an absent file; want of memory may come at any time.
+-- the fault that a refusal tells; want of memory tells none, nor does an ended session
+abbrev pub told : Refused → Option FaultName
+told (refused.Fault name) = Some name
+told refused.Ended = None
+told (refused.Memory e) = None
+
+-- a refusal of a command by itself: a fault, but none of an absent file, or want of memory
+abbrev pub IsOfCommand : Refused → Type 0
+IsOfCommand (refused.Fault name) = name ≢ fault.FileAbsent
+IsOfCommand refused.Ended = ⊥
+IsOfCommand (refused.Memory e) = ⊤
+
+-- The fault that is answered is that of the definition; want of memory may come at any time.
 abbrev pub Refuses : {A : Type 0} → Checked A → Refused → Type 0
-Refuses m (refused.Fault name) = (m ≡ Err name) × (name ≢ fault.FileAbsent)
-Refuses m refused.Ended = ⊥
-Refuses m (refused.Memory e) = ⊤
+Refuses m e = Tells told e m × IsOfCommand e
+
+-- the id of the term that is found, or what refuses it
+abbrev pub GivesTerm : Held → Result ℕ Refused → Checked Tree → Type 0
+GivesTerm h (Ok i) m = IsGiven (λ (i : ℕ). i < length h.table.trees) (tree_in h.table) m i
+GivesTerm h (Err e) m = Refuses m e
+
+-- a type was found, and whether it is the constant of this number
+abbrev pub GivesKind : ℕ → Result Bool Refused → Checked Tree → Type 0
+GivesKind number (Ok b) m = (k : Tree) × (m ≡ Ok k) × (tree_eq k (Con number) ≡ b)
+GivesKind number (Err e) m = Refuses m e
 
 -- What is held is in the state that the definition gives.
 abbrev pub Does : Result (Unit {0}) Refused → Checked State → Held → Type 0
@@ -82,7 +97,3 @@ Steps (Err (refused.Memory e)) m old new = (old.ended ≡ false) × (new.ended �
 abbrev pub EndsWith : Option FaultName → EndAnswer → Type 0
 EndsWith fault end.Correct = fault ≡ None
 EndsWith fault (end.Fault name) = fault ≡ Some name
-
--- a type was found, and whether it is the constant of this number
-abbrev pub HasKind : Checked Tree → ℕ → Bool → Type 0
-HasKind m number b = (k : Tree) × (m ≡ Ok k) × (tree_eq k (Con number) ≡ b)

@@ -1,12 +1,12 @@
 //! The check of a proof against a reference file.
-ghost use Rattle.std.specs.Prelude.{◌≡◌, ◌≢◌, ◌<◌, ◌≤◌, ℕ, [], vec_len, None, false, Ok, unwrap_or, IsSome, IfOk, IfErr, IfSome, OnOk, slice_get, length};
+ghost use Rattle.std.specs.Prelude.{◌≡◌, ◌≢◌, ◌<◌, ◌≤◌, ℕ, [], vec_len, None, false};
+ghost use Rattle.std.specs.Prelude.{Ok, unwrap_or, IsSome, IfOk, IfErr, OnOk, length};
 ghost use Rattle.eo_run.specs.Answer.{Answers, AnswerHasCause, FileInRange};
-ghost use Rattle.eo_run.specs.Check.{verdict, checked};
-ghost use Rattle.eo_run.specs.Judging.{stop_verdict, RefusesRun, IsCheckAnswer, EndsRun};
-ghost use Rattle.eo_run.specs.Run.{run_file};
-ghost use Rattle.eo_run.specs.Step.{FromProof};
+ghost use Rattle.eo_run.specs.Check.{verdict};
+ghost use Rattle.eo_run.specs.Reading.{LibraryStays};
+ghost use Rattle.eo_run.specs.Judging.{stop_verdict, IsCheckAnswer, RunsPath, IsPathAnswer, AnswersFiles, AnswersProof};
 ghost use Rattle.eo_run.specs.State.{first_state, begin_reference};
-ghost use Rattle.eo_run.specs.Stepping.{origin_of, IsMemory};
+ghost use Rattle.eo_run.specs.Stepping.{IsMemory};
 
 use crate::reading::{Stop, check_file};
 use crate::{CheckJob, EndAnswer, Origin, Refused, Session, Verdict};
@@ -47,7 +47,7 @@ pub fn check_files<L: Library>(
     requires closed_rules { job.now.closed ≡ false }
     requires no_paths { paths.old ≡ [] }
     requires none_open { L.open_files files.old ≡ [] }
-    ensures verdict { IfSome (L.told files.old) (λ told. Answers paths.new result (verdict told (unwrap_or job.now.reference []) job.now.proof)) }
+    ensures verdict { AnswersFiles (L.told files.old) (unwrap_or job.now.reference []) job.now.proof paths.new result }
     ensures cause { AnswerHasCause result (L.told files.old) (L.faults files.old) (L.faults files.new) }
     ensures place { FileInRange paths.new result }
     ensures no_load { (commands : ℕ) → result ≢ Verdict.Loaded commands }
@@ -86,13 +86,10 @@ fn check_paths<L: Library>(
 ) -> Verdict
     requires none_open { L.open_files files.old ≡ [] }
     requires buffer { 0 < length buffer.old }
-    ensures verdict { IfSome (L.told files.old) (λ told. Answers paths.new result (verdict told reference.now proof.now)) }
+    ensures verdict { AnswersFiles (L.told files.old) reference.now proof.now paths.new result }
     ensures cause { AnswerHasCause result (L.told files.old) (L.faults files.old) (L.faults files.new) }
-    ensures place { FileInRange paths.new result }
-    ensures kind { IsCheckAnswer result }
-    ensures same { L.told files.new ≡ L.told files.old }
-    ensures closed { L.open_files files.new ≡ [] }
-    ensures later { L.faults files.old ≤ L.faults files.new }
+    ensures kind { IsCheckAnswer paths.new result }
+    ensures stays { LibraryStays L.told L.open_files L.faults files.old files.new }
 {
     match first_session(alloc) {
         Ok(mut session) => check_both(alloc, reference, proof, files, &mut session, paths, buffer),
@@ -114,13 +111,10 @@ fn check_both<L: Library>(
     requires buffer { 0 < length buffer.old }
     requires going { session.old.ended ≡ false }
     requires begun { begin_reference (first_state false) ≡ Ok session.old.state }
-    ensures verdict { IfSome (L.told files.old) (λ told. Answers paths.new result (verdict told reference.now proof.now)) }
+    ensures verdict { AnswersFiles (L.told files.old) reference.now proof.now paths.new result }
     ensures cause { AnswerHasCause result (L.told files.old) (L.faults files.old) (L.faults files.new) }
-    ensures place { FileInRange paths.new result }
-    ensures kind { IsCheckAnswer result }
-    ensures same { L.told files.new ≡ L.told files.old }
-    ensures closed { L.open_files files.new ≡ [] }
-    ensures later { L.faults files.old ≤ L.faults files.new }
+    ensures kind { IsCheckAnswer paths.new result }
+    ensures stays { LibraryStays L.told L.open_files L.faults files.old files.new }
 {
     match check_path(
         alloc,
@@ -159,13 +153,10 @@ fn check_proof<L: Library>(
     requires none_open { L.open_files files.old ≡ [] }
     requires buffer { 0 < length buffer.old }
     requires going { session.old.ended ≡ false }
-    ensures verdict { IfSome (L.told files.old) (λ told. Answers paths.new result (checked told path.now (run_file told path.now FromProof session.old.state))) }
+    ensures verdict { AnswersProof (L.told files.old) path.now session.old.state paths.new result }
     ensures cause { AnswerHasCause result (L.told files.old) (L.faults files.old) (L.faults files.new) }
-    ensures place { FileInRange paths.new result }
-    ensures kind { IsCheckAnswer result }
-    ensures same { L.told files.new ≡ L.told files.old }
-    ensures closed { L.open_files files.new ≡ [] }
-    ensures later { L.faults files.old ≤ L.faults files.new }
+    ensures kind { IsCheckAnswer paths.new result }
+    ensures stays { LibraryStays L.told L.open_files L.faults files.old files.new }
 {
     match check_path(alloc, path, Origin::Proof, files, session, paths, buffer) {
         Err(verdict) => verdict,
@@ -190,15 +181,10 @@ fn check_path<L: Library>(
     requires buffer { 0 < length buffer.old }
     requires going { session.old.ended ≡ false }
     ensures going { OnOk result (session.new.ended ≡ false) }
-    ensures runs { IfOk result (λ place. IfSome (L.told files.old) (λ told. EndsRun told path.now (origin_of from) session.old.state session.new.state paths.new place)) }
-    ensures refused { IfErr result (λ v. IfSome (L.told files.old) (λ told. RefusesRun told path.now (origin_of from) session.old.state paths.new v)) }
+    ensures runs { RunsPath (L.told files.old) path.now from result session.old.state session.new.state paths.new }
     ensures cause { IfErr result (λ v. AnswerHasCause v (L.told files.old) (L.faults files.old) (L.faults files.new)) }
-    ensures there { IfOk result (λ place. IsSome (slice_get paths.new place.file)) }
-    ensures place { IfErr result (FileInRange paths.new) }
-    ensures kind { IfErr result IsCheckAnswer }
-    ensures same { L.told files.new ≡ L.told files.old }
-    ensures closed { L.open_files files.new ≡ [] }
-    ensures later { L.faults files.old ≤ L.faults files.new }
+    ensures kind { IsPathAnswer paths.new result }
+    ensures stays { LibraryStays L.told L.open_files L.faults files.old files.new }
 {
     let Ok(file) = paths.add(path) else {
         return Err(Verdict::OutOfMemory);

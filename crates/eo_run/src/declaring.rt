@@ -1,102 +1,151 @@
 //! Commands that declare.
-ghost use Rattle.std.specs.Prelude.{◌≡◌, ◌<◌, Ok, Some, true, List, length, IfOk, IfErr};
-ghost use Rattle.eo_base.specs.Checks.{Checked};
-ghost use Rattle.eo_sexp.specs.Owned.{owned};
+ghost use Rattle.std.specs.Prelude.{◌≡◌, ◌<◌, Some, List, length};
 ghost use Rattle.eo_sig.specs.Reading.{read_attribute, read_constant, read_macro, read_named, ConstBelow, MacroBelow, IsFree, IsWithin};
+ghost use Rattle.eo_shape.specs.Reading.{read_attribute as shape_of};
 ghost use Rattle.eo_term.specs.Tree.{Tree};
-ghost use Rattle.eo_term.specs.Terms.{tree_at};
-ghost use Rattle.eo_elab.specs.Declarations.{is_free_or_reference};
-ghost use Rattle.eo_elab.specs.Declaring.{declared, read_declaration, Declares, DeclarationBelow};
-ghost use Rattle.eo_run.specs.Adding.{MayRepeat, checked_constant, checked_literals, DeclaresConstant, DeclaresParameterized, DeclaresLiterals, DeclaresMacro};
+ghost use Rattle.eo_term.specs.Growth.{tree_in};
+ghost use Rattle.eo_elab.specs.Declaring.{MayRepeat, MayBeMacro};
+ghost use Rattle.eo_elab.specs.Worlds.{context_in};
 ghost use Rattle.eo_run.specs.Held.{state_of, IsWhole};
-ghost use Rattle.eo_run.specs.State.{State, context};
-ghost use Rattle.eo_run.specs.Step.{is_plain, added_constant, typed_constant, repeats_constant, repeats_macro, added_macro};
-ghost use Rattle.eo_run.specs.Stepping.{Refuses, Does};
+ghost use Rattle.eo_run.specs.Step as step;
+ghost use Rattle.eo_run.specs.Stepping.{Does};
 
 use crate::Refused;
 use crate::held::{Held, TYPE_CONSTANT};
 use eo_base::FaultName;
-use eo_elab::declaration;
-use eo_sexp::OwnedSexp;
-use eo_sig::{Attribute, ConstDecl, Declaration, Entry, LiteralClass, MacroDecl};
+use eo_elab::{
+    declared_const, declared_fun, declared_literals, declared_parameterized, declared_sort, defined,
+};
+use eo_sexp::{Children, Sexp};
+use eo_shape::{AttributeShape, ParameterShapes};
+use eo_sig::{Attribute, ConstDecl, Entry, LiteralClass, MacroDecl};
 use eo_term::Id;
 
 impl Held {
-    /// Declares a constant without parameters, whose type is to be a value. A constant of the
-    /// reference file may be repeated without attribute, with an equal type.
-    pub(crate) fn declare_constant(&mut self, s: &OwnedSexp) -> Result<(), Refused>
-        requires whole { IsWhole self.old }
-        requires declares { (m : Checked State) × DeclaresConstant (state_of self.old) (owned s.now) m }
+    /// Declares a constant of this type, which is to be a value. A constant of the reference file
+    /// may be repeated without attribute, with an equal type.
+    pub(crate) fn declare_const(
+        &mut self,
+        name: &[u8],
+        ty: &Sexp<'_>,
+        shape: &AttributeShape<'_>,
+    ) -> Result<(), Refused>
+        requires { IsWhole self.old }
         ensures whole { IsWhole self.new }
-        ensures does { (m : Checked State) → DeclaresConstant (state_of self.old) (owned s.now) m → Does result m self.new }
+        ensures does { Does result (step.declare_const (state_of self.old) name.now ty.now (shape_of shape.now)) self.new }
     {
-        match self.declared(s)? {
-            Declaration::Const(d) => self.add_valued(d),
-            _ => unreachable!(),
-        }
+        let d = declared_const(
+            self.alloc,
+            name,
+            ty,
+            shape,
+            &self.signature,
+            &mut self.table,
+        )?;
+        self.add_valued(d)
+    }
+
+    /// Declares a constant of a function type, which may repeat one as `declare_const` says.
+    pub(crate) fn declare_fun(
+        &mut self,
+        name: &[u8],
+        inputs: &Children<'_>,
+        output: &Sexp<'_>,
+    ) -> Result<(), Refused>
+        requires { IsWhole self.old }
+        ensures whole { IsWhole self.new }
+        ensures does { Does result (step.declare_fun (state_of self.old) name.now inputs.now output.now) self.new }
+    {
+        let d = declared_fun(
+            self.alloc,
+            name,
+            inputs,
+            output,
+            &self.signature,
+            &mut self.table,
+        )?;
+        self.add_valued(d)
+    }
+
+    /// Declares a constant that makes a type of so many types, which may repeat one as
+    /// `declare_const` says.
+    pub(crate) fn declare_sort(&mut self, name: &[u8], arity: u8) -> Result<(), Refused>
+        requires { IsWhole self.old }
+        ensures whole { IsWhole self.new }
+        ensures does { Does result (step.declare_sort (state_of self.old) name.now arity) self.new }
+    {
+        let d = declared_sort(self.alloc, name, arity, &self.signature, &mut self.table)?;
+        self.add_valued(d)
     }
 
     /// Declares a constant with parameters.
-    pub(crate) fn declare_parameterized(&mut self, s: &OwnedSexp) -> Result<(), Refused>
-        requires whole { IsWhole self.old }
-        requires declares { (m : Checked State) × DeclaresParameterized (state_of self.old) (owned s.now) m }
+    pub(crate) fn declare_parameterized(
+        &mut self,
+        name: &[u8],
+        params: &ParameterShapes<'_>,
+        ty: &Sexp<'_>,
+        shape: &AttributeShape<'_>,
+    ) -> Result<(), Refused>
+        requires { IsWhole self.old }
         ensures whole { IsWhole self.new }
-        ensures does { (m : Checked State) → DeclaresParameterized (state_of self.old) (owned s.now) m → Does result m self.new }
+        ensures does { Does result (step.declare_parameterized (state_of self.old) name.now params.now ty.now (shape_of shape.now)) self.new }
     {
-        match self.declared(s)? {
-            Declaration::Const(d) => self.add_constant(d),
-            _ => unreachable!(),
-        }
+        let d = declared_parameterized(
+            self.alloc,
+            name,
+            params,
+            ty,
+            shape,
+            &self.signature,
+            &mut self.table,
+        )?;
+        self.add_constant(d)
     }
 
     /// Gives a class of literals its type.
-    pub(crate) fn declare_literals(&mut self, s: &OwnedSexp) -> Result<(), Refused>
-        requires whole { IsWhole self.old }
-        requires declares { (m : Checked State) × DeclaresLiterals (state_of self.old) (owned s.now) m }
+    pub(crate) fn declare_literals(
+        &mut self,
+        class: LiteralClass,
+        ty: &Sexp<'_>,
+    ) -> Result<(), Refused>
+        requires { IsWhole self.old }
         ensures whole { IsWhole self.new }
-        ensures does { (m : Checked State) → DeclaresLiterals (state_of self.old) (owned s.now) m → Does result m self.new }
+        ensures does { Does result (step.declare_literals (state_of self.old) class ty.now) self.new }
     {
-        match self.declared(s)? {
-            Declaration::Literal { class, ty } => self.add_literals(class, ty),
-            _ => unreachable!(),
-        }
+        let ty = declared_literals(self.alloc, class, ty, &self.signature, &mut self.table)?;
+        self.add_literals(class, ty)
     }
 
     /// Defines a macro. A macro of the reference file may be repeated with as many parameters and
     /// an equal tree.
-    pub(crate) fn define(&mut self, s: &OwnedSexp) -> Result<(), Refused>
-        requires whole { IsWhole self.old }
-        requires declares { (m : Checked State) × DeclaresMacro (state_of self.old) (owned s.now) m }
+    pub(crate) fn define(
+        &mut self,
+        name: &[u8],
+        params: &ParameterShapes<'_>,
+        body: &Sexp<'_>,
+    ) -> Result<(), Refused>
+        requires { IsWhole self.old }
         ensures whole { IsWhole self.new }
-        ensures does { (m : Checked State) → DeclaresMacro (state_of self.old) (owned s.now) m → Does result m self.new }
+        ensures does { Does result (step.define (state_of self.old) name.now params.now body.now) self.new }
     {
-        match self.declared(s)? {
-            Declaration::Macro(d) => self.add_macro(d),
-            _ => unreachable!(),
-        }
-    }
-
-    // What the command declares.
-    fn declared(&mut self, s: &OwnedSexp) -> Result<Declaration, Refused>
-        requires whole { IsWhole self.old }
-        requires declares { Declares (owned s.now) }
-        ensures whole { IsWhole self.new }
-        ensures same { state_of self.new ≡ state_of self.old }
-        ensures declared { IfOk result (λ d. declared (context (state_of self.old)) (owned s.now) ≡ Ok (read_declaration self.new.table.trees d)) }
-        ensures below { IfOk result (DeclarationBelow (length self.new.table.trees)) }
-        ensures refused { IfErr result (Refuses (declared (context (state_of self.old)) (owned s.now))) }
-    {
-        let d = declaration(self.alloc, s, &self.signature, &mut self.table)?;
-        Ok(d)
+        let d = defined(
+            self.alloc,
+            name,
+            params,
+            body,
+            &self.signature,
+            &mut self.table,
+        )?;
+        self.add_macro(d)
     }
 
     // A constant without parameters.
     fn add_valued(&mut self, d: ConstDecl) -> Result<(), Refused>
         requires whole { IsWhole self.old }
         requires below { ConstBelow (length self.old.table.trees) d }
-        requires may { MayRepeat (state_of self.old) (read_constant self.old.table.trees d) }
+        requires may { MayRepeat (context_in self.old.table self.old.signature) (read_constant self.old.table.trees d) }
         ensures whole { IsWhole self.new }
-        ensures does { Does result (typed_constant (state_of self.old) (read_constant self.old.table.trees d)) self.new }
+        ensures does { Does result (step.typed_constant (state_of self.old) (read_constant self.old.table.trees d)) self.new }
     {
         if !self.table.is_value(d.ty) {
             return Err(Refused::Fault(FaultName::Stuck));
@@ -111,9 +160,9 @@ impl Held {
     fn add_or_repeat(&mut self, d: ConstDecl) -> Result<(), Refused>
         requires whole { IsWhole self.old }
         requires below { ConstBelow (length self.old.table.trees) d }
-        requires may { MayRepeat (state_of self.old) (read_constant self.old.table.trees d) }
+        requires may { MayRepeat (context_in self.old.table self.old.signature) (read_constant self.old.table.trees d) }
         ensures whole { IsWhole self.new }
-        ensures does { Does result (added_constant (state_of self.old) (read_constant self.old.table.trees d)) self.new }
+        ensures does { Does result (step.added_constant (state_of self.old) (read_constant self.old.table.trees d)) self.new }
     {
         match self.signature.lookup(d.name.as_bytes()) {
             None => self.add_constant(d),
@@ -132,7 +181,7 @@ impl Held {
         requires below { ConstBelow (length self.old.table.trees) d }
         requires free { IsFree self.old.signature d.name }
         ensures whole { IsWhole self.new }
-        ensures does { Does result (checked_constant (state_of self.old) (read_constant self.old.table.trees d)) self.new }
+        ensures does { Does result (step.checked_constant (state_of self.old) (read_constant self.old.table.trees d)) self.new }
     {
         self.signature.declare(&self.table, d)?;
         Ok(())
@@ -143,7 +192,7 @@ impl Held {
         requires whole { IsWhole self.old }
         requires below { ty < length self.old.table.trees }
         ensures whole { IsWhole self.new }
-        ensures does { Does result (checked_literals (state_of self.old) class (tree_at self.old.table.trees ty)) self.new }
+        ensures does { Does result (step.checked_literals (state_of self.old) class (tree_in self.old.table ty)) self.new }
     {
         self.signature.set_literal_type(&self.table, class, ty)?;
         Ok(())
@@ -153,9 +202,9 @@ impl Held {
     fn add_macro(&mut self, d: MacroDecl) -> Result<(), Refused>
         requires whole { IsWhole self.old }
         requires below { MacroBelow (length self.old.table.trees) d }
-        requires may { is_free_or_reference (context (state_of self.old)) d.name ≡ true }
+        requires may { MayBeMacro (context_in self.old.table self.old.signature) (read_macro self.old.table.trees d) }
         ensures whole { IsWhole self.new }
-        ensures does { Does result (added_macro (state_of self.old) (read_macro self.old.table.trees d)) self.new }
+        ensures does { Does result (step.added_macro (state_of self.old) (read_macro self.old.table.trees d)) self.new }
     {
         match self.signature.lookup(d.name.as_bytes()) {
             None => {
@@ -176,7 +225,7 @@ impl Held {
         requires whole { IsWhole self.now }
         requires within { IsWithin self.now.signature entry }
         requires below { ConstBelow (length self.now.table.trees) d.now }
-        ensures { result ≡ repeats_constant (state_of self.now) (read_constant self.now.table.trees d.now) (Some (read_named entry)) }
+        ensures { result ≡ step.repeats_constant (state_of self.now) (read_constant self.now.table.trees d.now) (Some (read_named entry)) }
     {
         let Entry::Constant(k) = entry else {
             return false;
@@ -190,7 +239,7 @@ impl Held {
         requires whole { IsWhole self.now }
         requires within { IsWithin self.now.signature entry }
         requires below { MacroBelow (length self.now.table.trees) d.now }
-        ensures { result ≡ repeats_macro (state_of self.now) (read_macro self.now.table.trees d.now) (Some (read_named entry)) }
+        ensures { result ≡ step.repeats_macro (state_of self.now) (read_macro self.now.table.trees d.now) (Some (read_named entry)) }
     {
         let Entry::Macro(k) = entry else {
             return false;
@@ -204,7 +253,7 @@ impl Held {
 
 // Whether nothing is said of how a constant folds its arguments.
 fn is_plain(attribute: Attribute) -> bool
-    ensures { (ts : List Tree) → result ≡ is_plain (read_attribute ts attribute) }
+    ensures { (ts : List Tree) → result ≡ step.is_plain (read_attribute ts attribute) }
 {
     match attribute {
         Attribute::Plain => true,

@@ -5,14 +5,15 @@ ghost use Rattle.eo_run.specs.Ids.{is_named, holds_false};
 use eo_term::{FALSE, Id};
 use indexmap::IndexMap;
 use std::alloc::{AllocError, Global};
+use std::hash::{BuildHasherDefault, DefaultHasher};
 use std::marker::Model;
 
 /// Formulas in the order in which they came, each with a name of its own. A name is found by its
-/// hash.
+/// hash, which is SipHash, since the proof chooses the names.
 #[derive(Drop)]
 pub(crate) struct Facts {
     alloc: Global,
-    formulas: IndexMap<Vec<u8>, Id>,
+    formulas: IndexMap<Vec<u8>, Id, BuildHasherDefault<DefaultHasher>>,
     // Whether one of them is `false`.
     refutes: bool,
 }
@@ -35,7 +36,7 @@ impl Facts {
     {
         Facts {
             alloc,
-            formulas: IndexMap::new(alloc),
+            formulas: IndexMap::with_hasher(alloc, BuildHasherDefault::new()),
             refutes: false,
         }
     }

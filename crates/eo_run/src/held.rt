@@ -1,19 +1,18 @@
 //! What a session holds between two commands.
 ghost use Rattle.std.specs.Prelude.{◌≡◌, ◌<◌, Ok, not, if◌then◌else◌, length, IfOk, IfErr};
-ghost use Rattle.eo_sexp.specs.Owned.{owned};
 ghost use Rattle.eo_term.specs.Tree.{truth as tree_of_truth};
-ghost use Rattle.eo_term.specs.Terms.{tree_at, Grows};
-ghost use Rattle.eo_run.specs.Held.{state_of, IsWhole};
+ghost use Rattle.eo_term.specs.Growth.{tree_in};
+ghost use Rattle.eo_run.specs.Held.{state_of, IsWhole, Keeps};
 ghost use Rattle.eo_run.specs.State.{first_state, is_asserted, has_false, with_assertion};
 ghost use Rattle.eo_run.specs.Step.{is_free_fact, value, typed, formula, assume as assumed, assert as asserted, asserted_truth};
-ghost use Rattle.eo_run.specs.Stepping.{HasKind, Refuses, Does};
+ghost use Rattle.eo_run.specs.Stepping.{GivesTerm, GivesKind, Does};
 
 use crate::Refused;
 use crate::assertions::Assertions;
 use crate::facts::Facts;
 use eo_base::FaultName;
 use eo_elab::{Locals, term};
-use eo_sexp::OwnedSexp;
+use eo_sexp::Sexp;
 use eo_shape::symbol;
 use eo_sig::{Signature, is_reserved};
 use eo_term::{FALSE, Id, TRUE, Table};
@@ -65,10 +64,10 @@ impl Held {
     }
 
     /// Adds a formula that is asserted to the facts, by a name that is free.
-    pub(crate) fn assume(&mut self, name: &[u8], formula: &OwnedSexp) -> Result<(), Refused>
+    pub(crate) fn assume(&mut self, name: &[u8], formula: &Sexp<'_>) -> Result<(), Refused>
         requires { IsWhole self.old }
         ensures whole { IsWhole self.new }
-        ensures does { Does result (assumed (state_of self.old) name.now (owned formula.now)) self.new }
+        ensures does { Does result (assumed (state_of self.old) name.now formula.now) self.new }
     {
         if self.is_taken(name) {
             return Err(Refused::Fault(FaultName::Redeclared));
@@ -85,10 +84,10 @@ impl Held {
     }
 
     /// Adds a formula to those that are asserted.
-    pub(crate) fn assert(&mut self, formula: &OwnedSexp) -> Result<(), Refused>
+    pub(crate) fn assert(&mut self, formula: &Sexp<'_>) -> Result<(), Refused>
         requires { IsWhole self.old }
         ensures whole { IsWhole self.new }
-        ensures does { Does result (asserted (state_of self.old) (owned formula.now)) self.new }
+        ensures does { Does result (asserted (state_of self.old) formula.now) self.new }
     {
         let formula = truth(formula)?;
         self.add_assertion(formula)
@@ -100,8 +99,7 @@ impl Held {
         ensures whole { IsWhole self.new }
         ensures does { Does result (Ok (with_assertion (state_of self.old) (tree_of_truth truth))) self.new }
     {
-        // The table tells what its first terms are.
-        let _ = self.table.len();
+        self.table.laws();
         self.assertions.add(term_of(truth))?;
         Ok(())
     }
@@ -111,8 +109,7 @@ impl Held {
         requires { IsWhole self.now }
         ensures { result ≡ has_false (state_of self.now).facts }
     {
-        // The table tells that equal terms have equal numbers.
-        let _ = self.table.len();
+        self.table.laws();
         self.facts.refutes()
     }
 
@@ -127,21 +124,17 @@ impl Held {
     fn is_asserted(&self, formula: Id) -> bool
         requires whole { IsWhole self.now }
         requires live { formula < length self.now.table.trees }
-        ensures { result ≡ is_asserted (state_of self.now) (tree_at self.now.table.trees formula) }
+        ensures { result ≡ is_asserted (state_of self.now) (tree_in self.now.table formula) }
     {
-        // The table tells that equal terms have equal numbers.
-        let _ = self.table.len();
+        self.table.laws();
         self.assertions.has(formula)
     }
 
     // The value of a term, which is a formula.
-    fn formula(&mut self, s: &OwnedSexp) -> Result<Id, Refused>
+    fn formula(&mut self, s: &Sexp<'_>) -> Result<Id, Refused>
         requires { IsWhole self.old }
-        ensures whole { IsWhole self.new }
-        ensures same { state_of self.new ≡ state_of self.old }
-        ensures value { IfOk result (λ i. formula (state_of self.old) (owned s.now) ≡ Ok (tree_at self.new.table.trees i)) }
-        ensures live { IfOk result (λ i. i < length self.new.table.trees) }
-        ensures refused { IfErr result (Refuses (formula (state_of self.old) (owned s.now))) }
+        ensures gives { GivesTerm self.new result (formula (state_of self.old) s.now) }
+        ensures keeps { Keeps self.old self.new }
     {
         let value = self.value(s)?;
         if !self.has_kind(value, BOOL_CONSTANT)? {
@@ -155,12 +148,8 @@ impl Held {
     pub(crate) fn has_kind(&mut self, id: Id, number: usize) -> Result<bool, Refused>
         requires whole { IsWhole self.old }
         requires live { id < length self.old.table.trees }
-        ensures whole { IsWhole self.new }
-        ensures same { state_of self.new ≡ state_of self.old }
-        ensures signature { self.new.signature ≡ self.old.signature }
-        ensures grows { Grows self.old.table self.new.table }
-        ensures kind { IfOk result (λ b. HasKind (typed (state_of self.old) (tree_at self.old.table.trees id)) number b) }
-        ensures refused { IfErr result (Refuses (typed (state_of self.old) (tree_at self.old.table.trees id))) }
+        ensures gives { GivesKind number result (typed (state_of self.old) (tree_in self.old.table id)) }
+        ensures keeps { Keeps self.old self.new }
     {
         let Some(ty) = self.types.type_of(&self.signature, &mut self.table, id)? else {
             return Err(Refused::Fault(FaultName::IllTyped));
@@ -172,13 +161,10 @@ impl Held {
     }
 
     // The value of a term.
-    fn value(&mut self, s: &OwnedSexp) -> Result<Id, Refused>
+    fn value(&mut self, s: &Sexp<'_>) -> Result<Id, Refused>
         requires { IsWhole self.old }
-        ensures whole { IsWhole self.new }
-        ensures same { state_of self.new ≡ state_of self.old }
-        ensures value { IfOk result (λ i. value (state_of self.old) (owned s.now) ≡ Ok (tree_at self.new.table.trees i)) }
-        ensures live { IfOk result (λ i. i < length self.new.table.trees) }
-        ensures refused { IfErr result (Refuses (value (state_of self.old) (owned s.now))) }
+        ensures gives { GivesTerm self.new result (value (state_of self.old) s.now) }
+        ensures keeps { Keeps self.old self.new }
     {
         let locals = Locals::new(self.alloc)?;
         let id = term(self.alloc, s, &locals, &self.signature, &mut self.table)?;
@@ -197,8 +183,8 @@ fn term_of(truth: bool) -> Id
 }
 
 /// The formula that is the symbol `true` or `false`; anything else is an `UnknownSymbol`.
-fn truth(s: &OwnedSexp) -> Result<bool, FaultName>
-    ensures exact { result ≡ asserted_truth (owned s.now) }
+fn truth(s: &Sexp<'_>) -> Result<bool, FaultName>
+    ensures exact { result ≡ asserted_truth s.now }
     ensures unknown { IfErr result (λ name. name ≡ FaultName.UnknownSymbol) }
 {
     let Some(word) = symbol(s) else {

@@ -16,9 +16,9 @@ mod session;
 
 pub use checking::check_files;
 use eo_base::{Fault, Text};
-pub use printing::print_verdict;
+pub use printing::{print_line, print_verdict};
 pub use refused::Refused;
-pub use session::{EndAnswer, Origin, Session};
+pub use session::{EndAnswer, Session};
 
 /// What is to be checked.
 #[derive(Debug, Drop)]
@@ -31,6 +31,15 @@ pub struct CheckJob {
     pub proof: Text,
     /// Whether the proof may declare no rules and no programs.
     pub closed: bool,
+}
+
+/// The file that a command stands in.
+#[derive(Clone, Copy, Debug, PartialEq, Eq)]
+pub enum Origin {
+    /// The proof.
+    Proof,
+    /// The reference file.
+    Reference,
 }
 
 /// What a check or a load answers.

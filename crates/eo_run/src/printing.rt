@@ -107,8 +107,11 @@ fn refusal_pieces<'a>(
     ]
 }
 
-/// Writes a line, and answers the status that goes with it, or `WriteFault`.
-fn print_line<W: Sink>(out: &mut W, status: Status, pieces: &[&[u8]]) -> Status
+/// Writes a line in pieces, and answers the status that goes with it.
+///
+/// `WriteFault` comes only where the sink's count of faults rose. Then a front of the line is
+/// written.
+pub fn print_line<W: Sink>(out: &mut W, status: Status, pieces: &[&[u8]]) -> Status
     requires { status ≢ Status.WriteFault }
     ensures due { WritesDue result (line_due status (text_of pieces.now)) (W.written out.old) (W.written out.new) }
     ensures cause { result ≡ Status.WriteFault → Rose (W.faults out.old) (W.faults out.new) }

@@ -1,13 +1,11 @@
 //! Reading a file in pieces, and checking each command as it comes.
-ghost use Rattle.std.specs.Prelude.{◌≡◌, ◌≢◌, ◌<◌, ◌≤◌, false, [], Err, IfSome, OnOk, length};
-ghost use Rattle.eo_base.specs.Causes.{Rose};
+ghost use Rattle.std.specs.Prelude.{◌≡◌, ◌≢◌, ◌<◌, false, [], OnOk, length};
 ghost use Rattle.eo_base.specs.Limits.{limits};
-ghost use Rattle.eo_sexp.specs.Collecting.{IsLive, IsAtCommand, HasRoom, Taken, AtCommand};
+ghost use Rattle.eo_sexp.specs.Collecting.{IsLive, IsAtCommand, HasRoom};
 ghost use Rattle.eo_sexp.specs.Cutting.{IsWaiting};
-ghost use Rattle.eo_sexp.specs.Texts.{Phase, Placed};
-ghost use Rattle.eo_run.specs.declared.reading.Stop.TheVariants.{ReadFault, Memory};
-ghost use Rattle.eo_run.specs.Stepping.{origin_of};
-ghost use Rattle.eo_run.specs.Reading.{IsPresent, HasRead, ChecksCommand, ChecksPiece, ChecksEnd, StaysOpen, RunsOpen, RunsFile, StopHasCause};
+ghost use Rattle.eo_run.specs.declared.reading.Stop.TheVariants.{Memory};
+ghost use Rattle.eo_run.specs.Reading.{IsOfText, IsOfFile, GoesOn, LibraryStays, ChecksLast};
+ghost use Rattle.eo_run.specs.Reading.{ChecksPiece, ChecksEnd, StaysOpen, RunsOpen, RunsFile, StopHasCause};
 
 use crate::{Origin, Refused, Session};
 use eo_base::{FaultName, limits};
@@ -52,11 +50,9 @@ pub(crate) fn check_file<L: Library>(
     requires buffer { 0 < length buffer.old }
     requires going { session.old.ended ≡ false }
     ensures going { OnOk result (session.new.ended ≡ false) }
-    ensures runs { IfSome (L.told files.old) (λ told. RunsFile told path.now (origin_of from) result session.old.state session.new.state) }
+    ensures runs { RunsFile (L.told files.old) path.now from result session.old.state session.new.state }
     ensures cause { StopHasCause result (L.told files.old) (L.faults files.old) (L.faults files.new) }
-    ensures same { L.told files.new ≡ L.told files.old }
-    ensures closed { L.open_files files.new ≡ L.open_files files.old }
-    ensures later { L.faults files.old ≤ L.faults files.new }
+    ensures stays { LibraryStays L.told L.open_files L.faults files.old files.new }
 {
     match files.open(path) {
         Opened::Absent => Err(Stop::Fault {
@@ -84,16 +80,14 @@ fn check_open<L: Library>(
     requires buffer { 0 < length buffer.old }
     requires going { session.old.ended ≡ false }
     ensures going { OnOk result (session.new.ended ≡ false) }
-    ensures runs { RunsOpen (origin_of from) result session.old.state session.new.state (L.open_files files.old) }
-    ensures present { IsPresent result }
-    ensures cause { result ≡ Err ReadFault → Rose (L.faults files.old) (L.faults files.new) }
-    ensures same { L.told files.new ≡ L.told files.old }
+    ensures runs { RunsOpen from result session.old.state session.new.state (L.open_files files.old) }
+    ensures of_file { IsOfFile result (L.faults files.old) (L.faults files.new) }
     ensures stays { StaysOpen (L.open_files files.old) (L.open_files files.new) }
-    ensures later { L.faults files.old ≤ L.faults files.new }
+    ensures goes_on { GoesOn L.told L.faults files.old files.new }
 {
     pieces_law();
     answers_law();
-    let mut collector = Collector::new(alloc, !from.is_reference())?;
+    let mut collector = Collector::new(alloc, from.is_proof())?;
     let mut left = limits::FILE;
     'pieces: loop {
         let n = match files.read(buffer) {
@@ -127,9 +121,8 @@ fn check_piece(
     requires room { HasRoom collector.old piece.now }
     requires going { session.old.ended ≡ false }
     ensures going { OnOk result (session.new.ended ≡ false) }
-    ensures checks { ChecksPiece (origin_of from) result session.old.state session.new.state collector.old collector.new piece.now }
-    ensures present { IsPresent result }
-    ensures read { HasRead result }
+    ensures checks { ChecksPiece from result session.old.state session.new.state collector.old collector.new piece.now }
+    ensures of_text { IsOfText result }
 {
     pieces_law();
     answers_law();
@@ -154,9 +147,8 @@ fn check_end(collector: &mut Collector, from: Origin, session: &mut Session) -> 
     requires waiting { IsWaiting limits collector.old }
     requires going { session.old.ended ≡ false }
     ensures going { OnOk result (session.new.ended ≡ false) }
-    ensures checks { ChecksEnd (origin_of from) result session.old.state session.new.state collector.old }
-    ensures present { IsPresent result }
-    ensures read { HasRead result }
+    ensures checks { ChecksEnd from result session.old.state session.new.state collector.old }
+    ensures of_text { IsOfText result }
 {
     pieces_law();
     answers_law();
@@ -169,19 +161,16 @@ fn check_end(collector: &mut Collector, from: Origin, session: &mut Session) -> 
     }
 }
 
-/// Takes the last command out of the collector, and checks it.
-fn check_command(collector: &mut Collector, from: Origin, session: &mut Session) -> Result<(), Stop>
-    requires command { IsAtCommand collector.old }
+/// Checks the last command of the collector, which stays as it is.
+fn check_command(collector: &Collector, from: Origin, session: &mut Session) -> Result<(), Stop>
+    requires command { IsAtCommand collector.now }
     requires going { session.old.ended ≡ false }
     ensures going { OnOk result (session.new.ended ≡ false) }
-    ensures takes { (k : Placed) (phase : Phase) → collector.old ≡ AtCommand k phase → collector.new ≡ Taken k.bytes k.start phase }
-    ensures checks { (k : Placed) (phase : Phase) → collector.old ≡ AtCommand k phase → ChecksCommand (origin_of from) result session.old.state session.new.state k }
-    ensures present { IsPresent result }
-    ensures read { HasRead result }
+    ensures checks { ChecksLast from result session.old.state session.new.state collector.now }
+    ensures of_text { IsOfText result }
 {
     let at = collector.start();
-    let command = collector.take();
-    match session.command(&command, from) {
+    match session.command(&collector.command(), from) {
         Ok(()) => Ok(()),
         Err(Refused::Fault(name)) => Err(Stop::Fault { name, at }),
         Err(Refused::Ended) => unreachable!(),

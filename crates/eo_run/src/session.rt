@@ -1,34 +1,35 @@
 //! A run between two commands.
-ghost use Rattle.std.specs.Prelude.{◌≡◌, ◌≢◌, true, false, IfOk, None, Err};
+ghost use Rattle.std.specs.Prelude.{◌≡◌, ◌≢◌, false, true, IfOk, Err};
 ghost use Rattle.eo_base.specs.declared.FaultName.TheVariants.{FileAbsent};
-ghost use Rattle.eo_sexp.specs.Owned.{owned};
 ghost use Rattle.eo_run.specs.declared.refused.Refused.TheVariants.{Fault};
 ghost use Rattle.eo_run.specs.Held.{state_of, IsWhole};
 ghost use Rattle.eo_run.specs.State.{first_state, begin_reference, end_fault};
-ghost use Rattle.eo_run.specs.Step.{is_in_reference, uncounted, step};
-ghost use Rattle.eo_run.specs.Stepping.{origin_of, Does, Steps, EndsWith};
+ghost use Rattle.eo_run.specs.Step.{is_in_proof, is_in_reference, by_command, uncounted, step};
+ghost use Rattle.eo_shape.specs.Reading.{read_command};
+ghost use Rattle.eo_run.specs.Stepping.{Does, Steps, EndsWith};
 
-use crate::Refused;
 use crate::held::Held;
+use crate::{Origin, Refused};
 use eo_base::FaultName;
-use eo_sexp::OwnedSexp;
+use eo_sexp::Sexp;
 use eo_shape::{Command, command_of};
 use std::alloc::{AllocError, Global};
 use std::marker::Model;
 
-/// The file that a command stands in.
-#[derive(Clone, Copy, Debug, PartialEq, Eq)]
-pub enum Origin {
-    /// The proof.
-    Proof,
-    /// The reference file.
-    Reference,
-}
-
 impl Origin {
+    /// Whether it is a proof.
+    pub(crate) fn is_proof(self) -> bool
+        ensures { result ≡ is_in_proof self }
+    {
+        match self {
+            Origin::Proof => true,
+            Origin::Reference => false,
+        }
+    }
+
     /// Whether it is a reference file.
     pub(crate) fn is_reference(self) -> bool
-        ensures { result ≡ is_in_reference (origin_of self) }
+        ensures { result ≡ is_in_reference self }
     {
         match self {
             Origin::Proof => false,
@@ -100,19 +101,23 @@ impl Session {
     /// Checks a command, and does what it says. A fault is that of the command's shape
     /// (`BadCommand`, `UnknownCommand`), and then the first of its own checks, in this order:
     ///
-    /// | command | checks |
-    /// |---|---|
-    /// | `declare-const`, `declare-fun`, `declare-sort` | `Redeclared`; the terms; `BadPattern`; `Stuck`: the type holds an operator; `IllTyped`: its type is not `Type`, or `NumberRange`, `TermHeight`; `Redeclared`: another constant than that of the reference file |
-    /// | `declare-parameterized-const` | `Redeclared`; `Parameters`; the terms; `TermHeight`; `BadPattern`; `UnboundParam` |
-    /// | `declare-consts` | `Redeclared`: the class has a type; the term; `BadPattern` |
-    /// | `define` | `Redeclared`; `Parameters`; the terms; `Redeclared`: another macro than that of the reference file |
-    /// | `assume` | `Redeclared`: a fact has the name, or it is reserved; the term; `Stuck`: it holds an operator; `IllTyped`, `NumberRange`, `TermHeight`: it has no type that is a value; `NotBool`: its type is not `Bool`; `NoReference`; `NotAsserted` |
-    /// | `assert` | `UnknownSymbol`: it is neither `true` nor `false` |
+    /// - `declare-const`, `declare-fun`, `declare-sort`: `Redeclared`; the terms; `BadPattern`;
+    ///   `Stuck`: the type holds an operator; `IllTyped`: its type is not `Type`, or `NumberRange`,
+    ///   `TermHeight`; `Redeclared`: another constant than that of the reference file.
+    /// - `declare-parameterized-const`: `Redeclared`; `Parameters`; the terms; `TermHeight`;
+    ///   `BadPattern`; `UnboundParam`.
+    /// - `declare-consts`: `Redeclared`: the class has a type; the term; `BadPattern`.
+    /// - `define`: `Redeclared`; `Parameters`; the terms; `Redeclared`: another macro than that of
+    ///   the reference file.
+    /// - `assume`: `Redeclared`: a fact has the name, or it is reserved; the term; `Stuck`: it holds
+    ///   an operator; `IllTyped`, `NumberRange`, `TermHeight`: it has no type that is a value;
+    ///   `NotBool`: its type is not `Bool`; `NoReference`; `NotAsserted`.
+    /// - `assert`: `UnknownSymbol`: it is neither `true` nor `false`.
     ///
     /// The faults of a term are those that [`eo_elab::term`] answers. `Ended`: an earlier call was
     /// refused. `Memory`: want of memory.
-    pub fn command(&mut self, s: &OwnedSexp, from: Origin) -> Result<(), Refused>
-        ensures steps { Steps result (step self.old.state (origin_of from) (owned s.now)) self.old self.new }
+    pub fn command(&mut self, s: &Sexp<'_>, from: Origin) -> Result<(), Refused>
+        ensures steps { Steps result (step self.old.state from s.now) self.old self.new }
         ensures present { result ≢ Err (Fault FileAbsent) }
     {
         if self.ended {
@@ -154,18 +159,41 @@ impl Session {
 }
 
 // Checks a command, and does what it says.
-fn run_command(held: &mut Held, s: &OwnedSexp, from: Origin) -> Result<(), Refused>
+fn run_command(held: &mut Held, s: &Sexp<'_>, from: Origin) -> Result<(), Refused>
     requires { IsWhole held.old }
     ensures whole { IsWhole held.new }
-    ensures does { Does result (uncounted (state_of held.old) (origin_of from) (owned s.now)) held.new }
+    ensures does { Does result (uncounted (state_of held.old) from s.now) held.new }
 {
-    match command_of(s, from.is_reference())? {
-        Command::DeclareConst { .. } => held.declare_constant(s),
-        Command::DeclareFun { .. } => held.declare_constant(s),
-        Command::DeclareSort { .. } => held.declare_constant(s),
-        Command::DeclareParameterized { .. } => held.declare_parameterized(s),
-        Command::DeclareLiterals { .. } => held.declare_literals(s),
-        Command::Define { .. } => held.define(s),
+    let command = command_of(s, from.is_reference())?;
+    run_shape(held, &command)
+}
+
+// Does what a command says.
+fn run_shape(held: &mut Held, command: &Command<'_>) -> Result<(), Refused>
+    requires { IsWhole held.old }
+    ensures whole { IsWhole held.new }
+    ensures does { Does result (by_command (state_of held.old) (read_command command.now)) held.new }
+{
+    match command {
+        Command::DeclareConst {
+            name,
+            ty,
+            attribute,
+        } => held.declare_const(name, ty, attribute),
+        Command::DeclareFun {
+            name,
+            inputs,
+            output,
+        } => held.declare_fun(name, inputs, output),
+        Command::DeclareSort { name, arity } => held.declare_sort(name, *arity),
+        Command::DeclareParameterized {
+            name,
+            params,
+            ty,
+            attribute,
+        } => held.declare_parameterized(name, params, ty, attribute),
+        Command::DeclareLiterals { class, ty } => held.declare_literals(*class, ty),
+        Command::Define { name, params, body } => held.define(name, params, body),
         Command::Assume { name, formula } => held.assume(name, formula),
         Command::Assert { formula } => held.assert(formula),
     }

@@ -4,7 +4,7 @@ use Rattle.std.proofs.Math.Seq.{take-append_seam}
 use Rattle.eo_base.specs.Limits.{Limits}
 use Rattle.eo_sexp.specs.declared.Spot.{Spot}
 use Rattle.eo_sexp.specs.Texts.{Next, Command, End, Fault, next_from, Phase, Held, hold, is_unsat, if_pair, begins_pair, before_pair, if_unsat, settled, settle, end_of, from_front, answer, so_far, next_spot, spot_after}
-use Rattle.eo_sexp.specs.Collecting.{Collecting, Within, AtCommand, Taken, Failed, NoMemory, here_of, IsWithin, ready, becomes, waiting, fed_from, fed_with, finished_from, finished_with}
+use Rattle.eo_sexp.specs.Collecting.{Collecting, Within, AtCommand, Failed, NoMemory, here_of, IsWithin, ready, becomes, waiting, fed_from, fed_with, finished_from, finished_with}
 use Rattle.eo_sexp.specs.Lexicon.{pass}
 use Rattle.eo_sexp.specs.Commands.{front}
 use Rattle.eo_sexp.specs.Answering.{BeginsWaiting, CountsPieces, EndStays}
@@ -43,7 +43,6 @@ module _ (limits : Limits) where
   unfolding spot_after fed_from
   counts (Within phase comment start begun) p w = here-fed phase comment start begun p w
   counts (AtCommand k phase) p w = here-fed phase false (spot_after k.start k.bytes) [] p w
-  counts (Taken bytes start phase) p w = here-fed phase false (spot_after start bytes) [] p w
   counts (Failed name at) p w = absurd w
   counts NoMemory p w = absurd w
 
@@ -67,6 +66,5 @@ module _ (limits : Limits) where
   unfolding finished_with finished_from spot_after
   end_stays (Within phase comment start begun) w = ap here_of (becomes-within start begun (Within phase comment start begun) (next_from limits true phase comment begun) w)
   end_stays (AtCommand k phase) w = ap here_of (becomes-within (spot_after k.start k.bytes) [] (Within phase false (spot_after k.start k.bytes) []) (next_from limits true phase false []) w)
-  end_stays (Taken bytes start phase) w = ap here_of (becomes-within (spot_after start bytes) [] (Within phase false (spot_after start bytes) []) (next_from limits true phase false []) w)
   end_stays (Failed name at) w = absurd w
   end_stays NoMemory w = absurd w

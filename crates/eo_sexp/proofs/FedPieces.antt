@@ -9,10 +9,12 @@ use Rattle.eo_sexp.specs.declared.incremental.State.{State}
 use Rattle.eo_sexp.specs.declared.incremental.State.TheVariants as state
 use Rattle.eo_sexp.specs.declared.incremental.Machine.{Machine}
 use Rattle.eo_sexp.specs.Sexp.{Sexp}
+use Rattle.eo_sexp.specs.Built.{Built, nothing}
+use Rattle.eo_sexp.specs.Reader.{held}
 use Rattle.eo_sexp.specs.Lexicon.{class, pass}
 use Rattle.eo_sexp.specs.Commands.{Cut, at_most, front, sexp, command}
 use Rattle.eo_sexp.specs.Texts.{Next, Command, End, Fault, SoFar, Known, More, settle, answer, so_far, known, begins_pair, from_front, placed, spot_after}
-use Rattle.eo_sexp.specs.Collecting.{Collecting, Within, AtCommand, Taken, Failed, NoMemory, IsWithin, becomes, waiting, on_more, fed_from}
+use Rattle.eo_sexp.specs.Collecting.{Collecting, Within, AtCommand, Failed, NoMemory, IsWithin, becomes, waiting, on_more, fed_from}
 use Rattle.eo_sexp.specs.Machine.{phase_of, meaning_at, meaning, IsFirst, IsProofStart, IsPairFact, IsBegun, IsSoundAt, IsSound}
 use Rattle.eo_sexp.proofs.LimitFacts.{some_nesting}
 use Rattle.eo_sexp.proofs.Answered.{answer-extends}
@@ -42,7 +44,6 @@ becomes-more start bytes more w v (Fault name at) h = ap (λ bs. Failed name (sp
 pub fed-stays : (c : Collecting) (p q : List ℕ) → (IsWithin (fed_from limits c p) → ⊥) → fed_from limits c (p ++ q) ≡ fed_from limits c p
 unfolding fed_from on_more waiting so_far state_of
 fed-stays (AtCommand k phase) p q n = refl
-fed-stays (Taken bytes start phase) p q n = refl
 fed-stays (Failed name at) p q n = refl
 fed-stays NoMemory p q n = refl
 fed-stays (Within phase comment start b) p q n = go (answer limits (settle limits phase comment (record { at = 0; bytes = b ++ p }))) refl n
@@ -68,46 +69,45 @@ first-some [] h = absurd h
 first-some (y ∷ zs) h = (y, zs, refl)
 
 -- the command begun is not whole
-pub begun-cut : (m : Machine) → IsBegun m → (e : Option Sexp) × (sexp limits (front m.begun.items) (record { at = 0; bytes = m.begun.items }) ≡ Cut e) × (command limits m.begun.items ≡ Cut e)
+pub begun-cut : (m : Machine) → IsBegun m → (e : Option Sexp) × (sexp limits (front m.begun.bytes) (record { at = 0; bytes = m.begun.bytes }) ≡ Cut e) × (command limits m.begun.bytes ≡ Cut e)
 unfolding command
 begun-cut m h =
-    let r = reader-cut limits m.reader (length m.begun.items) h.reader in
-    let s : sexp limits (front m.begun.items) (record { at = 0; bytes = m.begun.items }) ≡ Cut r.0 =
-    ap (λ bs. sexp limits (front m.begun.items) (record { at = 0; bytes = bs })) (sym (append-nil m.begun.items)) ∙ h.reads [] ∙ r.1 in
-    (r.0, s, ap (at_most CommandLong limits.command (record { at = 0; bytes = m.begun.items })) s ∙ at_most-cut CommandLong limits.command (record { at = 0; bytes = m.begun.items }) r.0 h.short)
+    let r = reader-cut limits (held m.begun m.reader) (length m.begun.bytes) h.reader in
+    let s : sexp limits (front m.begun.bytes) (record { at = 0; bytes = m.begun.bytes }) ≡ Cut r.0 =
+    ap (λ bs. sexp limits (front m.begun.bytes) (record { at = 0; bytes = bs })) (sym (append-nil m.begun.bytes)) ∙ h.reads [] ∙ r.1 in
+    (r.0, s, ap (at_most CommandLong limits.command (record { at = 0; bytes = m.begun.bytes })) s ∙ at_most-cut CommandLong limits.command (record { at = 0; bytes = m.begun.bytes }) r.0 h.short)
 
-idle-begun : (m : Machine) → IsBegun m → IsPairFact m.state (phase_of m.phase) m.begun.items → fed_from limits (meaning m) [] ≡ meaning m
+idle-begun : (m : Machine) → IsBegun m → IsPairFact m.state (phase_of m.phase) m.begun.bytes → fed_from limits (meaning m) [] ≡ meaning m
 unfolding front
 idle-begun m h p =
     let c = begun-cut m h in
-    ap (λ v. fed_from limits v []) (begun-meaning m.state (phase_of m.phase) m.begun.items (phase_of m.phase) m.start m.begun.items p)
-    ∙ go m.begun.items refl h.first (pair-off m.state (phase_of m.phase) m.begun.items h.first p) c.2
-    ∙ on-cut limits (phase_of m.phase) m.start m.begun.items c.0
-    ∙ sym (begun-meaning m.state (phase_of m.phase) m.begun.items (phase_of m.phase) m.start m.begun.items p)
+    ap (λ v. fed_from limits v []) (begun-meaning m.state (phase_of m.phase) m.begun.bytes (phase_of m.phase) m.start m.begun p)
+    ∙ go m.begun.bytes refl h.first (pair-off m.state (phase_of m.phase) m.begun.bytes h.first p) c.2
+    ∙ on-cut limits (phase_of m.phase) m.start m.begun.bytes c.0
+    ∙ sym (begun-meaning m.state (phase_of m.phase) m.begun.bytes (phase_of m.phase) m.start m.begun p)
   where
-    go : (bytes : List ℕ) → m.begun.items ≡ bytes → IsFirst (front bytes) → (IsProofStart (phase_of m.phase) → begins_pair limits (front bytes) (record { at = 0; bytes = bytes }) ≡ false) →
+    go : (bytes : List ℕ) → m.begun.bytes ≡ bytes → IsFirst (front bytes) → (IsProofStart (phase_of m.phase) → begins_pair limits (front bytes) (record { at = 0; bytes = bytes }) ≡ false) →
         command limits bytes ≡ Cut (begun-cut m h).0 →
-        fed_from limits (Within (phase_of m.phase) false m.start m.begun.items) [] ≡ on_more m.start bytes (begun (phase_of m.phase) bytes) (known (phase_of m.phase) (record { at = 0; bytes = bytes }) (Cut (begun-cut m h).0))
+        fed_from limits (Within (phase_of m.phase) false m.start m.begun.bytes) [] ≡ on_more m.start bytes (begun (phase_of m.phase) bytes) (known (phase_of m.phase) (record { at = 0; bytes = bytes }) (Cut (begun-cut m h).0))
     go [] e f o c = absurd f
-    go (y ∷ zs) e f o c = fed-first limits y zs f (phase_of m.phase) m.start m.begun.items [] (Cut (begun-cut m h).0) (append-nil m.begun.items ∙ e) h.inside o c (λ q. unsat-cut limits (class y) (y ∷ zs) (begun-cut m h).0)
+    go (y ∷ zs) e f o c = fed-first limits y zs f (phase_of m.phase) m.start m.begun.bytes [] (Cut (begun-cut m h).0) (append-nil m.begun.bytes ∙ e) h.inside o c (λ q. unsat-cut limits (class y) (y ∷ zs) (begun-cut m h).0)
 
-idle-between : (m : Machine) (c : Bool) → m.begun.items ≡ [] → fed_from limits (Within (phase_of m.phase) c m.start m.begun.items) [] ≡ Within (phase_of m.phase) c m.start m.begun.items
+idle-between : (m : Machine) (c : Bool) → m.begun ≡ nothing → fed_from limits (Within (phase_of m.phase) c m.start m.begun.bytes) [] ≡ Within (phase_of m.phase) c m.start m.begun.bytes
 unfolding fed_from settle pass on_more answer from_front waiting spot_after state_of
 idle-between m c b =
-    ap (λ bs. fed_from limits (Within (phase_of m.phase) c m.start bs) []) b
+    ap (λ (v : Built). fed_from limits (Within (phase_of m.phase) c m.start v.bytes) []) b
     ∙ ap (state_of limits m.start []) (settled-none limits (phase_of m.phase) c 0)
-    ∙ ap (Within (phase_of m.phase) c m.start) (sym b)
+    ∙ ap (λ (v : Built). Within (phase_of m.phase) c m.start v.bytes) (sym b)
 
 pub idle : (m : Machine) → IsSound m → IsWithin (meaning m) → fed_from limits (meaning m) [] ≡ meaning m
 idle m s w = go m.state refl s w
   where
-    go : (q : State) → m.state ≡ q → IsSoundAt q m → IsWithin (meaning_at q (phase_of m.phase) m.start m.begun.items) →
+    go : (q : State) → m.state ≡ q → IsSoundAt q m → IsWithin (meaning_at q (phase_of m.phase) m.start m.begun) →
         fed_from limits (meaning m) [] ≡ meaning m
     go (state.Between c) e s w =
-        ap (λ q. fed_from limits (meaning_at q (phase_of m.phase) m.start m.begun.items) []) e ∙ idle-between m c s.0 ∙ sym (ap (λ q. meaning_at q (phase_of m.phase) m.start m.begun.items) e)
+        ap (λ q. fed_from limits (meaning_at q (phase_of m.phase) m.start m.begun) []) e ∙ idle-between m c s.0 ∙ sym (ap (λ q. meaning_at q (phase_of m.phase) m.start m.begun) e)
     go state.Begun e s w = idle-begun m s.0 s.1
     go (state.Pair c) e s w = idle-begun m s.0 s.1
-    go (state.Command k) e s w = absurd w
-    go state.Taken e s w = absurd w
+    go state.Command e s w = absurd w
     go (state.Failed name at) e s w = absurd w
     go state.NoMemory e s w = absurd w

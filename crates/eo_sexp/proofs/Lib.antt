@@ -13,7 +13,6 @@ pub mod Telling
 pub mod TokenTurns
 pub mod TokenEnds
 pub mod OpenFrames
-pub mod OwnedViews
 pub mod ReaderTurns
 pub mod TokenBegins
 pub mod ReaderSteps
@@ -29,3 +28,14 @@ pub mod FedEnds
 pub mod Callers
 mod Vectors
 pub mod Naming
+pub mod Parts
+pub mod Building
+pub mod ChildCounts
+pub mod TokenPlaces
+pub mod Sizes
+pub mod RunSteps
+pub mod FedRuns
+pub mod PlainTables
+pub mod TokenRuns
+pub mod CommentRuns
+pub mod PassRuns

@@ -25,3 +25,7 @@ nesting_is = refl
 pub command_is : limits.command ≡ 16_777_216
 unfolding limits
 command_is = refl
+
+pub token_is : limits.token ≡ 1_048_576
+unfolding limits
+token_is = refl

@@ -7,8 +7,8 @@ use Rattle.eo_base.specs.declared.FaultName.{FaultName}
 use Rattle.eo_base.specs.declared.FaultName.TheVariants.{CommandLong, TokenLong}
 use Rattle.eo_base.specs.Limits.{limits}
 use Rattle.eo_sexp.specs.declared.Spot.{Spot}
-use Rattle.eo_sexp.specs.declared.owned.OwnedSexp.{OwnedSexp}
 use Rattle.eo_sexp.specs.declared.reader.Reader.{Reader}
+use Rattle.eo_sexp.specs.Built.{Built, nothing, with_byte}
 use Rattle.eo_sexp.specs.declared.reader.ReaderTurn.TheVariants as turn
 use Rattle.eo_sexp.specs.declared.incremental.State.{State}
 use Rattle.eo_sexp.specs.declared.incremental.State.TheVariants as state
@@ -17,14 +17,14 @@ use Rattle.eo_sexp.specs.Sexp.{Sexp}
 use Rattle.eo_sexp.specs.Lexicon.{Class, Open, Quote, Bar, Word, class, is_space, is_word, Input, Passed, pass, skip, advance}
 use Rattle.eo_sexp.specs.Commands.{Reading, Whole, Refused, Cut, at_most, front, word, word_before, atom, sexp, command}
 use Rattle.eo_sexp.specs.Texts.{Phase, Start, AfterUnsat, InPair, AfterPair, after, is_parenthesis, is_unsat, begins_pair, known, spot_after, next_spot}
-use Rattle.eo_sexp.specs.Collecting.{Within, Failed, fed_from, on_more}
-use Rattle.eo_sexp.specs.Owned.{owned}
+use Rattle.eo_sexp.specs.Collecting.{Within, AtCommand, Failed, fed_from, on_more}
 use Rattle.eo_sexp.specs.declared.classes.Class.{Class as ByteClass}
 use Rattle.eo_sexp.specs.declared.classes.Class.TheVariants as byte
 use Rattle.eo_sexp.specs.declared.incremental.Phase.{Phase as FilePhase}
 use Rattle.eo_sexp.specs.declared.incremental.Phase.TheVariants as file
 use Rattle.eo_sexp.specs.Token.{class_of}
-use Rattle.eo_sexp.specs.Reader.{IsAtom, IsReader, Turns, Begins, reading}
+use Rattle.eo_sexp.specs.Nodes.{first_of}
+use Rattle.eo_sexp.specs.Reader.{held, IsWhole, IsAtom, IsReader, Turns, Begins, reading}
 use Rattle.eo_sexp.specs.Machine.{phase_of, meaning_at, meaning, IsProofStart, IsFirst, IsPairFact, IsBegun, IsPlaced, IsSoundAt, IsSound, TakesByte, Lengthens, Completes, ClosesCommand, earlier_fault, list_state}
 use Rattle.eo_sexp.proofs.LimitFacts.{some_command}
 use Rattle.eo_sexp.proofs.Resuming.{StandsStill, pass-front}
@@ -38,61 +38,61 @@ use Rattle.eo_sexp.proofs.FedBytes.{begun, fed-first, on-whole, on-refused, on-c
 
 -- ---- what a machine stands for
 
-pub meaning-is : (m : Machine) (s : State) (q : Phase) (at : Spot) (b : List ℕ) → m.state ≡ s → phase_of m.phase ≡ q → m.start ≡ at → m.begun.items ≡ b → meaning m ≡ meaning_at s q at b
+pub meaning-is : (m : Machine) (s : State) (q : Phase) (at : Spot) (b : Built) → m.state ≡ s → phase_of m.phase ≡ q → m.start ≡ at → m.begun ≡ b → meaning m ≡ meaning_at s q at b
 meaning-is m s q at b e f g h =
-    ap (λ v. meaning_at v (phase_of m.phase) m.start m.begun.items) e ∙ ap (λ v. meaning_at s v m.start m.begun.items) f ∙ ap (λ v. meaning_at s q v m.begun.items) g ∙ ap (meaning_at s q at) h
+    ap (λ v. meaning_at v (phase_of m.phase) m.start m.begun) e ∙ ap (λ v. meaning_at s v m.start m.begun) f ∙ ap (λ v. meaning_at s q v m.begun) g ∙ ap (meaning_at s q at) h
 
 pub sound-is : (m : Machine) (s : State) → m.state ≡ s → IsSoundAt s m → IsSound m
 sound-is m s e h = subst (λ q. IsSoundAt q m) (sym e) h
 
-pub placed-none : (m : Machine) → m.begun.items ≡ [] → m.here ≡ m.start → m.here.line ≤ m.here.offset + 1 → IsPlaced m
+pub placed-none : (m : Machine) → m.begun ≡ nothing → m.here ≡ m.start → m.here.line ≤ m.here.offset + 1 → IsPlaced m
 unfolding spot_after
-placed-none m b e l = record { here = e ∙ sym (ap (spot_after m.start) b); line = l }
+placed-none m b e l = record { here = e ∙ sym (ap (λ (v : Built). spot_after m.start v.bytes) b); line = l }
 
-pub here-start : (m : Machine) → m.begun.items ≡ [] → IsPlaced m → m.here ≡ m.start
+pub here-start : (m : Machine) → m.begun ≡ nothing → IsPlaced m → m.here ≡ m.start
 unfolding spot_after
-here-start m b p = p.here ∙ ap (spot_after m.start) b
+here-start m b p = p.here ∙ ap (λ (v : Built). spot_after m.start v.bytes) b
 
 next-line : (s : Spot) (x : ℕ) → s.line ≤ s.offset + 1 → (next_spot s x).line ≤ (next_spot s x).offset + 1
 unfolding spot_after
 next-line s x h = spot_after-line s (x ∷ []) h
 
-placed-more : (old new : Machine) (x : ℕ) → IsPlaced old → new.begun.items ≡ old.begun.items ++ x ∷ [] → new.start ≡ old.start → new.here ≡ next_spot old.here x → IsPlaced new
+placed-more : (old new : Machine) (x : ℕ) → IsPlaced old → new.begun.bytes ≡ old.begun.bytes ++ x ∷ [] → new.start ≡ old.start → new.here ≡ next_spot old.here x → IsPlaced new
 unfolding spot_after
 placed-more old new x p b s h = record {
   here =
       h ∙ ap (λ (v : Spot). next_spot v x) p.here
-      ∙ sym (spot_after-append old.start old.begun.items (x ∷ []))
+      ∙ sym (spot_after-append old.start old.begun.bytes (x ∷ []))
       ∙ ap (spot_after old.start) (sym b)
-      ∙ ap (λ (v : Spot). spot_after v new.begun.items) (sym s);
+      ∙ ap (λ (v : Spot). spot_after v new.begun.bytes) (sym s);
   line = subst (λ (v : Spot). v.line ≤ v.offset + 1) (sym h) (next-line old.here x p.line);
 }
 
 -- ---- a byte between two commands
 
-pub takes-passed : (old new : Machine) (x : ℕ) (before comment : Bool) (q : Phase) → IsPlaced old → old.begun.items ≡ [] → old.state ≡ state.Between before →
-    new.state ≡ state.Between comment → new.begun.items ≡ [] → new.start ≡ next_spot old.here x → new.here ≡ next_spot old.here x → phase_of new.phase ≡ q →
+pub takes-passed : (old new : Machine) (x : ℕ) (before comment : Bool) (q : Phase) → IsPlaced old → old.begun ≡ nothing → old.state ≡ state.Between before →
+    new.state ≡ state.Between comment → new.begun ≡ nothing → new.start ≡ next_spot old.here x → new.here ≡ next_spot old.here x → phase_of new.phase ≡ q →
     fed_from limits (Within (phase_of old.phase) before old.start []) (x ∷ []) ≡ Within q comment (next_spot old.start x) [] → TakesByte old x new
 takes-passed old new x before comment q p b s t c a h f e = record {
   sound = sound-is new (state.Between comment) t (c, placed-none new c (h ∙ sym a) (subst (λ (v : Spot). v.line ≤ v.offset + 1) (sym h) (next-line old.here x p.line)));
   meant =
-      meaning-is new (state.Between comment) q (next_spot old.start x) [] t f (a ∙ ap (λ (v : Spot). next_spot v x) (here-start old b p)) c
+      meaning-is new (state.Between comment) q (next_spot old.start x) nothing t f (a ∙ ap (λ (v : Spot). next_spot v x) (here-start old b p)) c
       ∙ sym e
-      ∙ ap (λ m. fed_from limits m (x ∷ [])) (sym (meaning-is old (state.Between before) (phase_of old.phase) old.start [] s refl refl b));
+      ∙ ap (λ m. fed_from limits m (x ∷ [])) (sym (meaning-is old (state.Between before) (phase_of old.phase) old.start nothing s refl refl b));
 }
 
 pub takes-failed : (old new : Machine) (x : ℕ) (name : FaultName) → new.state ≡ state.Failed name old.here → fed_from limits (meaning old) (x ∷ []) ≡ Failed name old.here → TakesByte old x new
 takes-failed old new x name t e = record {
   sound = sound-is new (state.Failed name old.here) t tt;
-  meant = ap (λ v. meaning_at v (phase_of new.phase) new.start new.begun.items) t ∙ sym e;
+  meant = ap (λ v. meaning_at v (phase_of new.phase) new.start new.begun) t ∙ sym e;
 }
 
 -- the byte fails where nothing is begun
-pub takes-refused : (old new : Machine) (x : ℕ) (before : Bool) (name : FaultName) → IsPlaced old → old.begun.items ≡ [] → old.state ≡ state.Between before → new.state ≡ state.Failed name old.here →
+pub takes-refused : (old new : Machine) (x : ℕ) (before : Bool) (name : FaultName) → IsPlaced old → old.begun ≡ nothing → old.state ≡ state.Between before → new.state ≡ state.Failed name old.here →
     fed_from limits (Within (phase_of old.phase) before old.start []) (x ∷ []) ≡ Failed name old.start → TakesByte old x new
 takes-refused old new x before name p b s t e =
     takes-failed old new x name t
-    (ap (λ m. fed_from limits m (x ∷ [])) (meaning-is old (state.Between before) (phase_of old.phase) old.start [] s refl refl b) ∙ e ∙ ap (Failed name) (sym (here-start old b p)))
+    (ap (λ m. fed_from limits m (x ∷ [])) (meaning-is old (state.Between before) (phase_of old.phase) old.start nothing s refl refl b) ∙ e ∙ ap (Failed name) (sym (here-start old b p)))
 
 pub takes-from : (old mid new : Machine) (x : ℕ) → fed_from limits (meaning old) (x ∷ []) ≡ fed_from limits (meaning mid) (x ∷ []) → TakesByte mid x new → TakesByte old x new
 takes-from old mid new x e h = record { sound = h.sound; meant = h.meant ∙ sym e }
@@ -121,30 +121,27 @@ pair-off state.Begun q bytes f p i = closed-off (front bytes) (record { at = 0; 
 pair-off (state.Pair comment) q bytes f p i =
     closed-off (front bytes) (record { at = 0; bytes = bytes }) f (λ o. open-off bytes o (ap (λ (u : Passed). is_parenthesis (front u.rest.bytes)) (p.2 [])))
 pair-off (state.Between comment) q bytes f p i = absurd p
-pair-off (state.Command s) q bytes f p i = absurd p
-pair-off state.Taken q bytes f p i = absurd p
+pair-off state.Command q bytes f p i = absurd p
 pair-off (state.Failed name at) q bytes f p i = absurd p
 pair-off state.NoMemory q bytes f p i = absurd p
 
-pub begun-meaning : (s : State) (q : Phase) (bytes : List ℕ) (r : Phase) (at : Spot) (b : List ℕ) → IsPairFact s q bytes → meaning_at s r at b ≡ Within r false at b
+pub begun-meaning : (s : State) (q : Phase) (bytes : List ℕ) (r : Phase) (at : Spot) (b : Built) → IsPairFact s q bytes → meaning_at s r at b ≡ Within r false at b.bytes
 begun-meaning state.Begun q bytes r at b p = refl
 begun-meaning (state.Pair comment) q bytes r at b p = refl
 begun-meaning (state.Between comment) q bytes r at b p = absurd p
-begun-meaning (state.Command s) q bytes r at b p = absurd p
-begun-meaning state.Taken q bytes r at b p = absurd p
+begun-meaning state.Command q bytes r at b p = absurd p
 begun-meaning (state.Failed name k) q bytes r at b p = absurd p
 begun-meaning state.NoMemory q bytes r at b p = absurd p
 
-pub begun-sound : (s : State) (m : Machine) → m.state ≡ s → IsPairFact s (phase_of m.phase) m.begun.items → IsBegun m → IsPlaced m → IsSound m
-begun-sound state.Begun m e p h l = sound-is m state.Begun e (h, subst (λ s. IsPairFact s (phase_of m.phase) m.begun.items) (sym e) p, l)
-begun-sound (state.Pair comment) m e p h l = sound-is m (state.Pair comment) e (h, subst (λ s. IsPairFact s (phase_of m.phase) m.begun.items) (sym e) p, l)
+pub begun-sound : (s : State) (m : Machine) → m.state ≡ s → IsPairFact s (phase_of m.phase) m.begun.bytes → IsBegun m → IsPlaced m → IsSound m
+begun-sound state.Begun m e p h l = sound-is m state.Begun e (h, subst (λ s. IsPairFact s (phase_of m.phase) m.begun.bytes) (sym e) p, l)
+begun-sound (state.Pair comment) m e p h l = sound-is m (state.Pair comment) e (h, subst (λ s. IsPairFact s (phase_of m.phase) m.begun.bytes) (sym e) p, l)
 begun-sound (state.Between comment) m e p h l = absurd p
-begun-sound (state.Command s) m e p h l = absurd p
-begun-sound state.Taken m e p h l = absurd p
+begun-sound state.Command m e p h l = absurd p
 begun-sound (state.Failed name k) m e p h l = absurd p
 begun-sound state.NoMemory m e p h l = absurd p
 
-first-some : (b : List ℕ) → IsFirst (front b) → 0 < length b
+pub first-some : (b : List ℕ) → IsFirst (front b) → 0 < length b
 unfolding front
 first-some [] h = absurd h
 first-some (x ∷ b) h = omega arith
@@ -178,144 +175,159 @@ not-unsat bytes s rest e = go (bytes_eq bytes (codes "unsat")) refl
 
 -- ---- a byte of a command that is begun
 
-module _ (old : Machine) (x : ℕ) (h : IsBegun old) (p : IsPairFact old.state (phase_of old.phase) (old.begun.items ++ x ∷ [])) (l : IsPlaced old) where
-  some : 0 < length old.begun.items
-  some = first-some old.begun.items h.first
+module _ (old : Machine) (x : ℕ) (h : IsBegun old) (p : IsPairFact old.state (phase_of old.phase) (old.begun.bytes ++ x ∷ [])) (l : IsPlaced old) where
+  some : 0 < length old.begun.bytes
+  some = first-some old.begun.bytes h.first
 
-  still-first : IsFirst (front (old.begun.items ++ x ∷ []))
-  still-first = subst IsFirst (sym (front-append old.begun.items (x ∷ []) some)) h.first
+  still-first : IsFirst (front (old.begun.bytes ++ x ∷ []))
+  still-first = subst IsFirst (sym (front-append old.begun.bytes (x ∷ []) some)) h.first
 
   -- what the reading of the bytes with x makes of the collector
-  decides : (r : Reading Sexp) → command limits (old.begun.items ++ x ∷ []) ≡ r → (phase_of old.phase ≡ Start → is_unsat (front (old.begun.items ++ x ∷ [])) (old.begun.items ++ x ∷ []) r ≡ false) →
-      fed_from limits (meaning old) (x ∷ []) ≡ on_more old.start (old.begun.items ++ x ∷ []) (begun (phase_of old.phase) (old.begun.items ++ x ∷ [])) (known (phase_of old.phase) (record { at = 0; bytes = old.begun.items ++ x ∷ [] }) r)
+  decides : (r : Reading Sexp) → command limits (old.begun.bytes ++ x ∷ []) ≡ r → (phase_of old.phase ≡ Start → is_unsat (front (old.begun.bytes ++ x ∷ [])) (old.begun.bytes ++ x ∷ []) r ≡ false) →
+      fed_from limits (meaning old) (x ∷ []) ≡ on_more old.start (old.begun.bytes ++ x ∷ []) (begun (phase_of old.phase) (old.begun.bytes ++ x ∷ [])) (known (phase_of old.phase) (record { at = 0; bytes = old.begun.bytes ++ x ∷ [] }) r)
   unfolding front
   decides r c u =
-      ap (λ m. fed_from limits m (x ∷ [])) (begun-meaning old.state (phase_of old.phase) (old.begun.items ++ x ∷ []) (phase_of old.phase) old.start old.begun.items p)
-      ∙ go (old.begun.items ++ x ∷ []) refl still-first (pair-off old.state (phase_of old.phase) (old.begun.items ++ x ∷ []) still-first p) c u
+      ap (λ m. fed_from limits m (x ∷ [])) (begun-meaning old.state (phase_of old.phase) (old.begun.bytes ++ x ∷ []) (phase_of old.phase) old.start old.begun p)
+      ∙ go (old.begun.bytes ++ x ∷ []) refl still-first (pair-off old.state (phase_of old.phase) (old.begun.bytes ++ x ∷ []) still-first p) c u
     where
-      go : (bytes : List ℕ) → old.begun.items ++ x ∷ [] ≡ bytes → IsFirst (front bytes) → (IsProofStart (phase_of old.phase) → begins_pair limits (front bytes) (record { at = 0; bytes = bytes }) ≡ false) →
+      go : (bytes : List ℕ) → old.begun.bytes ++ x ∷ [] ≡ bytes → IsFirst (front bytes) → (IsProofStart (phase_of old.phase) → begins_pair limits (front bytes) (record { at = 0; bytes = bytes }) ≡ false) →
           command limits bytes ≡ r → (phase_of old.phase ≡ Start → is_unsat (front bytes) bytes r ≡ false) →
-          fed_from limits (Within (phase_of old.phase) false old.start old.begun.items) (x ∷ []) ≡ on_more old.start bytes (begun (phase_of old.phase) bytes) (known (phase_of old.phase) (record { at = 0; bytes = bytes }) r)
+          fed_from limits (Within (phase_of old.phase) false old.start old.begun.bytes) (x ∷ []) ≡ on_more old.start bytes (begun (phase_of old.phase) bytes) (known (phase_of old.phase) (record { at = 0; bytes = bytes }) r)
       go [] e f o c u = absurd f
-      go (y ∷ zs) e f o c u = fed-first limits y zs f (phase_of old.phase) old.start old.begun.items (x ∷ []) r e h.inside o c u
+      go (y ∷ zs) e f o c u = fed-first limits y zs f (phase_of old.phase) old.start old.begun.bytes (x ∷ []) r e h.inside o c u
 
-  fails : (name : FaultName) → command limits (old.begun.items ++ x ∷ []) ≡ Refused name (length old.begun.items) → fed_from limits (meaning old) (x ∷ []) ≡ Failed name old.here
+  fails : (name : FaultName) → command limits (old.begun.bytes ++ x ∷ []) ≡ Refused name (length old.begun.bytes) → fed_from limits (meaning old) (x ∷ []) ≡ Failed name old.here
   fails name c =
-      decides (Refused name (length old.begun.items)) c (λ s. unsat-refused limits (front (old.begun.items ++ x ∷ [])) (old.begun.items ++ x ∷ []) name (length old.begun.items))
-      ∙ on-refused limits (phase_of old.phase) old.start old.begun.items (x ∷ []) name (length old.begun.items) refl
+      decides (Refused name (length old.begun.bytes)) c (λ s. unsat-refused limits (front (old.begun.bytes ++ x ∷ [])) (old.begun.bytes ++ x ∷ []) name (length old.begun.bytes))
+      ∙ on-refused limits (phase_of old.phase) old.start old.begun.bytes (x ∷ []) name (length old.begun.bytes) refl
       ∙ ap (Failed name) (sym l.here)
 
-  module _ (r : Reader) where
-    goes-cut : Turns limits old.reader (length old.begun.items) x turn.Goes r → (e : Option Sexp) × (sexp limits (front old.begun.items) (record { at = 0; bytes = old.begun.items ++ x ∷ [] }) ≡ Cut e)
+  -- behind the reader's turn: what it keeps, and its buffer
+  module _ (r : Reader) (v : Built) (same : v.bytes ≡ old.begun.bytes) where
+    goes-cut : Turns limits (held old.begun old.reader) (length old.begun.bytes) x turn.Goes (held (with_byte v x) r) → (e : Option Sexp) × (sexp limits (front old.begun.bytes) (record { at = 0; bytes = old.begun.bytes ++ x ∷ [] }) ≡ Cut e)
     goes-cut t =
-        let c = reader-cut limits r (suc (length old.begun.items)) t.0 in
+        let c = reader-cut limits (held (with_byte v x) r) (suc (length old.begun.bytes)) t.0 in
         (c.0, h.reads (x ∷ []) ∙ t.1 [] ∙ c.1)
 
     -- the command goes on behind the byte
-    pub takes-goes : (new : Machine) → Turns limits old.reader (length old.begun.items) x turn.Goes r → Lengthens limits (record old { reader = r }) (length old.begun.items) x new → TakesByte old x new
+    pub takes-goes : (new : Machine) → Turns limits (held old.begun old.reader) (length old.begun.bytes) x turn.Goes (held (with_byte v x) r) → Lengthens limits (record old { reader = r; begun = v }) (length old.begun.bytes) x new → TakesByte old x new
     takes-goes new t (inl k) =
         let c = goes-cut t in
-        let b : new.begun.items ≡ old.begun.items ++ x ∷ [] = (k.1).begun in
-        let n : length new.begun.items ≡ suc (length old.begun.items) = omega (arith, ap length b, length-append old.begun.items (x ∷ [])) in
+        let b : new.begun.bytes ≡ old.begun.bytes ++ x ∷ [] = ap (λ (w : Built). w.bytes) (k.1).begun ∙ ap (λ bs. bs ++ x ∷ []) same in
+        let n : length new.begun.bytes ≡ suc (length old.begun.bytes) = omega (arith, ap length b, length-append old.begun.bytes (x ∷ [])) in
+        let kept : held (with_byte v x) r ≡ held new.begun new.reader = ap (λ w. held w r) (sym (k.1).begun) ∙ ap (held new.begun) (sym (k.1).reader) in
         let begun-new : IsBegun new = record {
           first = subst (λ bs. IsFirst (front bs)) (sym b) still-first;
           inside = λ e. h.inside (ap phase_of (sym (k.1).phase) ∙ e);
-          reader = subst (λ i. IsReader limits new.reader i) (sym n) (subst (λ v. IsReader limits v (suc (length old.begun.items))) (sym (k.1).reader) t.0);
+          reader = subst (λ i. IsReader limits (held new.begun new.reader) i) (sym n) (subst (λ w. IsReader limits w (suc (length old.begun.bytes))) kept t.0);
           reads = λ more.
               ap (λ bs. sexp limits (front bs) (record { at = 0; bytes = bs ++ more })) b
-              ∙ ap (λ c. sexp limits c (record { at = 0; bytes = (old.begun.items ++ x ∷ []) ++ more })) (front-append old.begun.items (x ∷ []) some)
-              ∙ ap (λ bs. sexp limits (front old.begun.items) (record { at = 0; bytes = bs })) (append_assoc old.begun.items (x ∷ []) more)
+              ∙ ap (λ c. sexp limits c (record { at = 0; bytes = (old.begun.bytes ++ x ∷ []) ++ more })) (front-append old.begun.bytes (x ∷ []) some)
+              ∙ ap (λ bs. sexp limits (front old.begun.bytes) (record { at = 0; bytes = bs })) (append_assoc old.begun.bytes (x ∷ []) more)
               ∙ h.reads (x ∷ more)
               ∙ t.1 more
-              ∙ ap (λ i. reading limits r i more) (sym n)
-              ∙ ap (λ v. reading limits v (length new.begun.items) more) (sym (k.1).reader);
+              ∙ ap (λ i. reading limits (held (with_byte v x) r) i more) (sym n)
+              ∙ ap (λ w. reading limits w (length new.begun.bytes) more) kept;
           short = omega (arith, n, k.0);
         } in
-        let pair : IsPairFact old.state (phase_of new.phase) new.begun.items = subst (λ q. IsPairFact old.state (phase_of q) new.begun.items) (sym (k.1).phase) (subst (IsPairFact old.state (phase_of old.phase)) (sym b) p) in
+        let pair : IsPairFact old.state (phase_of new.phase) new.begun.bytes = subst (λ q. IsPairFact old.state (phase_of q) new.begun.bytes) (sym (k.1).phase) (subst (IsPairFact old.state (phase_of old.phase)) (sym b) p) in
         record {
           sound = begun-sound old.state new (k.1).state pair begun-new (placed-more old new x l b (k.1).start (k.1).here);
           meant =
-              meaning-is new old.state (phase_of old.phase) old.start (old.begun.items ++ x ∷ []) (k.1).state (ap phase_of (k.1).phase) (k.1).start b
-              ∙ begun-meaning old.state (phase_of old.phase) (old.begun.items ++ x ∷ []) (phase_of old.phase) old.start (old.begun.items ++ x ∷ []) p
-              ∙ sym (on-cut limits (phase_of old.phase) old.start (old.begun.items ++ x ∷ []) c.0)
-              ∙ sym (decides (Cut c.0) (command-goes limits old.begun.items x some c.0 c.1 k.0) (λ s. unsat-cut limits (front (old.begun.items ++ x ∷ [])) (old.begun.items ++ x ∷ []) c.0));
+              meaning-is new old.state (phase_of old.phase) old.start new.begun (k.1).state (ap phase_of (k.1).phase) (k.1).start refl
+              ∙ begun-meaning old.state (phase_of old.phase) (old.begun.bytes ++ x ∷ []) (phase_of old.phase) old.start new.begun p
+              ∙ ap (Within (phase_of old.phase) false old.start) b
+              ∙ sym (on-cut limits (phase_of old.phase) old.start (old.begun.bytes ++ x ∷ []) c.0)
+              ∙ sym (decides (Cut c.0) (command-goes limits old.begun.bytes x some c.0 c.1 k.0) (λ s. unsat-cut limits (front (old.begun.bytes ++ x ∷ [])) (old.begun.bytes ++ x ∷ []) c.0));
         }
     takes-goes new t (inr k) =
         let c = goes-cut t in
-        takes-failed old new x CommandLong k.1 (fails CommandLong (command-over limits old.begun.items x some c.0 c.1 (omega (arith, h.short, k.0))))
+        takes-failed old new x CommandLong k.1 (fails CommandLong (command-over limits old.begun.bytes x some c.0 c.1 (omega (arith, h.short, k.0))))
 
     -- the byte is a fault
-    pub takes-fault : (new : Machine) (name : FaultName) → Turns limits old.reader (length old.begun.items) x (turn.Fault name) r → new.state ≡ state.Failed (earlier_fault limits (length old.begun.items) name) old.here → TakesByte old x new
-    takes-fault new name t e = takes-failed old new x (earlier_fault limits (length old.begun.items) name) e (fails (earlier_fault limits (length old.begun.items) name) (command-fault limits old.begun.items x some name (h.reads (x ∷ []) ∙ t []) h.short))
+    pub takes-fault : (new : Machine) (name : FaultName) → Turns limits (held old.begun old.reader) (length old.begun.bytes) x (turn.Fault name) (held (with_byte v x) r) → new.state ≡ state.Failed (earlier_fault limits (length old.begun.bytes) name) old.here → TakesByte old x new
+    takes-fault new name t e = takes-failed old new x (earlier_fault limits (length old.begun.bytes) name) e (fails (earlier_fault limits (length old.begun.bytes) name) (command-fault limits old.begun.bytes x some name (h.reads (x ∷ []) ∙ t []) h.short))
 
     -- the byte makes the command whole
-    pub takes-whole : (new : Machine) (s : OwnedSexp) → Turns limits old.reader (length old.begun.items) x (turn.Whole s) r → ClosesCommand limits (record old { reader = r }) (length old.begun.items) x s new → TakesByte old x new
-    takes-whole new s t (inl k) =
-        let bytes : List ℕ = old.begun.items ++ x ∷ [] in
-        let n : length bytes ≡ suc (length old.begun.items) = length-append old.begun.items (x ∷ []) ∙ omega arith in
-        let c : command limits bytes ≡ Whole (owned s) (record { at = suc (length old.begun.items); bytes = [] }) = command-whole limits old.begun.items x some (owned s) _ (h.reads (x ∷ []) ∙ t []) (omega (arith, k.0)) in
-        let all : take (suc (length old.begun.items)) bytes ≡ bytes = take_all (suc (length old.begun.items)) bytes (omega (arith, n)) in
+    pub takes-whole : (new : Machine) → Turns limits (held old.begun old.reader) (length old.begun.bytes) x turn.Whole (held (with_byte v x) r) → ClosesCommand limits (record old { reader = r; begun = v }) (length old.begun.bytes) x new → TakesByte old x new
+    takes-whole new t (inl k) =
+        let s : Sexp = t.0 in
+        let bytes : List ℕ = old.begun.bytes ++ x ∷ [] in
+        let b : new.begun.bytes ≡ bytes = ap (λ (w : Built). w.bytes) (k.1).begun ∙ ap (λ bs. bs ++ x ∷ []) same in
+        let n : length bytes ≡ suc (length old.begun.bytes) = length-append old.begun.bytes (x ∷ []) ∙ omega arith in
+        let c : command limits bytes ≡ Whole s (record { at = suc (length old.begun.bytes); bytes = [] }) = command-whole limits old.begun.bytes x some s _ (h.reads (x ∷ []) ∙ t.3 []) (omega (arith, k.0)) in
+        let all : take (suc (length old.begun.bytes)) bytes ≡ bytes = take_all (suc (length old.begun.bytes)) bytes (omega (arith, n)) in
+        let whole : IsWhole new.begun s = subst (λ w. IsWhole w s) (sym (k.1).begun) (record { done = t.1; outside = t.2 }) in
         record {
-          sound = sound-is new (state.Command s) (k.1).state (placed-more old new x l (k.1).begun (k.1).start (k.1).here);
+          sound = sound-is new state.Command (k.1).state ((s, whole), placed-more old new x l b (k.1).start (k.1).here);
           meant =
-              meaning-is new (state.Command s) (after (phase_of old.phase)) old.start bytes (k.1).state (k.1).phase (k.1).start (k.1).begun
-              ∙ sym (on-whole limits (phase_of old.phase) old.start bytes bytes (owned s) (record { at = suc (length old.begun.items); bytes = [] }) all)
-              ∙ sym (decides (Whole (owned s) (record { at = suc (length old.begun.items); bytes = [] })) c
-              (λ q. unsat-other limits (front bytes) bytes bytes (owned s) (record { at = suc (length old.begun.items); bytes = [] }) all (not-unsat bytes (owned s) _ c)));
+              meaning-is new state.Command (after (phase_of old.phase)) old.start new.begun (k.1).state (k.1).phase (k.1).start refl
+              ∙ ap (λ ss. AtCommand (record { sexp = first_of ss; bytes = new.begun.bytes; start = old.start }) (after (phase_of old.phase))) whole.done
+              ∙ ap (λ bs. AtCommand (record { sexp = s; bytes = bs; start = old.start }) (after (phase_of old.phase))) b
+              ∙ sym (on-whole limits (phase_of old.phase) old.start bytes bytes s (record { at = suc (length old.begun.bytes); bytes = [] }) all)
+              ∙ sym (decides (Whole s (record { at = suc (length old.begun.bytes); bytes = [] })) c
+              (λ q. unsat-other limits (front bytes) bytes bytes s (record { at = suc (length old.begun.bytes); bytes = [] }) all (not-unsat bytes s _ c)));
         }
-    takes-whole new s t (inr k) =
-        takes-failed old new x CommandLong k.1 (fails CommandLong (command-whole-over limits old.begun.items x some (owned s) _ (h.reads (x ∷ []) ∙ t []) (omega (arith, k.0)) (omega (arith, h.short, k.0))))
+    takes-whole new t (inr k) =
+        takes-failed old new x CommandLong k.1 (fails CommandLong (command-whole-over limits old.begun.bytes x some t.0 _ (h.reads (x ∷ []) ∙ t.3 []) (omega (arith, k.0)) (omega (arith, h.short, k.0))))
 
     -- the command ended before the byte
-    before-whole : (s : OwnedSexp) → Turns limits old.reader (length old.begun.items) x (turn.Before s) r → command limits (old.begun.items ++ x ∷ []) ≡ Whole (owned s) (record { at = length old.begun.items; bytes = x ∷ [] })
-    before-whole s t = command-whole limits old.begun.items x some (owned s) (record { at = length old.begun.items; bytes = x ∷ [] }) (h.reads (x ∷ []) ∙ t []) h.short
+    before-whole : (t : Turns limits (held old.begun old.reader) (length old.begun.bytes) x turn.Before (held (with_byte v x) r)) → command limits (old.begun.bytes ++ x ∷ []) ≡ Whole t.0 (record { at = length old.begun.bytes; bytes = x ∷ [] })
+    before-whole t = command-whole limits old.begun.bytes x some t.0 (record { at = length old.begun.bytes; bytes = x ∷ [] }) (h.reads (x ∷ []) ∙ t.3 []) h.short
 
-    pub takes-before : (new : Machine) (s : OwnedSexp) → Turns limits old.reader (length old.begun.items) x (turn.Before s) r → (phase_of old.phase ≡ Start → bytes_eq old.begun.items (codes "unsat") ≡ false) →
-        Completes (record old { reader = r }) s new → TakesByte old x new
-    takes-before new s t u k =
-        let bytes : List ℕ = old.begun.items ++ x ∷ [] in
-        let c : command limits bytes ≡ Whole (owned s) (record { at = length old.begun.items; bytes = x ∷ [] }) = before-whole s t in
-        let part : take (length old.begun.items) bytes ≡ old.begun.items = take-append_seam old.begun.items (x ∷ []) in
+    pub takes-before : (new : Machine) → Turns limits (held old.begun old.reader) (length old.begun.bytes) x turn.Before (held (with_byte v x) r) → (phase_of old.phase ≡ Start → bytes_eq old.begun.bytes (codes "unsat") ≡ false) →
+        Completes (record old { reader = r; begun = v }) new → TakesByte old x new
+    takes-before new t u k =
+        let s : Sexp = t.0 in
+        let bytes : List ℕ = old.begun.bytes ++ x ∷ [] in
+        let b : new.begun.bytes ≡ old.begun.bytes = ap (λ (w : Built). w.bytes) k.begun ∙ same in
+        let c : command limits bytes ≡ Whole s (record { at = length old.begun.bytes; bytes = x ∷ [] }) = before-whole t in
+        let part : take (length old.begun.bytes) bytes ≡ old.begun.bytes = take-append_seam old.begun.bytes (x ∷ []) in
+        let whole : IsWhole new.begun s = subst (λ w. IsWhole w s) (sym k.begun) (record { done = t.1; outside = t.2 }) in
         record {
-          sound = sound-is new (state.Command s) k.state
-              (record {
-                here = k.here ∙ l.here ∙ ap (spot_after old.start) (sym k.begun) ∙ ap (λ (v : Spot). spot_after v new.begun.items) (sym k.start);
-                line = subst (λ (v : Spot). v.line ≤ v.offset + 1) (sym k.here) l.line;
-              });
+          sound = sound-is new state.Command k.state (
+            (s, whole),
+            record {
+              here = k.here ∙ l.here ∙ ap (spot_after old.start) (sym b) ∙ ap (λ (v : Spot). spot_after v new.begun.bytes) (sym k.start);
+              line = subst (λ (v : Spot). v.line ≤ v.offset + 1) (sym k.here) l.line;
+            },
+          );
           meant =
-              meaning-is new (state.Command s) (after (phase_of old.phase)) old.start old.begun.items k.state k.phase k.start k.begun
-              ∙ sym (on-whole limits (phase_of old.phase) old.start bytes old.begun.items (owned s) (record { at = length old.begun.items; bytes = x ∷ [] }) part)
-              ∙ sym (decides (Whole (owned s) (record { at = length old.begun.items; bytes = x ∷ [] })) c
-              (λ q. unsat-other limits (front bytes) bytes old.begun.items (owned s) (record { at = length old.begun.items; bytes = x ∷ [] }) part (u q)));
+              meaning-is new state.Command (after (phase_of old.phase)) old.start new.begun k.state k.phase k.start refl
+              ∙ ap (λ ss. AtCommand (record { sexp = first_of ss; bytes = new.begun.bytes; start = old.start }) (after (phase_of old.phase))) whole.done
+              ∙ ap (λ bs. AtCommand (record { sexp = s; bytes = bs; start = old.start }) (after (phase_of old.phase))) b
+              ∙ sym (on-whole limits (phase_of old.phase) old.start bytes old.begun.bytes s (record { at = length old.begun.bytes; bytes = x ∷ [] }) part)
+              ∙ sym (decides (Whole s (record { at = length old.begun.bytes; bytes = x ∷ [] })) c
+              (λ q. unsat-other limits (front bytes) bytes old.begun.bytes s (record { at = length old.begun.bytes; bytes = x ∷ [] }) part (u q)));
         }
 
     -- it was the word that a proof may begin with
-    pub takes-unsat : (mid new : Machine) (s : OwnedSexp) → Turns limits old.reader (length old.begun.items) x (turn.Before s) r → phase_of old.phase ≡ Start → old.begun.items ≡ codes "unsat" →
-        mid.state ≡ state.Between false → mid.begun.items ≡ [] → mid.start ≡ old.here → phase_of mid.phase ≡ AfterUnsat → TakesByte mid x new → TakesByte old x new
-    takes-unsat mid new s t q u ms mb mt mp k =
+    pub takes-unsat : (mid new : Machine) → Turns limits (held old.begun old.reader) (length old.begun.bytes) x turn.Before (held (with_byte v x) r) → phase_of old.phase ≡ Start → old.begun.bytes ≡ codes "unsat" →
+        mid.state ≡ state.Between false → mid.begun ≡ nothing → mid.start ≡ old.here → phase_of mid.phase ≡ AfterUnsat → TakesByte mid x new → TakesByte old x new
+    takes-unsat mid new t q u ms mb mt mp k =
         takes-from old mid new x
-        (ap (λ m. fed_from limits m (x ∷ [])) (begun-meaning old.state (phase_of old.phase) (old.begun.items ++ x ∷ []) (phase_of old.phase) old.start old.begun.items p ∙ ap (λ v. Within v false old.start old.begun.items) q)
-        ∙ fed-unsat limits old.start old.begun.items x (owned s) u (before-whole s t)
-        ∙ ap (λ v. fed_from limits (Within AfterUnsat false v []) (x ∷ [])) (sym l.here)
-        ∙ ap (λ m. fed_from limits m (x ∷ [])) (sym (meaning-is mid (state.Between false) AfterUnsat old.here [] ms mp mt mb)))
+        (ap (λ m. fed_from limits m (x ∷ [])) (begun-meaning old.state (phase_of old.phase) (old.begun.bytes ++ x ∷ []) (phase_of old.phase) old.start old.begun p ∙ ap (λ w. Within w false old.start old.begun.bytes) q)
+        ∙ fed-unsat limits old.start old.begun.bytes x t.0 u (before-whole t)
+        ∙ ap (λ w. fed_from limits (Within AfterUnsat false w []) (x ∷ [])) (sym l.here)
+        ∙ ap (λ m. fed_from limits m (x ∷ [])) (sym (meaning-is mid (state.Between false) AfterUnsat old.here nothing ms mp mt mb)))
         k
 
 -- ---- a `(` that may be the outer pair
 
 -- the next token is a parenthesis
 pub takes-pair : (old mid new : Machine) (x : ℕ) → old.state ≡ state.Pair false → IsSound old → is_parenthesis (class x) ≡ true →
-    mid.state ≡ state.Between false → mid.begun.items ≡ [] → mid.start ≡ old.here → phase_of mid.phase ≡ InPair → TakesByte mid x new → TakesByte old x new
+    mid.state ≡ state.Between false → mid.begun ≡ nothing → mid.start ≡ old.here → phase_of mid.phase ≡ InPair → TakesByte mid x new → TakesByte old x new
 takes-pair old mid new x e s p ms mb mt mp k =
     let h = subst (λ q. IsSoundAt q old) e s in
-    let f = subst (λ q. IsPairFact q (phase_of old.phase) old.begun.items) e h.1 in
+    let f = subst (λ q. IsPairFact q (phase_of old.phase) old.begun.bytes) e h.1 in
     takes-from old mid new x
-    (ap (λ m. fed_from limits m (x ∷ [])) (meaning-is old (state.Pair false) (phase_of old.phase) old.start old.begun.items e refl refl refl)
-    ∙ fed-pair limits (phase_of old.phase) old.start old.begun.items x f.0 f.1 (first-some old.begun.items (h.0).first) (h.0).short p (f.2 (x ∷ []))
+    (ap (λ m. fed_from limits m (x ∷ [])) (meaning-is old (state.Pair false) (phase_of old.phase) old.start old.begun e refl refl refl)
+    ∙ fed-pair limits (phase_of old.phase) old.start old.begun.bytes x f.0 f.1 (first-some old.begun.bytes (h.0).first) (h.0).short p (f.2 (x ∷ []))
     ∙ ap (λ v. fed_from limits (Within InPair false v []) (x ∷ [])) (sym (h.2).here)
-    ∙ ap (λ m. fed_from limits m (x ∷ [])) (sym (meaning-is mid (state.Between false) InPair old.here [] ms mp mt mb)))
+    ∙ ap (λ m. fed_from limits m (x ∷ [])) (sym (meaning-is mid (state.Between false) InPair old.here nothing ms mp mt mb)))
     k
 
-drop-front : (b more : List ℕ) → 0 < length b → drop 1 (b ++ more) ≡ drop 1 b ++ more
+pub drop-front : (b more : List ℕ) → 0 < length b → drop 1 (b ++ more) ≡ drop 1 b ++ more
 drop-front [] more h = absurd (omega arith)
 drop-front (y ∷ b) more h = refl
 
@@ -362,28 +374,29 @@ placed-as m s h = record { here = h.here; line = h.line }
 
 -- ---- the first byte of a command
 
-pub takes-begins : (old new : Machine) (x : ℕ) (s : State) → IsPlaced old → old.begun.items ≡ [] → old.state ≡ state.Between false → (phase_of old.phase ≡ AfterPair → ⊥) → IsFirst (class x) → Begins limits x new.reader →
-    new.state ≡ s → new.begun.items ≡ x ∷ [] → new.start ≡ old.start → new.here ≡ next_spot old.here x → new.phase ≡ old.phase → IsPairFact s (phase_of old.phase) (x ∷ []) → TakesByte old x new
+pub takes-begins : (old new : Machine) (x : ℕ) (s : State) → IsPlaced old → old.begun ≡ nothing → old.state ≡ state.Between false → (phase_of old.phase ≡ AfterPair → ⊥) → IsFirst (class x) → Begins limits x (held new.begun new.reader) →
+    new.state ≡ s → new.begun.bytes ≡ x ∷ [] → new.start ≡ old.start → new.here ≡ next_spot old.here x → new.phase ≡ old.phase → IsPairFact s (phase_of old.phase) (x ∷ []) → TakesByte old x new
 unfolding front command
 takes-begins old new x s l b e i f g t c a h q p =
-    let r = reader-cut limits new.reader 1 g.0 in
+    let r = reader-cut limits (held new.begun new.reader) 1 g.0 in
     let cut : command limits (x ∷ []) ≡ Cut r.0 = ap (at_most CommandLong limits.command (record { at = 0; bytes = x ∷ [] })) (g.1 [] ∙ r.1) ∙ at_most-cut CommandLong limits.command (record { at = 0; bytes = x ∷ [] }) r.0 some_command in
     let begun-new : IsBegun new = record {
       first = subst (λ bs. IsFirst (front bs)) (sym c) f;
       inside = λ w. i (ap phase_of (sym q) ∙ w);
-      reader = subst (λ bs. IsReader limits new.reader (length bs)) (sym c) g.0;
-      reads = λ more. subst (λ bs. sexp limits (front bs) (record { at = 0; bytes = bs ++ more }) ≡ reading limits new.reader (length bs) more) (sym c) (g.1 more);
+      reader = subst (λ bs. IsReader limits (held new.begun new.reader) (length bs)) (sym c) g.0;
+      reads = λ more. subst (λ bs. sexp limits (front bs) (record { at = 0; bytes = bs ++ more }) ≡ reading limits (held new.begun new.reader) (length bs) more) (sym c) (g.1 more);
       short = subst (λ bs. length bs ≤ limits.command) (sym c) some_command;
     } in
-    let pair : IsPairFact s (phase_of new.phase) new.begun.items = subst (λ v. IsPairFact s (phase_of v) new.begun.items) (sym q) (subst (IsPairFact s (phase_of old.phase)) (sym c) p) in
+    let pair : IsPairFact s (phase_of new.phase) new.begun.bytes = subst (λ v. IsPairFact s (phase_of v) new.begun.bytes) (sym q) (subst (IsPairFact s (phase_of old.phase)) (sym c) p) in
     record {
-      sound = begun-sound s new t pair begun-new (placed-more old new x l (c ∙ ap (λ bs. bs ++ x ∷ []) (sym b)) a h);
+      sound = begun-sound s new t pair begun-new (placed-more old new x l (c ∙ ap (λ (v : Built). v.bytes ++ x ∷ []) (sym b)) a h);
       meant =
-          meaning-is new s (phase_of old.phase) old.start (x ∷ []) t (ap phase_of q) a c
-          ∙ begun-meaning s (phase_of old.phase) (x ∷ []) (phase_of old.phase) old.start (x ∷ []) p
+          meaning-is new s (phase_of old.phase) old.start new.begun t (ap phase_of q) a refl
+          ∙ begun-meaning s (phase_of old.phase) (x ∷ []) (phase_of old.phase) old.start new.begun p
+          ∙ ap (Within (phase_of old.phase) false old.start) c
           ∙ sym (on-cut limits (phase_of old.phase) old.start (x ∷ []) r.0)
           ∙ sym (fed-first limits x [] f (phase_of old.phase) old.start [] (x ∷ []) (Cut r.0) refl i (pair-off s (phase_of old.phase) (x ∷ []) f p) cut (λ w. unsat-cut limits (class x) (x ∷ []) r.0))
-          ∙ ap (λ m. fed_from limits m (x ∷ [])) (sym (meaning-is old (state.Between false) (phase_of old.phase) old.start [] e refl refl b));
+          ∙ ap (λ m. fed_from limits m (x ∷ [])) (sym (meaning-is old (state.Between false) (phase_of old.phase) old.start nothing e refl refl b));
     }
 
 -- ---- phases and classes
@@ -477,11 +490,11 @@ first-atom k x e f o = subst IsAtom e (go k (subst IsFirst (sym e) f) o)
     go byte.Other f o = absurd f
 
 -- what was begun is left behind
-pub placed-left : (old new : Machine) → IsPlaced old → new.begun.items ≡ [] → new.start ≡ old.here → new.here ≡ old.here → IsPlaced new
+pub placed-left : (old new : Machine) → IsPlaced old → new.begun ≡ nothing → new.start ≡ old.here → new.here ≡ old.here → IsPlaced new
 placed-left old new l b s h = placed-none new b (h ∙ sym s) (subst (λ (v : Spot). v.line ≤ v.offset + 1) (sym h) l.line)
 
-pub pair-fact : (m : Machine) (c : Bool) → m.state ≡ state.Pair c → IsSound m → IsPairFact (state.Pair c) (phase_of m.phase) m.begun.items
-pair-fact m c e s = let h = subst (λ q. IsSoundAt q m) e s in subst (λ q. IsPairFact q (phase_of m.phase) m.begun.items) e h.1
+pub pair-fact : (m : Machine) (c : Bool) → m.state ≡ state.Pair c → IsSound m → IsPairFact (state.Pair c) (phase_of m.phase) m.begun.bytes
+pair-fact m c e s = let h = subst (λ q. IsSoundAt q m) e s in subst (λ q. IsPairFact q (phase_of m.phase) m.begun.bytes) e h.1
 
 pub pair-begun : (m : Machine) (c : Bool) → m.state ≡ state.Pair c → IsSound m → IsBegun m
 pair-begun m c e s = let h = subst (λ q. IsSoundAt q m) e s in h.0
@@ -490,21 +503,21 @@ pub pair-placed : (m : Machine) (c : Bool) → m.state ≡ state.Pair c → IsSo
 pair-placed m c e s = let h = subst (λ q. IsSoundAt q m) e s in h.2
 
 -- a machine in the middle of a turn
-pub takes-as : (old new : Machine) (c : Bool) (s : State) (x : ℕ) → old.state ≡ state.Pair c → meaning_at s (phase_of old.phase) old.start old.begun.items ≡ Within (phase_of old.phase) false old.start old.begun.items → TakesByte (record old { state = s }) x new → TakesByte old x new
-takes-as old new c s x e m k = takes-from old (record old { state = s }) new x (ap (λ v. fed_from limits v (x ∷ [])) (meaning-is old (state.Pair c) (phase_of old.phase) old.start old.begun.items e refl refl refl ∙ sym m)) k
+pub takes-as : (old new : Machine) (c : Bool) (s : State) (x : ℕ) → old.state ≡ state.Pair c → meaning_at s (phase_of old.phase) old.start old.begun ≡ Within (phase_of old.phase) false old.start old.begun.bytes → TakesByte (record old { state = s }) x new → TakesByte old x new
+takes-as old new c s x e m k = takes-from old (record old { state = s }) new x (ap (λ v. fed_from limits v (x ∷ [])) (meaning-is old (state.Pair c) (phase_of old.phase) old.start old.begun e refl refl refl ∙ sym m)) k
 
 pub paren-class : (k : ByteClass) (x : ℕ) → class_of k ≡ class x → (k ≡ byte.Open) ⊎ (k ≡ byte.Close) → is_parenthesis (class x) ≡ true
 unfolding is_parenthesis
 paren-class k x e (inl o) = ap is_parenthesis (sym e ∙ ap class_of o)
 paren-class k x e (inr o) = ap is_parenthesis (sym e ∙ ap class_of o)
 
-pub begun-pair : (m : Machine) (x : ℕ) → m.state ≡ state.Begun → IsSound m → IsPairFact m.state (phase_of m.phase) (m.begun.items ++ x ∷ [])
+pub begun-pair : (m : Machine) (x : ℕ) → m.state ≡ state.Begun → IsSound m → IsPairFact m.state (phase_of m.phase) (m.begun.bytes ++ x ∷ [])
 begun-pair m x e s =
     let h = subst (λ q. IsSoundAt q m) e s in
-    let f = subst (λ q. IsPairFact q (phase_of m.phase) m.begun.items) e h.1 in
-    subst (λ q. IsPairFact q (phase_of m.phase) (m.begun.items ++ x ∷ [])) (sym e) (begun-goes (phase_of m.phase) m.begun.items x (h.0).first f)
+    let f = subst (λ q. IsPairFact q (phase_of m.phase) m.begun.bytes) e h.1 in
+    subst (λ q. IsPairFact q (phase_of m.phase) (m.begun.bytes ++ x ∷ [])) (sym e) (begun-goes (phase_of m.phase) m.begun.bytes x (h.0).first f)
 
-pub between-none : (m : Machine) (c : Bool) → m.state ≡ state.Between c → IsSound m → m.begun.items ≡ []
+pub between-none : (m : Machine) (c : Bool) → m.state ≡ state.Between c → IsSound m → m.begun ≡ nothing
 between-none m c e s = let h = subst (λ q. IsSoundAt q m) e s in h.0
 
 pub between-placed : (m : Machine) (c : Bool) → m.state ≡ state.Between c → IsSound m → IsPlaced m
@@ -516,11 +529,10 @@ unfolding fed_from
 takes-answered m x n b p s = record { sound = s; meant = go m.state n b p }
   where
     go : (q : State) → ((c : Bool) → q ≡ state.Between c → ⊥) → (q ≡ state.Begun → ⊥) → ((c : Bool) → q ≡ state.Pair c → ⊥) →
-        meaning_at q (phase_of m.phase) m.start m.begun.items ≡ fed_from limits (meaning_at q (phase_of m.phase) m.start m.begun.items) (x ∷ [])
+        meaning_at q (phase_of m.phase) m.start m.begun ≡ fed_from limits (meaning_at q (phase_of m.phase) m.start m.begun) (x ∷ [])
     go (state.Between c) n b p = absurd (n c refl)
     go state.Begun n b p = absurd (b refl)
     go (state.Pair c) n b p = absurd (p c refl)
-    go (state.Command k) n b p = refl
-    go state.Taken n b p = refl
+    go state.Command n b p = refl
     go (state.Failed name at) n b p = refl
     go state.NoMemory n b p = refl

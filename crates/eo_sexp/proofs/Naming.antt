@@ -11,7 +11,7 @@ use Rattle.eo_sexp.specs.Sexp.{Sexp, Sexps}
 use Rattle.eo_sexp.specs.Lexicon.{Class, Space, Comment, Open, Close, Quote, Bar, Word, Other, class, Input, advance, skip, Body, Closes, Stops, RunsOut, string, quoted, is_word}
 use Rattle.eo_sexp.specs.Commands.{Reading, Whole, Refused, Cut, ◌>>=◌, comes_first, at_most, delimited, word_before, word, front, prepend, and_others, listed, opened, atom, turn, children, lists, sexp, command}
 use Rattle.eo_sexp.specs.Texts.{Phase, Start, InPair, Plain, Next, Command, End, Fault, SoFar, Known, More, Held, end_of, is_extra, last_atom, known, decided, from_token, from_front, answer, so_far, next_from, settle, spot_after}
-use Rattle.eo_sexp.specs.Collecting.{Collecting, Within, AtCommand, Taken, Failed, NoMemory, IsLive, ready, becomes, waiting, on_more, fed_from, fed_with, finished_from, finished_with}
+use Rattle.eo_sexp.specs.Collecting.{Collecting, Within, AtCommand, Failed, NoMemory, IsLive, ready, becomes, waiting, on_more, fed_from, fed_with, finished_from, finished_with}
 use Rattle.eo_sexp.specs.Answering.{IsLexical, IsAnswer, AnswersPieces, AnswersEnd}
 
 abbrev Names : {A : Type 0} → Reading A → Type 0
@@ -183,7 +183,6 @@ module _ (limits : Limits) where
   unfolding fed_from
   names-fed_from (Within phase comment start begun) p l = let h = settle limits phase comment (record { at = 0; bytes = begun ++ p }) in names-on_more start (begun ++ p) h (answer limits h) (names-answer limits h)
   names-fed_from (AtCommand k phase) p l = let h = settle limits phase false (record { at = 0; bytes = [] ++ p }) in names-on_more (spot_after k.start k.bytes) ([] ++ p) h (answer limits h) (names-answer limits h)
-  names-fed_from (Taken bytes start phase) p l = let h = settle limits phase false (record { at = 0; bytes = [] ++ p }) in names-on_more (spot_after start bytes) ([] ++ p) h (answer limits h) (names-answer limits h)
   names-fed_from (Failed name at) p l = absurd l
   names-fed_from NoMemory p l = absurd l
 
@@ -199,7 +198,6 @@ module _ (limits : Limits) where
   unfolding finished_from
   names-finished_from (Within phase comment start begun) l = names-becomes start begun (Within phase comment start begun) (next_from limits true phase comment begun) tt (names-next_from phase comment begun)
   names-finished_from (AtCommand k phase) l = names-becomes (spot_after k.start k.bytes) [] (Within phase false (spot_after k.start k.bytes) []) (next_from limits true phase false []) tt (names-next_from phase false [])
-  names-finished_from (Taken bytes start phase) l = names-becomes (spot_after start bytes) [] (Within phase false (spot_after start bytes) []) (next_from limits true phase false []) tt (names-next_from phase false [])
   names-finished_from (Failed name at) l = absurd l
   names-finished_from NoMemory l = absurd l
 

@@ -1,15 +1,12 @@
 -- The turns of a reader.
-use Rattle.std.proofs.Common.{◌≡◌, refl, ℕ, suc, ◌+◌, ◌-◌, ◌≤◌, ◌<◌, Bool, true, false, not, List, [], ◌∷◌, ◌++◌, length, length-append, reverse, map, inl, inr, sym, ap, ◌∙◌, append_assoc, subst, arith}
+use Rattle.std.proofs.Common.{◌≡◌, refl, ℕ, suc, ◌+◌, ◌-◌, ◌≤◌, ◌<◌, Bool, true, false, not, List, [], ◌∷◌, ◌++◌, length, length-append, map, inl, inr, sym, ap, ◌∙◌, append_assoc, subst, arith}
 use Rattle.std.specs.Prelude.{Option, Some, None, ◌⊎◌, if◌then◌else◌}
-use Rattle.std.proofs.lemmas.List.{length-reverse}
 use Rattle.eo_base.specs.declared.FaultName.{FaultName}
 use Rattle.eo_base.specs.declared.FaultName.TheVariants.{BadByte, Nesting, Width}
 use Rattle.eo_base.specs.Limits.{Limits}
-use Rattle.eo_sexp.specs.declared.owned.OwnedSexp.{OwnedSexp}
-use Rattle.eo_sexp.specs.declared.reader.Frame.{Frame}
+use Rattle.eo_sexp.specs.Built.{OpenList, Built}
 use Rattle.eo_sexp.specs.declared.reader.Place.{Place}
 use Rattle.eo_sexp.specs.declared.reader.Place.TheVariants as place
-use Rattle.eo_sexp.specs.declared.reader.Reader.{Reader}
 use Rattle.eo_sexp.specs.declared.reader.ReaderTurn.{ReaderTurn}
 use Rattle.eo_sexp.specs.declared.reader.ReaderTurn.TheVariants as turn
 use Rattle.eo_sexp.specs.declared.token.Token.{Token}
@@ -19,12 +16,10 @@ use Rattle.eo_sexp.specs.declared.token.TokenTurn.TheVariants as token_turns_to
 use Rattle.eo_sexp.specs.Sexp.{Sexp, Atom}
 use Rattle.eo_sexp.specs.Lexicon.{Class, Space, Comment, Open, Close, Quote, Bar, Word, Other, class, is_line_end, Input, pass, skip, Passed}
 use Rattle.eo_sexp.specs.Commands.{Reading, Whole, Refused, Cut, ◌>>=◌, atom}
-use Rattle.eo_sexp.specs.Owned.{owned}
 use Rattle.eo_sexp.specs.Token.{token_class, opening, IsToken, token_size, atom_kind, atom_text, token_turn, token_end, may_end}
-use Rattle.eo_sexp.specs.Reader.{IsAtom, IsAtomOf, inner, outer, gap_reading, child_reading, token_reading, place_reading, reading, IsPlace, IsReader, AddsChild, ClosesList, BeginsToken, Begins, Turns, is_full}
+use Rattle.eo_sexp.specs.Reader.{Held, IsAtom, inner, outer, gap_reading, child_reading, token_reading, place_reading, reading, IsPlace, IsReader, AddsChild, ClosesList, BeginsToken, Begins, Turns, atom_of, is_full}
 use Rattle.eo_sexp.proofs.Resuming.{StandsStill, resume-cut}
 use Rattle.eo_sexp.proofs.TokenEnds.{token_cut}
-use Rattle.eo_sexp.proofs.OpenFrames.{reverse-last}
 use Rattle.eo_sexp.proofs.TokenTurns.{TokenTurns, token_turns}
 use Rattle.eo_sexp.proofs.ReaderTurns.{pass-in_comment, gap-pass, gap-at, gap-space, gap-comment, gap-bad, gap-deep, gap-full-open, gap-full, gap-open, gap-atom, list-begins}
 
@@ -35,242 +30,264 @@ atom-stands Word a = tt
 atom-stands c a = absurd a
 
 module _ (limits : Limits) where
-  reading-gap : (r : Reader) (at : ℕ) (more : List ℕ) → r.place ≡ place.Gap → reading limits r at more ≡ gap_reading limits (reverse r.frames.items) (pass false at more).rest
+  reading-gap : (r : Held) (at : ℕ) (more : List ℕ) → r.place ≡ place.Gap → reading limits r at more ≡ gap_reading limits r.frames (pass false at more).rest
   unfolding place_reading
-  reading-gap r at more e = ap (λ p. place_reading limits (reverse r.frames.items) p r.from r.text.items at more) e
+  reading-gap r at more e = ap (λ p. place_reading limits r.frames p r.from r.text at more) e
 
-  reading-comment : (r : Reader) (at : ℕ) (more : List ℕ) → r.place ≡ place.Comment → reading limits r at more ≡ gap_reading limits (reverse r.frames.items) (pass true at more).rest
+  pub reading-comment : (r : Held) (at : ℕ) (more : List ℕ) → r.place ≡ place.Comment → reading limits r at more ≡ gap_reading limits r.frames (pass true at more).rest
   unfolding place_reading
-  reading-comment r at more e = ap (λ p. place_reading limits (reverse r.frames.items) p r.from r.text.items at more) e
+  reading-comment r at more e = ap (λ p. place_reading limits r.frames p r.from r.text at more) e
 
-  reading-token : (r : Reader) (t : Token) (at : ℕ) (more : List ℕ) → r.place ≡ place.Token t →
-      reading limits r at more ≡ (token_reading limits (reverse r.frames.items) (atom limits (token_class t) (record { at = r.from; bytes = opening t ++ (r.text.items ++ more) })))
+  pub reading-token : (r : Held) (t : Token) (at : ℕ) (more : List ℕ) → r.place ≡ place.Token t →
+      reading limits r at more ≡ (token_reading limits r.frames (atom limits (token_class t) (record { at = r.from; bytes = opening t ++ (r.text ++ more) })))
   unfolding place_reading
-  reading-token r t at more e = ap (λ p. place_reading limits (reverse r.frames.items) p r.from r.text.items at more) e
+  reading-token r t at more e = ap (λ p. place_reading limits r.frames p r.from r.text at more) e
 
-  token-whole : (fs : List Frame) (s : Sexp) (rest : Input) → token_reading limits fs (Whole s rest) ≡ child_reading limits fs s rest
+  token-whole : (fs : List OpenList) (s : Sexp) (rest : Input) → token_reading limits fs (Whole s rest) ≡ child_reading limits fs s rest
   unfolding token_reading child_reading ◌>>=◌
   token-whole [] s rest = refl
   token-whole (f ∷ fs) s rest = refl
 
-  token-refused : (fs : List Frame) (name : FaultName) (at : ℕ) → token_reading limits fs (Refused name at) ≡ Refused name at
+  token-refused : (fs : List OpenList) (name : FaultName) (at : ℕ) → token_reading limits fs (Refused name at) ≡ Refused name at
   unfolding token_reading ◌>>=◌
   token-refused [] name at = refl
   token-refused (f ∷ fs) name at = refl
 
-  stands-as : (r : Reader) (at : ℕ) (p : Place) → r.place ≡ p → IsReader limits r at → IsPlace limits (length r.frames.items) p r.from r.text.items at
-  stands-as r at p e h = subst (λ q. IsPlace limits (length r.frames.items) q r.from r.text.items at) e h.stands
+  pub stands-as : (r : Held) (at : ℕ) (p : Place) → r.place ≡ p → IsReader limits r at → IsPlace limits (length r.frames) p r.from r.text at
+  stands-as r at p e h = subst (λ q. IsPlace limits (length r.frames) q r.from r.text at) e h.stands
 
-  as-reader : (r : Reader) (at : ℕ) (p : Place) → r.place ≡ p → length r.frames.items ≤ limits.nesting → IsPlace limits (length r.frames.items) p r.from r.text.items at → IsReader limits r at
-  as-reader r at p e n s = record { nested = n; stands = subst (λ q. IsPlace limits (length r.frames.items) q r.from r.text.items at) (sym e) s }
+  pub as-reader : (r : Held) (at : ℕ) (p : Place) → r.place ≡ p → length r.frames ≤ limits.nesting → r.done ≡ [] → IsPlace limits (length r.frames) p r.from r.text at → IsReader limits r at
+  as-reader r at p e n d s = record { nested = n; stands = subst (λ q. IsPlace limits (length r.frames) q r.from r.text at) (sym e) s; none = d }
 
-  some-open : (r : Reader) (at : ℕ) → r.place ≡ place.Gap → IsReader limits r at → 0 < length (reverse r.frames.items)
-  some-open r at p h = let n : 0 < length r.frames.items = stands-as r at place.Gap p h in omega (arith, n, length-reverse r.frames.items)
+  some-open : (r : Held) (at : ℕ) → r.place ≡ place.Gap → IsReader limits r at → 0 < length r.frames
+  some-open r at p h = let n : 0 < length r.frames = stands-as r at place.Gap p h in omega (arith, n)
 
   -- ---- between two tokens
 
-  pub turns-space : (r : Reader) (at x : ℕ) → IsReader limits r at → r.place ≡ place.Gap → class x ≡ Space → Turns limits r at x turn.Goes r
-  turns-space r at x h p e = (
-    as-reader r (suc at) place.Gap p h.nested (stands-as r at place.Gap p h),
-    λ more. reading-gap r at (x ∷ more) p ∙ gap-space limits (reverse r.frames.items) at x more e ∙ sym (reading-gap r (suc at) more p),
-  )
-
-  pub turns-comment : (old new : Reader) (at x : ℕ) → IsReader limits old at → old.place ≡ place.Gap → new.frames ≡ old.frames → new.place ≡ place.Comment → class x ≡ Comment → Turns limits old at x turn.Goes new
-  turns-comment old new at x h p f q e =
-      let same = ap (λ v. length v.items) f in
-      let n : 0 < length old.frames.items = stands-as old at place.Gap p h in (
-        as-reader new (suc at) place.Comment q (omega (arith, h.nested, same)) (omega (arith, n, same)),
-        λ more. reading-gap old at (x ∷ more) p ∙ gap-comment limits (reverse old.frames.items) at x more e
-            ∙ ap (λ v. gap_reading limits (reverse v.items) (pass true (suc at) more).rest) (sym f) ∙ sym (reading-comment new (suc at) more q),
+  pub turns-space : (old new : Held) (at x : ℕ) → IsReader limits old at → old.place ≡ place.Gap → new.frames ≡ old.frames → new.done ≡ old.done → new.place ≡ place.Gap → class x ≡ Space → Turns limits old at x turn.Goes new
+  turns-space old new at x h p f d q e =
+      let same = ap length f in
+      let n : 0 < length old.frames = stands-as old at place.Gap p h in (
+        as-reader new (suc at) place.Gap q (omega (arith, h.nested, same)) (d ∙ h.none) (omega (arith, n, same)),
+        λ more. reading-gap old at (x ∷ more) p ∙ gap-space limits old.frames at x more e
+            ∙ ap (λ v. gap_reading limits v (pass false (suc at) more).rest) (sym f) ∙ sym (reading-gap new (suc at) more q),
       )
 
-  in_comment : (b : Bool) (old new : Reader) (at x : ℕ) → is_line_end x ≡ b → IsReader limits old at → old.place ≡ place.Comment → new.frames ≡ old.frames → new.place ≡ (if b then place.Gap else place.Comment) → Turns limits old at x turn.Goes new
-  in_comment true old new at x b h p f q =
-      let same = ap (λ v. length v.items) f in
-      let n : 0 < length old.frames.items = stands-as old at place.Comment p h in (
-        as-reader new (suc at) place.Gap q (omega (arith, h.nested, same)) (omega (arith, n, same)),
+  pub turns-comment : (old new : Held) (at x : ℕ) → IsReader limits old at → old.place ≡ place.Gap → new.frames ≡ old.frames → new.done ≡ old.done → new.place ≡ place.Comment → class x ≡ Comment → Turns limits old at x turn.Goes new
+  turns-comment old new at x h p f d q e =
+      let same = ap length f in
+      let n : 0 < length old.frames = stands-as old at place.Gap p h in (
+        as-reader new (suc at) place.Comment q (omega (arith, h.nested, same)) (d ∙ h.none) (omega (arith, n, same)),
+        λ more. reading-gap old at (x ∷ more) p ∙ gap-comment limits old.frames at x more e
+            ∙ ap (λ v. gap_reading limits (v) (pass true (suc at) more).rest) (sym f) ∙ sym (reading-comment new (suc at) more q),
+      )
+
+  in_comment : (b : Bool) (old new : Held) (at x : ℕ) → is_line_end x ≡ b → IsReader limits old at → old.place ≡ place.Comment → new.frames ≡ old.frames → new.done ≡ old.done → new.place ≡ (if b then place.Gap else place.Comment) → Turns limits old at x turn.Goes new
+  in_comment true old new at x b h p f d q =
+      let same = ap length f in
+      let n : 0 < length old.frames = stands-as old at place.Comment p h in (
+        as-reader new (suc at) place.Gap q (omega (arith, h.nested, same)) (d ∙ h.none) (omega (arith, n, same)),
         λ more. reading-comment old at (x ∷ more) p
-            ∙ ap (λ (u : Passed). gap_reading limits (reverse old.frames.items) u.rest) (pass-in_comment at x more ∙ ap (λ l. pass (not l) (suc at) more) b)
-            ∙ ap (λ v. gap_reading limits (reverse v.items) (pass false (suc at) more).rest) (sym f) ∙ sym (reading-gap new (suc at) more q),
+            ∙ ap (λ (u : Passed). gap_reading limits old.frames u.rest) (pass-in_comment at x more ∙ ap (λ l. pass (not l) (suc at) more) b)
+            ∙ ap (λ v. gap_reading limits (v) (pass false (suc at) more).rest) (sym f) ∙ sym (reading-gap new (suc at) more q),
       )
-  in_comment false old new at x b h p f q =
-      let same = ap (λ v. length v.items) f in
-      let n : 0 < length old.frames.items = stands-as old at place.Comment p h in (
-        as-reader new (suc at) place.Comment q (omega (arith, h.nested, same)) (omega (arith, n, same)),
+  in_comment false old new at x b h p f d q =
+      let same = ap length f in
+      let n : 0 < length old.frames = stands-as old at place.Comment p h in (
+        as-reader new (suc at) place.Comment q (omega (arith, h.nested, same)) (d ∙ h.none) (omega (arith, n, same)),
         λ more. reading-comment old at (x ∷ more) p
-            ∙ ap (λ (u : Passed). gap_reading limits (reverse old.frames.items) u.rest) (pass-in_comment at x more ∙ ap (λ l. pass (not l) (suc at) more) b)
-            ∙ ap (λ v. gap_reading limits (reverse v.items) (pass true (suc at) more).rest) (sym f) ∙ sym (reading-comment new (suc at) more q),
+            ∙ ap (λ (u : Passed). gap_reading limits old.frames u.rest) (pass-in_comment at x more ∙ ap (λ l. pass (not l) (suc at) more) b)
+            ∙ ap (λ v. gap_reading limits (v) (pass true (suc at) more).rest) (sym f) ∙ sym (reading-comment new (suc at) more q),
       )
 
-  pub turns-in_comment : (b : Bool) (old new : Reader) (at x : ℕ) → b ≡ is_line_end x → IsReader limits old at → old.place ≡ place.Comment → new.frames ≡ old.frames → new.place ≡ (if b then place.Gap else place.Comment) → Turns limits old at x turn.Goes new
-  turns-in_comment b old new at x e h p f q = in_comment b old new at x (sym e) h p f q
+  pub turns-in_comment : (b : Bool) (old new : Held) (at x : ℕ) → b ≡ is_line_end x → IsReader limits old at → old.place ≡ place.Comment → new.frames ≡ old.frames → new.done ≡ old.done → new.place ≡ (if b then place.Gap else place.Comment) → Turns limits old at x turn.Goes new
+  turns-in_comment b old new at x e h p f d q = in_comment b old new at x (sym e) h p f d q
 
-  pub turns-bad : (old new : Reader) (at x : ℕ) → IsReader limits old at → old.place ≡ place.Gap → class x ≡ Other → Turns limits old at x (turn.Fault BadByte) new
-  turns-bad old new at x h p e = λ more. reading-gap old at (x ∷ more) p ∙ gap-bad limits (reverse old.frames.items) at x more (some-open old at p h) e
+  pub turns-bad : (old new : Held) (at x : ℕ) → IsReader limits old at → old.place ≡ place.Gap → class x ≡ Other → Turns limits old at x (turn.Fault BadByte) new
+  turns-bad old new at x h p e = λ more. reading-gap old at (x ∷ more) p ∙ gap-bad limits old.frames at x more (some-open old at p h) e
 
-  pub turns-deep : (old new : Reader) (at x : ℕ) → IsReader limits old at → old.place ≡ place.Gap → limits.nesting ≤ length old.frames.items → class x ≡ Open → Turns limits old at x (turn.Fault Nesting) new
-  turns-deep old new at x h p d e = λ more. reading-gap old at (x ∷ more) p ∙ gap-deep limits (reverse old.frames.items) at x more (some-open old at p h) (omega (arith, d, length-reverse old.frames.items)) e
+  pub turns-deep : (old new : Held) (at x : ℕ) → IsReader limits old at → old.place ≡ place.Gap → limits.nesting ≤ length old.frames → class x ≡ Open → Turns limits old at x (turn.Fault Nesting) new
+  turns-deep old new at x h p d e = λ more. reading-gap old at (x ∷ more) p ∙ gap-deep limits old.frames at x more (some-open old at p h) (omega (arith, d)) e
 
-  pub turns-full-open : (old new : Reader) (at x : ℕ) → IsReader limits old at → old.place ≡ place.Gap → length old.frames.items < limits.nesting → is_full limits (reverse old.frames.items) ≡ true → class x ≡ Open → Turns limits old at x (turn.Fault Width) new
+  pub turns-full-open : (old new : Held) (at x : ℕ) → IsReader limits old at → old.place ≡ place.Gap → length old.frames < limits.nesting → is_full limits old.frames ≡ true → class x ≡ Open → Turns limits old at x (turn.Fault Width) new
   turns-full-open old new at x h p d m e = λ more.
-      reading-gap old at (x ∷ more) p ∙ gap-full-open limits (reverse old.frames.items) at x more (some-open old at p h) (omega (arith, d, length-reverse old.frames.items)) m e
+      reading-gap old at (x ∷ more) p ∙ gap-full-open limits old.frames at x more (some-open old at p h) (omega (arith, d)) m e
 
-  pub turns-full : (old new : Reader) (at x : ℕ) → IsReader limits old at → old.place ≡ place.Gap → is_full limits (reverse old.frames.items) ≡ true → IsAtom (class x) → Turns limits old at x (turn.Fault Width) new
-  turns-full old new at x h p m a = λ more. reading-gap old at (x ∷ more) p ∙ gap-full limits (class x) (reverse old.frames.items) at x more (some-open old at p h) m a (atom-stands (class x) a) refl
+  pub turns-full : (old new : Held) (at x : ℕ) → IsReader limits old at → old.place ≡ place.Gap → is_full limits old.frames ≡ true → IsAtom (class x) → Turns limits old at x (turn.Fault Width) new
+  turns-full old new at x h p m a = λ more. reading-gap old at (x ∷ more) p ∙ gap-full limits (class x) old.frames at x more (some-open old at p h) m a (atom-stands (class x) a) refl
 
-  pub turns-open : (old new : Reader) (g : Frame) (at x : ℕ) → IsReader limits old at → old.place ≡ place.Gap → length old.frames.items < limits.nesting → is_full limits (reverse old.frames.items) ≡ false →
-      g.at ≡ at → g.children.items ≡ [] → new.frames.items ≡ old.frames.items ++ g ∷ [] → new.place ≡ old.place → class x ≡ Open → Turns limits old at x turn.Goes new
-  turns-open old new g at x h p d m a i f q e =
-      let same = ap length f ∙ length-append old.frames.items (g ∷ []) in (
-        as-reader new (suc at) place.Gap (q ∙ p) (omega (arith, d, same)) (omega (arith, same)),
+  pub turns-open : (old new : Held) (at x : ℕ) → IsReader limits old at → old.place ≡ place.Gap → length old.frames < limits.nesting → is_full limits old.frames ≡ false →
+      new.frames ≡ record { at = at; children = [] } ∷ old.frames → new.done ≡ old.done → new.place ≡ old.place → class x ≡ Open → Turns limits old at x turn.Goes new
+  turns-open old new at x h p d m f n q e =
+      let same = ap length f in (
+        as-reader new (suc at) place.Gap (q ∙ p) (omega (arith, d, same)) (n ∙ h.none) (omega (arith, same)),
         λ more.
             reading-gap old at (x ∷ more) p
-            ∙ gap-open limits (reverse old.frames.items) g at x more (some-open old at p h) (omega (arith, d, length-reverse old.frames.items)) m a i e
-            ∙ ap (λ fs. gap_reading limits fs (pass false (suc at) more).rest) (sym (ap reverse f ∙ reverse-last old.frames.items g))
+            ∙ gap-open limits old.frames (record { at = at; children = [] }) at x more (some-open old at p h) d m refl refl e
+            ∙ ap (λ fs. gap_reading limits fs (pass false (suc at) more).rest) (sym f)
             ∙ sym (reading-gap new (suc at) more (q ∙ p)),
       )
 
-  pub turns-close : (old new : Reader) (at to x : ℕ) → IsReader limits old at → old.place ≡ place.Gap → new.place ≡ old.place → suc at ≡ to → class x ≡ Close → ClosesList limits old.frames.items to new.frames.items None → Turns limits old at x turn.Goes new
+  -- what is added to and closed, without the bytes
+  abbrev pub bare : Held → Built
+  bare h = record { bytes = []; open_lists = h.frames; done = h.done }
+
+  pub turns-close : (old new : Held) (at to x : ℕ) → IsReader limits old at → old.place ≡ place.Gap → new.place ≡ old.place → suc at ≡ to → class x ≡ Close → ClosesList limits (bare old) to (bare new) false → Turns limits old at x turn.Goes new
   turns-close old new at to x h p q t e c = (
-    as-reader new (suc at) place.Gap (q ∙ p) (omega (arith, h.nested, c.0)) c.1,
+    as-reader new (suc at) place.Gap (q ∙ p) (omega (arith, h.nested, c.0)) (c.2 ∙ h.none) c.1,
     λ more.
-        reading-gap old at (x ∷ more) p ∙ gap-at limits Close (reverse old.frames.items) at x more tt e ∙ c.2 at x more t e
-        ∙ ap (λ k. gap_reading limits (reverse new.frames.items) (record { at = k; bytes = more })) (sym t)
-        ∙ gap-pass limits (reverse new.frames.items) (suc at) more ∙ sym (reading-gap new (suc at) more (q ∙ p)),
+        reading-gap old at (x ∷ more) p ∙ gap-at limits Close old.frames at x more tt e ∙ c.3 at x more t e
+        ∙ ap (λ k. gap_reading limits new.frames (record { at = k; bytes = more })) (sym t)
+        ∙ gap-pass limits new.frames (suc at) more ∙ sym (reading-gap new (suc at) more (q ∙ p)),
   )
 
-  pub turns-close_whole : (old new : Reader) (items : List Frame) (s : OwnedSexp) (at to x : ℕ) → IsReader limits old at → old.place ≡ place.Gap → suc at ≡ to → class x ≡ Close → ClosesList limits old.frames.items to items (Some s) → Turns limits old at x (turn.Whole s) new
-  turns-close_whole old new items s at to x h p t e c = λ more.
-      reading-gap old at (x ∷ more) p ∙ gap-at limits Close (reverse old.frames.items) at x more tt e ∙ c at x more t e ∙ ap (λ k. Whole (owned s) (record { at = k; bytes = more })) (sym t)
+  pub turns-close_whole : (old new : Held) (at to x : ℕ) → IsReader limits old at → old.place ≡ place.Gap → suc at ≡ to → class x ≡ Close → ClosesList limits (bare old) to (bare new) true → Turns limits old at x turn.Whole new
+  turns-close_whole old new at to x h p t e c = (
+    c.0,
+    c.2 ∙ ap (λ ss. ss ++ c.0 ∷ []) h.none,
+    c.1,
+    λ more.
+        reading-gap old at (x ∷ more) p ∙ gap-at limits Close old.frames at x more tt e ∙ c.3 at x more t e ∙ ap (λ k. Whole c.0 (record { at = k; bytes = more })) (sym t),
+  )
 
-  pub turns-atom : (old new : Reader) (at x : ℕ) → IsReader limits old at → old.place ≡ place.Gap → is_full limits (reverse old.frames.items) ≡ false → IsAtom (class x) → BeginsToken limits old at x new → Turns limits old at x turn.Goes new
+  pub turns-atom : (old new : Held) (at x : ℕ) → IsReader limits old at → old.place ≡ place.Gap → is_full limits old.frames ≡ false → IsAtom (class x) → BeginsToken limits old at x new → Turns limits old at x turn.Goes new
   turns-atom old new at x h p m a b = (
-    record { nested = omega (arith, h.nested, ap (λ v. length v.items) b.frames); stands = b.stands (length new.frames.items) },
+    record { nested = omega (arith, h.nested, ap length b.frames); stands = b.stands (length new.frames); none = b.done ∙ h.none },
     λ more.
         reading-gap old at (x ∷ more) p
-        ∙ gap-atom limits (class x) (reverse old.frames.items) at x more (some-open old at p h) m a (atom-stands (class x) a) refl
-        ∙ b.reads (reverse old.frames.items) more
-        ∙ ap (λ v. place_reading limits (reverse v.items) new.place new.from new.text.items (suc at) more) (sym b.frames),
+        ∙ gap-atom limits (class x) old.frames at x more (some-open old at p h) m a (atom-stands (class x) a) refl
+        ∙ b.reads old.frames more
+        ∙ ap (λ v. place_reading limits (v) new.place new.from new.text (suc at) more) (sym b.frames),
   )
 
   -- ---- inside a token
 
   -- what the byte does to the token
-  pub token-turned : (r : Reader) (t : Token) (k : TokenTurn) (at x : ℕ) → IsReader limits r at → r.place ≡ place.Token t → k ≡ token_turn limits (at - r.from) t x → TokenTurns limits t r.text.items x k
+  pub token-turned : (r : Held) (t : Token) (k : TokenTurn) (at x : ℕ) → IsReader limits r at → r.place ≡ place.Token t → k ≡ token_turn limits (at - r.from) t x → TokenTurns limits t r.text x k
   token-turned r t k at x h p e =
       let s = stands-as r at (place.Token t) p h in
-      let size : at - r.from ≡ token_size t r.text.items = omega (arith, s.1) in
-      subst (TokenTurns limits t r.text.items x) (sym (e ∙ ap (λ n. token_turn limits n t x) size)) (token_turns limits t r.text.items x s.0 s.2)
+      let size : at - r.from ≡ token_size t r.text = omega (arith, s.1) in
+      subst (TokenTurns limits t r.text x) (sym (e ∙ ap (λ n. token_turn limits n t x) size)) (token_turns limits t r.text x s.0 s.2)
 
-  pub turns-goes : (old new : Reader) (t u : Token) (at x : ℕ) → IsReader limits old at → old.place ≡ place.Token t → TokenTurns limits t old.text.items x (token_turns_to.Goes u) →
-      new.frames ≡ old.frames → new.place ≡ place.Token u → new.from ≡ old.from → new.text.items ≡ old.text.items ++ x ∷ [] → Turns limits old at x turn.Goes new
-  turns-goes old new t u at x h p k f q a i =
+  pub turns-goes : (old new : Held) (t u : Token) (at x : ℕ) → IsReader limits old at → old.place ≡ place.Token t → TokenTurns limits t old.text x (token_turns_to.Goes u) →
+      new.frames ≡ old.frames → new.done ≡ old.done → new.place ≡ place.Token u → new.from ≡ old.from → new.text ≡ old.text ++ x ∷ [] → Turns limits old at x turn.Goes new
+  turns-goes old new t u at x h p k f d q a i =
       let s = stands-as old at (place.Token t) p h in
-      let long = ap length i ∙ length-append old.text.items (x ∷ []) in
+      let long = ap length i ∙ length-append old.text (x ∷ []) in
       let start = ap length k.2 in (
-        as-reader new (suc at) (place.Token u) q (omega (arith, h.nested, ap (λ v. length v.items) f)) (subst (IsToken u) (sym i) k.0, omega (arith, s.1, long, start, a), omega (arith, k.3, long, start)),
+        as-reader new (suc at) (place.Token u) q (omega (arith, h.nested, ap length f)) (d ∙ h.none) (subst (IsToken u) (sym i) k.0, omega (arith, s.1, long, start, a), omega (arith, k.3, long, start)),
         λ more.
             reading-token old t at (x ∷ more) p
-            ∙ ap (λ c. token_reading limits (reverse old.frames.items) (atom limits c (record { at = old.from; bytes = opening t ++ (old.text.items ++ x ∷ more) }))) k.1
-            ∙ ap (λ o. token_reading limits (reverse old.frames.items) (atom limits (token_class u) (record { at = old.from; bytes = o ++ (old.text.items ++ x ∷ more) }))) k.2
-            ∙ ap (λ l. token_reading limits (reverse old.frames.items) (atom limits (token_class u) (record { at = old.from; bytes = opening u ++ l }))) (sym (append_assoc old.text.items (x ∷ []) more))
-            ∙ ap (λ l. token_reading limits (reverse old.frames.items) (atom limits (token_class u) (record { at = old.from; bytes = opening u ++ (l ++ more) }))) (sym i)
-            ∙ ap (λ n. token_reading limits (reverse old.frames.items) (atom limits (token_class u) (record { at = n; bytes = opening u ++ (new.text.items ++ more) }))) (sym a)
-            ∙ ap (λ v. token_reading limits (reverse v.items) (atom limits (token_class u) (record { at = new.from; bytes = opening u ++ (new.text.items ++ more) }))) (sym f)
+            ∙ ap (λ c. token_reading limits old.frames (atom limits c (record { at = old.from; bytes = opening t ++ (old.text ++ x ∷ more) }))) k.1
+            ∙ ap (λ o. token_reading limits old.frames (atom limits (token_class u) (record { at = old.from; bytes = o ++ (old.text ++ x ∷ more) }))) k.2
+            ∙ ap (λ l. token_reading limits old.frames (atom limits (token_class u) (record { at = old.from; bytes = opening u ++ l }))) (sym (append_assoc old.text (x ∷ []) more))
+            ∙ ap (λ l. token_reading limits old.frames (atom limits (token_class u) (record { at = old.from; bytes = opening u ++ (l ++ more) }))) (sym i)
+            ∙ ap (λ n. token_reading limits old.frames (atom limits (token_class u) (record { at = n; bytes = opening u ++ (new.text ++ more) }))) (sym a)
+            ∙ ap (λ v. token_reading limits (v) (atom limits (token_class u) (record { at = new.from; bytes = opening u ++ (new.text ++ more) }))) (sym f)
             ∙ sym (reading-token new u (suc at) more q),
       )
 
-  pub turns-fault : (old new : Reader) (t : Token) (name : FaultName) (at x : ℕ) → IsReader limits old at → old.place ≡ place.Token t → TokenTurns limits t old.text.items x (token_turns_to.Fault name) → Turns limits old at x (turn.Fault name) new
+  pub turns-fault : (old new : Held) (t : Token) (name : FaultName) (at x : ℕ) → IsReader limits old at → old.place ≡ place.Token t → TokenTurns limits t old.text x (token_turns_to.Fault name) → Turns limits old at x (turn.Fault name) new
   turns-fault old new t name at x h p k = λ more.
       let s = stands-as old at (place.Token t) p h in
-      reading-token old t at (x ∷ more) p ∙ ap (token_reading limits (reverse old.frames.items)) (k old.from more) ∙ token-refused (reverse old.frames.items) name _ ∙ ap (Refused name) s.1
+      reading-token old t at (x ∷ more) p ∙ ap (token_reading limits old.frames) (k old.from more) ∙ token-refused old.frames name _ ∙ ap (Refused name) s.1
 
   -- a token that ends with the byte x
-  closed-token : (old : Reader) (t : Token) (s : Sexp) (at to x : ℕ) → IsReader limits old at → old.place ≡ place.Token t → suc at ≡ to → TokenTurns limits t old.text.items x token_turns_to.Closes → IsAtomOf old t to s → (more : List ℕ) →
-      reading limits old at (x ∷ more) ≡ child_reading limits (reverse old.frames.items) s (record { at = suc at; bytes = more })
-  closed-token old t s at to x h p e k a more =
+  closed-token : (old : Held) (t : Token) (at to x : ℕ) → IsReader limits old at → old.place ≡ place.Token t → suc at ≡ to → TokenTurns limits t old.text x token_turns_to.Closes → (more : List ℕ) →
+      reading limits old at (x ∷ more) ≡ child_reading limits old.frames (atom_of old t to) (record { at = suc at; bytes = more })
+  closed-token old t at to x h p e k more =
       let st = stands-as old at (place.Token t) p h in
-      let end : suc (old.from + token_size t old.text.items) ≡ suc at = ap suc st.1 in
-      let fs : List Frame = reverse old.frames.items in
+      let end : suc (old.from + token_size t old.text) ≡ suc at = ap suc st.1 in
+      let fs : List OpenList = old.frames in
       reading-token old t at (x ∷ more) p
       ∙ ap (token_reading limits fs) (k old.from more)
       ∙ token-whole fs _ _
-      ∙ ap (λ n. child_reading limits fs (Atom (atom_kind t old.text.items) (atom_text t old.text.items) (record { from = old.from; to = n })) (record { at = n; bytes = more })) end
-      ∙ ap (λ n. child_reading limits fs (Atom (atom_kind t old.text.items) (atom_text t old.text.items) (record { from = old.from; to = n })) (record { at = suc at; bytes = more })) e
-      ∙ ap (λ v. child_reading limits fs v (record { at = suc at; bytes = more })) (sym a)
+      ∙ ap (λ n. child_reading limits fs (Atom (atom_kind t old.text) (atom_text t old.text) (record { from = old.from; to = n })) (record { at = n; bytes = more })) end
+      ∙ ap (λ n. child_reading limits fs (Atom (atom_kind t old.text) (atom_text t old.text) (record { from = old.from; to = n })) (record { at = suc at; bytes = more })) e
 
   -- a token that ended before it
-  ended-token : (old : Reader) (t : Token) (s : Sexp) (at x : ℕ) → IsReader limits old at → old.place ≡ place.Token t → TokenTurns limits t old.text.items x token_turns_to.Ends → IsAtomOf old t at s → (more : List ℕ) →
-      reading limits old at (x ∷ more) ≡ child_reading limits (reverse old.frames.items) s (record { at = at; bytes = x ∷ more })
-  ended-token old t s at x h p k a more =
+  ended-token : (old : Held) (t : Token) (at x : ℕ) → IsReader limits old at → old.place ≡ place.Token t → TokenTurns limits t old.text x token_turns_to.Ends → (more : List ℕ) →
+      reading limits old at (x ∷ more) ≡ child_reading limits old.frames (atom_of old t at) (record { at = at; bytes = x ∷ more })
+  ended-token old t at x h p k more =
       let st = stands-as old at (place.Token t) p h in
-      let fs : List Frame = reverse old.frames.items in
+      let fs : List OpenList = old.frames in
       reading-token old t at (x ∷ more) p
       ∙ ap (token_reading limits fs) (k old.from more)
       ∙ token-whole fs _ _
-      ∙ ap (λ n. child_reading limits fs (Atom (atom_kind t old.text.items) (atom_text t old.text.items) (record { from = old.from; to = n })) (record { at = n; bytes = x ∷ more })) st.1
-      ∙ ap (λ v. child_reading limits fs v (record { at = at; bytes = x ∷ more })) (sym a)
+      ∙ ap (λ n. child_reading limits fs (Atom (atom_kind t old.text) (atom_text t old.text) (record { from = old.from; to = n })) (record { at = n; bytes = x ∷ more })) st.1
 
-  whole-alone : (items new : List Frame) (s : Sexp) (w : OwnedSexp) (rest : Input) → AddsChild limits items s new (Some w) → child_reading limits (reverse items) s rest ≡ Whole (owned w) rest
+  whole-alone : (old new : Built) (s : Sexp) (rest : Input) → AddsChild limits old s new true → child_reading limits old.open_lists s rest ≡ Whole s rest
   unfolding child_reading
-  whole-alone items new s w rest c = ap (λ fs. child_reading limits (reverse fs) s rest) c.1 ∙ ap (λ v. Whole v rest) (sym c.0)
+  whole-alone old new s rest c = ap (λ fs. child_reading limits fs s rest) c.0
 
-  pub turns-closes : (old new : Reader) (t : Token) (s : Sexp) (at to x : ℕ) → IsReader limits old at → old.place ≡ place.Token t → suc at ≡ to → TokenTurns limits t old.text.items x token_turns_to.Closes → IsAtomOf old t to s →
-      new.place ≡ place.Gap → AddsChild limits old.frames.items s new.frames.items None → Turns limits old at x turn.Goes new
-  turns-closes old new t s at to x h p e k a q c = (
-    as-reader new (suc at) place.Gap q (omega (arith, h.nested, c.0)) (omega (arith, c.0, c.1)),
+  pub turns-closes : (old new : Held) (t : Token) (at to x : ℕ) → IsReader limits old at → old.place ≡ place.Token t → suc at ≡ to → TokenTurns limits t old.text x token_turns_to.Closes →
+      new.place ≡ place.Gap → AddsChild limits (bare old) (atom_of old t to) (bare new) false → Turns limits old at x turn.Goes new
+  turns-closes old new t at to x h p e k q c = (
+    as-reader new (suc at) place.Gap q (omega (arith, h.nested, c.0)) (c.2 ∙ h.none) (omega (arith, c.0, c.1)),
     λ more.
-        closed-token old t s at to x h p e k a more ∙ c.2 (record { at = suc at; bytes = more }) ∙ gap-pass limits (reverse new.frames.items) (suc at) more ∙ sym (reading-gap new (suc at) more q),
+        closed-token old t at to x h p e k more ∙ c.3 (record { at = suc at; bytes = more }) ∙ gap-pass limits new.frames (suc at) more ∙ sym (reading-gap new (suc at) more q),
   )
 
-  pub turns-closes_whole : (old new : Reader) (items : List Frame) (t : Token) (s : Sexp) (w : OwnedSexp) (at to x : ℕ) → IsReader limits old at → old.place ≡ place.Token t → suc at ≡ to → TokenTurns limits t old.text.items x token_turns_to.Closes →
-      IsAtomOf old t to s → AddsChild limits old.frames.items s items (Some w) → Turns limits old at x (turn.Whole w) new
-  turns-closes_whole old new items t s w at to x h p e k a c = λ more. closed-token old t s at to x h p e k a more ∙ whole-alone old.frames.items items s w (record { at = suc at; bytes = more }) c
+  pub turns-closes_whole : (old new : Held) (t : Token) (at to x : ℕ) → IsReader limits old at → old.place ≡ place.Token t → suc at ≡ to → TokenTurns limits t old.text x token_turns_to.Closes →
+      AddsChild limits (bare old) (atom_of old t to) (bare new) true → Turns limits old at x turn.Whole new
+  turns-closes_whole old new t at to x h p e k c = (
+    atom_of old t to,
+    c.2 ∙ ap (λ ss. ss ++ atom_of old t to ∷ []) h.none,
+    c.1,
+    λ more.
+        closed-token old t at to x h p e k more ∙ whole-alone (bare old) (bare new) (atom_of old t to) (record { at = suc at; bytes = more }) c,
+  )
 
-  pub turns-before : (old new : Reader) (items : List Frame) (t : Token) (s : Sexp) (w : OwnedSexp) (at x : ℕ) → IsReader limits old at → old.place ≡ place.Token t → TokenTurns limits t old.text.items x token_turns_to.Ends →
-      IsAtomOf old t at s → AddsChild limits old.frames.items s items (Some w) → Turns limits old at x (turn.Before w) new
-  turns-before old new items t s w at x h p k a c = λ more. ended-token old t s at x h p k a more ∙ whole-alone old.frames.items items s w (record { at = at; bytes = x ∷ more }) c
+  pub turns-before : (old new : Held) (t : Token) (at x : ℕ) → IsReader limits old at → old.place ≡ place.Token t → TokenTurns limits t old.text x token_turns_to.Ends →
+      AddsChild limits (bare old) (atom_of old t at) (bare new) true → Turns limits old at x turn.Before new
+  turns-before old new t at x h p k c = (
+    atom_of old t at,
+    c.2 ∙ ap (λ ss. ss ++ atom_of old t at ∷ []) h.none,
+    c.1,
+    λ more.
+        ended-token old t at x h p k more ∙ whole-alone (bare old) (bare new) (atom_of old t at) (record { at = at; bytes = x ∷ more }) c,
+  )
 
   -- behind the token the byte is one between two tokens
-  pub ended-reader : (old mid : Reader) (t : Token) (s : Sexp) (at : ℕ) → IsReader limits old at → mid.place ≡ place.Gap → AddsChild limits old.frames.items s mid.frames.items None → IsReader limits mid at
-  ended-reader old mid t s at h q c = as-reader mid at place.Gap q (omega (arith, h.nested, c.0)) (omega (arith, c.0, c.1))
+  pub ended-reader : (old mid : Held) (s : Sexp) (at : ℕ) → IsReader limits old at → mid.place ≡ place.Gap → AddsChild limits (bare old) s (bare mid) false → IsReader limits mid at
+  ended-reader old mid s at h q c = as-reader mid at place.Gap q (omega (arith, h.nested, c.0)) (c.2 ∙ h.none) (omega (arith, c.0, c.1))
 
-  turns-as : (old mid new : Reader) (at x : ℕ) (k : ReaderTurn) → ((more : List ℕ) → reading limits old at (x ∷ more) ≡ reading limits mid at (x ∷ more)) → Turns limits mid at x k new → Turns limits old at x k new
+  turns-as : (old mid new : Held) (at x : ℕ) (k : ReaderTurn) → ((more : List ℕ) → reading limits old at (x ∷ more) ≡ reading limits mid at (x ∷ more)) → Turns limits mid at x k new → Turns limits old at x k new
   turns-as old mid new at x turn.Goes e h = (h.0, λ more. e more ∙ h.1 more)
-  turns-as old mid new at x (turn.Before s) e h = λ more. e more ∙ h more
-  turns-as old mid new at x (turn.Whole s) e h = λ more. e more ∙ h more
+  turns-as old mid new at x turn.Before e h = (h.0, h.1, h.2, λ more. e more ∙ h.3 more)
+  turns-as old mid new at x turn.Whole e h = (h.0, h.1, h.2, λ more. e more ∙ h.3 more)
   turns-as old mid new at x (turn.Fault name) e h = λ more. e more ∙ h more
 
-  pub turns-ends : (old mid new : Reader) (t : Token) (s : Sexp) (at x : ℕ) (k : ReaderTurn) → IsReader limits old at → old.place ≡ place.Token t → TokenTurns limits t old.text.items x token_turns_to.Ends → IsAtomOf old t at s →
-      mid.place ≡ place.Gap → AddsChild limits old.frames.items s mid.frames.items None → Turns limits mid at x k new → Turns limits old at x k new
-  turns-ends old mid new t s at x k h p u a q c v =
+  pub turns-ends : (old mid new : Held) (t : Token) (at x : ℕ) (k : ReaderTurn) → IsReader limits old at → old.place ≡ place.Token t → TokenTurns limits t old.text x token_turns_to.Ends →
+      mid.place ≡ place.Gap → AddsChild limits (bare old) (atom_of old t at) (bare mid) false → Turns limits mid at x k new → Turns limits old at x k new
+  turns-ends old mid new t at x k h p u q c v =
       turns-as old mid new at x k
-      (λ more. ended-token old t s at x h p u a more ∙ c.2 (record { at = at; bytes = x ∷ more }) ∙ gap-pass limits (reverse mid.frames.items) at (x ∷ more) ∙ sym (reading-gap mid at (x ∷ more) q)) v
+      (λ more. ended-token old t at x h p u more ∙ c.3 (record { at = at; bytes = x ∷ more }) ∙ gap-pass limits mid.frames at (x ∷ more) ∙ sym (reading-gap mid at (x ∷ more) q)) v
 
   -- ---- the first byte of a list
 
-  pub list-read : 1 ≤ limits.nesting → (new : Reader) (g : Frame) (x : ℕ) → new.frames.items ≡ g ∷ [] → g.at ≡ 0 → g.children.items ≡ [] → new.place ≡ place.Gap → class x ≡ Open → Begins limits x new
-  list-read n new g x f a i p e =
+  pub list-read : 1 ≤ limits.nesting → (new : Held) (x : ℕ) → new.frames ≡ record { at = 0; children = [] } ∷ [] → new.done ≡ [] → new.place ≡ place.Gap → class x ≡ Open → Begins limits x new
+  list-read n new x f d p e =
       let same = ap length f in (
-        as-reader new 1 place.Gap p (omega (arith, same, n)) (omega (arith, same)),
+        as-reader new 1 place.Gap p (omega (arith, same, n)) d (omega (arith, same)),
         λ more.
-            list-begins limits g x more n a i e ∙ ap (λ fs. gap_reading limits (reverse fs) (pass false 1 more).rest) (sym f) ∙ sym (reading-gap new 1 more p),
+            list-begins limits (record { at = 0; children = [] }) x more n refl refl e ∙ ap (λ fs. gap_reading limits fs (pass false 1 more).rest) (sym f) ∙ sym (reading-gap new 1 more p),
       )
 
   -- ---- the end of the bytes
 
-  nested-cut : (r : Reader) (at : ℕ) (p : Place) (fs : List Frame) → 0 < length fs → IsPlace limits (length r.frames.items) p r.from r.text.items at → place_reading limits fs p r.from r.text.items at [] ≡ Cut None
+  nested-cut : (r : Held) (at : ℕ) (p : Place) (fs : List OpenList) → 0 < length fs → IsPlace limits (length r.frames) p r.from r.text at → place_reading limits fs p r.from r.text at [] ≡ Cut None
   unfolding place_reading gap_reading token_reading ◌>>=◌ pass skip
   nested-cut r at p [] h s = absurd (omega arith)
   nested-cut r at place.Gap (f ∷ fs) h s = resume-cut limits (limits.nesting - suc (length fs)) (inner limits f) (map (outer limits) fs) (record { at = at; bytes = [] }) refl
   nested-cut r at place.Comment (f ∷ fs) h s = resume-cut limits (limits.nesting - suc (length fs)) (inner limits f) (map (outer limits) fs) (record { at = at; bytes = [] }) refl
-  nested-cut r at (place.Token t) (f ∷ fs) h s = ap (token_reading limits (f ∷ fs)) (token_cut limits t r.text.items r.from s.0 s.2)
+  nested-cut r at (place.Token t) (f ∷ fs) h s = ap (token_reading limits (f ∷ fs)) (token_cut limits t r.text r.from s.0 s.2)
 
   -- a list is open
-  pub list-cut : (r : Reader) (at : ℕ) → IsReader limits r at → 0 < length r.frames.items → reading limits r at [] ≡ Cut None
-  list-cut r at h n = nested-cut r at r.place (reverse r.frames.items) (omega (arith, n, length-reverse r.frames.items)) h.stands
+  pub list-cut : (r : Held) (at : ℕ) → IsReader limits r at → 0 < length r.frames → reading limits r at [] ≡ Cut None
+  list-cut r at h n = nested-cut r at r.place r.frames (omega (arith, n)) h.stands
 
-  alone : (fs : List Frame) (q : Reading Sexp) → length fs ≡ 0 → token_reading limits fs q ≡ q
+  alone : (fs : List OpenList) (q : Reading Sexp) → length fs ≡ 0 → token_reading limits fs q ≡ q
   unfolding token_reading
   alone [] q e = refl
   alone (f ∷ fs) q e = absurd (omega arith)
@@ -288,35 +305,34 @@ module _ (limits : Limits) where
   token_end-none token.Quoted text from e = refl
 
   -- an atom in no list
-  atom-cut : (r : Reader) (t : Token) (at : ℕ) → IsReader limits r at → r.place ≡ place.Token t → length r.frames.items ≡ 0 → reading limits r at [] ≡ Cut (token_end t r.text.items r.from)
+  atom-cut : (r : Held) (t : Token) (at : ℕ) → IsReader limits r at → r.place ≡ place.Token t → length r.frames ≡ 0 → reading limits r at [] ≡ Cut (token_end t r.text r.from)
   atom-cut r t at h p n =
       let s = stands-as r at (place.Token t) p h in
       reading-token r t at [] p
-      ∙ ap (token_reading limits (reverse r.frames.items)) (token_cut limits t r.text.items r.from s.0 s.2)
-      ∙ alone (reverse r.frames.items) _ (length-reverse r.frames.items ∙ n)
+      ∙ ap (token_reading limits r.frames) (token_cut limits t r.text r.from s.0 s.2)
+      ∙ alone r.frames _ (n)
 
-  pub atom-ended : (r : Reader) (t : Token) (s : OwnedSexp) (at : ℕ) → IsReader limits r at → r.place ≡ place.Token t → length r.frames.items ≡ 0 → may_end t ≡ true → IsAtomOf r t at (owned s) → reading limits r at [] ≡ Cut (Some (owned s))
-  atom-ended r t s at h p n m a =
+  pub atom-ended : (r : Held) (t : Token) (at : ℕ) → IsReader limits r at → r.place ≡ place.Token t → length r.frames ≡ 0 → may_end t ≡ true → reading limits r at [] ≡ Cut (Some (atom_of r t at))
+  atom-ended r t at h p n m =
       let st = stands-as r at (place.Token t) p h in
       atom-cut r t at h p n
-      ∙ ap (λ o. Cut o) (token_end-some t r.text.items r.from m)
-      ∙ ap (λ k. Cut (Some (Atom (atom_kind t r.text.items) (atom_text t r.text.items) (record { from = r.from; to = k })))) st.1
-      ∙ ap (λ v. Cut (Some v)) (sym a)
+      ∙ ap (λ o. Cut o) (token_end-some t r.text r.from m)
+      ∙ ap (λ k. Cut (Some (Atom (atom_kind t r.text) (atom_text t r.text) (record { from = r.from; to = k })))) st.1
 
-  pub atom-open : (r : Reader) (t : Token) (at : ℕ) → IsReader limits r at → r.place ≡ place.Token t → length r.frames.items ≡ 0 → may_end t ≡ false → reading limits r at [] ≡ Cut None
-  atom-open r t at h p n m = atom-cut r t at h p n ∙ ap (λ o. Cut o) (token_end-none t r.text.items r.from m)
+  pub atom-open : (r : Held) (t : Token) (at : ℕ) → IsReader limits r at → r.place ≡ place.Token t → length r.frames ≡ 0 → may_end t ≡ false → reading limits r at [] ≡ Cut None
+  atom-open r t at h p n m = atom-cut r t at h p n ∙ ap (λ o. Cut o) (token_end-none t r.text r.from m)
 
-  pub no-gap : (r : Reader) (at : ℕ) → IsReader limits r at → length r.frames.items ≡ 0 → (r.place ≡ place.Gap) ⊎ (r.place ≡ place.Comment) → ⊥
-  no-gap r at h n (inl p) = let m : 0 < length r.frames.items = stands-as r at place.Gap p h in omega (arith, n, m)
-  no-gap r at h n (inr p) = let m : 0 < length r.frames.items = stands-as r at place.Comment p h in omega (arith, n, m)
+  pub no-gap : (r : Held) (at : ℕ) → IsReader limits r at → length r.frames ≡ 0 → (r.place ≡ place.Gap) ⊎ (r.place ≡ place.Comment) → ⊥
+  no-gap r at h n (inl p) = let m : 0 < length r.frames = stands-as r at place.Gap p h in omega (arith, n, m)
+  no-gap r at h n (inr p) = let m : 0 < length r.frames = stands-as r at place.Comment p h in omega (arith, n, m)
 
   -- where its bytes end nothing is decided
-  pub reader-cut : (r : Reader) (at : ℕ) → IsReader limits r at → (e : Option Sexp) × (reading limits r at [] ≡ Cut e)
+  pub reader-cut : (r : Held) (at : ℕ) → IsReader limits r at → (e : Option Sexp) × (reading limits r at [] ≡ Cut e)
   unfolding place_reading token_reading
-  reader-cut r at h = go r.place h.stands (reverse r.frames.items) (length-reverse r.frames.items)
+  reader-cut r at h = go r.place h.stands r.frames refl
     where
-      go : (p : Place) → IsPlace limits (length r.frames.items) p r.from r.text.items at → (fs : List Frame) → length fs ≡ length r.frames.items → (e : Option Sexp) × (place_reading limits fs p r.from r.text.items at [] ≡ Cut e)
+      go : (p : Place) → IsPlace limits (length r.frames) p r.from r.text at → (fs : List OpenList) → length fs ≡ length r.frames → (e : Option Sexp) × (place_reading limits fs p r.from r.text at [] ≡ Cut e)
       go place.Gap s [] n = absurd (omega arith)
       go place.Comment s [] n = absurd (omega arith)
-      go (place.Token t) s [] n = (token_end t r.text.items r.from, token_cut limits t r.text.items r.from s.0 s.2)
+      go (place.Token t) s [] n = (token_end t r.text r.from, token_cut limits t r.text r.from s.0 s.2)
       go p s (f ∷ fs) n = (None, nested-cut r at p (f ∷ fs) (omega arith) s)

@@ -5,7 +5,7 @@ use Rattle.eo_base.specs.declared.FaultName.TheVariants.{BadByte, Unclosed, Extr
 use Rattle.eo_base.specs.Limits.{Limits}
 use Rattle.eo_sexp.specs.declared.Spot.{Spot}
 use Rattle.eo_sexp.specs.Texts.{Reads, Then, Ends, Fails, first_spot, spot_after, reads_all}
-use Rattle.eo_sexp.specs.Collecting.{Collecting, Within, AtCommand, Taken, Failed, NoMemory, new_collector, here_of, IsLive, IsWithin, fed_with, finished_with}
+use Rattle.eo_sexp.specs.Collecting.{Collecting, Within, AtCommand, Failed, NoMemory, new_collector, here_of, IsLive, IsWithin, fed_with, finished_with}
 use Rattle.eo_sexp.specs.Cutting.{IsWaiting}
 
 -- the faults of the lexicon, but for that of a file that is too long
@@ -26,7 +26,6 @@ IsLexical name = is_lexical name ≡ true
 abbrev pub IsAnswer : Collecting → Type 0
 IsAnswer (Within phase comment start begun) = ⊤
 IsAnswer (AtCommand c phase) = ⊤
-IsAnswer (Taken bytes start phase) = ⊥
 IsAnswer (Failed name at) = IsLexical name
 IsAnswer NoMemory = ⊥
 

@@ -5,9 +5,12 @@ pub mod Cutting
 pub mod Lexicon
 pub mod Machine
 pub mod OpenLists
-pub mod Owned
 pub mod Reader
 pub mod Sexp
 pub mod SexpCode
 pub mod Texts
 pub mod Token
+pub mod Nodes
+pub mod Built
+pub mod Buffers
+pub mod Pairs

@@ -1,5 +1,5 @@
 -- What a collector keeps, what that stands for, and the condition under which it does.
-use Rattle.std.specs.Prelude.{◌≡◌, ℕ, ◌+◌, ◌-◌, Option, Some, None, ◌≤◌, ◌<◌, Bool, false, List, [], ◌∷◌, ◌++◌, length, drop, ⊤, ◌⊎◌, nat_lt, ◌||◌, if◌then◌else◌}
+use Rattle.std.specs.Prelude.{◌≡◌, ℕ, ◌+◌, ◌-◌, Option, Some, None, ◌≤◌, ◌<◌, Bool, false, List, [], ◌∷◌, ◌++◌, length, take, drop, ⊤, ◌⊎◌, nat_lt, ◌||◌, if◌then◌else◌}
 use Rattle.eo_base.specs.declared.FaultName.{FaultName}
 use Rattle.eo_base.specs.declared.FaultName.TheVariants.{CommandLong}
 use Rattle.eo_base.specs.Faults.{number}
@@ -15,11 +15,13 @@ use Rattle.eo_sexp.specs.declared.incremental.Machine.{Machine}
 use Rattle.eo_sexp.specs.Lexicon.{Class, Open, Quote, Bar, Word, pass}
 use Rattle.eo_sexp.specs.Commands.{front, sexp}
 use Rattle.eo_sexp.specs.Texts.{Phase, Start, AfterUnsat, InPair, AfterPair, Plain, is_parenthesis, spot_after, next_spot, after}
-use Rattle.eo_sexp.specs.Collecting.{Collecting, Within, AtCommand, Taken, Failed, NoMemory, fed_from, finished_from, finish_answer}
+use Rattle.eo_sexp.specs.Collecting.{Collecting, Within, AtCommand, Failed, NoMemory, fed_from, finished_from, finish_answer}
 use Rattle.eo_sexp.specs.declared.Finished.{Finished}
-use Rattle.eo_sexp.specs.Owned.{owned}
-use Rattle.eo_sexp.specs.declared.owned.OwnedSexp.{OwnedSexp}
-use Rattle.eo_sexp.specs.Reader.{IsReader, reading}
+use Rattle.eo_sexp.specs.Built.{Built, nothing, with_byte}
+use Rattle.eo_sexp.specs.Nodes.{first_of}
+use Rattle.eo_sexp.specs.Sexp.{Sexp}
+use Rattle.eo_sexp.specs.declared.reader.ReaderTurn.{ReaderTurn}
+use Rattle.eo_sexp.specs.Reader.{held, IsReader, reading, IsWhole, Turns}
 
 -- the phase of the definitions
 abbrev pub phase_of : FilePhase → Phase
@@ -29,18 +31,17 @@ phase_of file.InPair = InPair
 phase_of file.AfterPair = AfterPair
 phase_of file.Plain = Plain
 
-abbrev pub meaning_at : State → Phase → Spot → List ℕ → Collecting
-meaning_at (state.Between comment) phase start bytes = Within phase comment start bytes
-meaning_at state.Begun phase start bytes = Within phase false start bytes
-meaning_at (state.Pair comment) phase start bytes = Within phase false start bytes
-meaning_at (state.Command s) phase start bytes = AtCommand (record { sexp = owned s; bytes = bytes; start = start }) phase
-meaning_at state.Taken phase start bytes = Taken bytes start phase
-meaning_at (state.Failed name at) phase start bytes = Failed name at
-meaning_at state.NoMemory phase start bytes = NoMemory
+abbrev pub meaning_at : State → Phase → Spot → Built → Collecting
+meaning_at (state.Between comment) phase start b = Within phase comment start b.bytes
+meaning_at state.Begun phase start b = Within phase false start b.bytes
+meaning_at (state.Pair comment) phase start b = Within phase false start b.bytes
+meaning_at state.Command phase start b = AtCommand (record { sexp = first_of b.done; bytes = b.bytes; start = start }) phase
+meaning_at (state.Failed name at) phase start b = Failed name at
+meaning_at state.NoMemory phase start b = NoMemory
 
 -- what it stands for
 abbrev pub meaning : Machine → Collecting
-meaning m = meaning_at m.state (phase_of m.phase) m.start m.begun.items
+meaning m = meaning_at m.state (phase_of m.phase) m.start m.begun
 
 -- the file may still have the wrappings of a proof
 abbrev pub IsProofStart : Phase → Type 0
@@ -68,23 +69,26 @@ IsPairFact s phase bytes = ⊥
 
 -- a command is begun
 pub record IsBegun (m : Machine) : Type 0 where
-  pub first : IsFirst (front m.begun.items)
+  pub first : IsFirst (front m.begun.bytes)
   pub inside : phase_of m.phase ≡ AfterPair → ⊥
-  pub reader : IsReader limits m.reader (length m.begun.items)
-  pub reads : (more : List ℕ) → sexp limits (front m.begun.items) (record { at = 0; bytes = m.begun.items ++ more }) ≡ reading limits m.reader (length m.begun.items) more
-  pub short : length m.begun.items ≤ limits.command
+  pub reader : IsReader limits (held m.begun m.reader) (length m.begun.bytes)
+  pub reads : (more : List ℕ) → sexp limits (front m.begun.bytes) (record { at = 0; bytes = m.begun.bytes ++ more }) ≡ reading limits (held m.begun m.reader) (length m.begun.bytes) more
+  pub short : length m.begun.bytes ≤ limits.command
 
 -- the place of the next byte
 pub record IsPlaced (m : Machine) : Type 0 where
-  pub here : m.here ≡ spot_after m.start m.begun.items
+  pub here : m.here ≡ spot_after m.start m.begun.bytes
   pub line : m.here.line ≤ m.here.offset + 1
 
+-- the buffer has a whole command
+abbrev pub IsAnswered : Machine → Type 0
+IsAnswered m = (s : Sexp) × IsWhole m.begun s
+
 abbrev pub IsSoundAt : State → Machine → Type 0
-IsSoundAt (state.Between comment) m = (m.begun.items ≡ []) × IsPlaced m
-IsSoundAt state.Begun m = IsBegun m × IsPairFact m.state (phase_of m.phase) m.begun.items × IsPlaced m
-IsSoundAt (state.Pair comment) m = IsBegun m × IsPairFact m.state (phase_of m.phase) m.begun.items × IsPlaced m
-IsSoundAt (state.Command s) m = IsPlaced m
-IsSoundAt state.Taken m = IsPlaced m
+IsSoundAt (state.Between comment) m = (m.begun ≡ nothing) × IsPlaced m
+IsSoundAt state.Begun m = IsBegun m × IsPairFact m.state (phase_of m.phase) m.begun.bytes × IsPlaced m
+IsSoundAt (state.Pair comment) m = IsBegun m × IsPairFact m.state (phase_of m.phase) m.begun.bytes × IsPlaced m
+IsSoundAt state.Command m = IsAnswered m × IsPlaced m
 IsSoundAt (state.Failed name at) m = ⊤
 IsSoundAt state.NoMemory m = ⊤
 
@@ -96,6 +100,20 @@ pub record TakesByte (old : Machine) (x : ℕ) (new : Machine) : Type 0 where
   pub sound : IsSound new
   pub meant : meaning new ≡ fed_from limits (meaning old) (x ∷ [])
 
+-- these bytes are taken, or one of them decides
+pub record TakesBytes (old : Machine) (xs : List ℕ) (new : Machine) : Type 0 where
+  pub sound : IsSound new
+  pub meant : meaning new ≡ fed_from limits (meaning old) xs
+
+-- the reader of a command that is begun has turned at the byte x, and nothing else is changed
+pub record Turned (old : Machine) (t : ReaderTurn) (x : ℕ) (mid : Machine) : Type 0 where
+  pub begun : IsBegun old
+  pub pair : IsPairFact old.state (phase_of old.phase) (old.begun.bytes ++ x ∷ [])
+  pub placed : IsPlaced old
+  pub same : mid ≡ record old { reader = mid.reader; begun = mid.begun }
+  pub bytes : mid.begun.bytes ≡ old.begun.bytes
+  pub turns : Turns limits (held old.begun old.reader) (length old.begun.bytes) x t (held (with_byte mid.begun x) mid.reader)
+
 -- the fault at byte `at` of a command, where that byte is this fault and may be one too many
 abbrev pub earlier_fault : Limits → (at : ℕ) → FaultName → FaultName
 earlier_fault limits at name = if nat_lt at limits.command || nat_lt (number name) (number CommandLong) then name else CommandLong
@@ -105,7 +123,7 @@ earlier_fault limits at name = if nat_lt at limits.command || nat_lt (number nam
 -- the bytes begun are left behind; the next byte stands at `next`
 pub record Leaves (old : Machine) (comment : Bool) (next : Spot) (new : Machine) : Type 0 where
   pub state : new.state ≡ state.Between comment
-  pub begun : new.begun.items ≡ []
+  pub begun : new.begun ≡ nothing
   pub start : new.start ≡ next
   pub here : new.here ≡ next
   pub phase : new.phase ≡ old.phase
@@ -113,16 +131,16 @@ pub record Leaves (old : Machine) (comment : Bool) (next : Spot) (new : Machine)
 -- the byte x is kept
 pub record Keeps (old : Machine) (x : ℕ) (new : Machine) : Type 0 where
   pub state : new.state ≡ old.state
-  pub begun : new.begun.items ≡ old.begun.items ++ x ∷ []
+  pub begun : new.begun ≡ with_byte old.begun x
   pub start : new.start ≡ old.start
   pub here : new.here ≡ next_spot old.here x
   pub phase : new.phase ≡ old.phase
   pub reader : new.reader ≡ old.reader
 
--- the command s is whole
-pub record Completes (old : Machine) (s : OwnedSexp) (new : Machine) : Type 0 where
-  pub state : new.state ≡ state.Command s
-  pub begun : new.begun.items ≡ old.begun.items
+-- the command is whole
+pub record Completes (old : Machine) (new : Machine) : Type 0 where
+  pub state : new.state ≡ state.Command
+  pub begun : new.begun ≡ old.begun
   pub start : new.start ≡ old.start
   pub here : new.here ≡ old.here
   pub phase : phase_of new.phase ≡ after (phase_of old.phase)
@@ -131,16 +149,16 @@ pub record Completes (old : Machine) (s : OwnedSexp) (new : Machine) : Type 0 wh
 abbrev pub Lengthens : Limits → (old : Machine) → (at x : ℕ) → (new : Machine) → Type 0
 Lengthens limits old at x new = (at < limits.command) × Keeps old x new ⊎ (limits.command ≤ at) × (new.state ≡ state.Failed CommandLong old.here)
 
--- the byte x makes the command s whole, or is one too many
-pub record IsWholeCommand (old : Machine) (x : ℕ) (s : OwnedSexp) (new : Machine) : Type 0 where
-  pub state : new.state ≡ state.Command s
-  pub begun : new.begun.items ≡ old.begun.items ++ x ∷ []
+-- the byte x makes the command whole, or is one too many
+pub record IsWholeCommand (old : Machine) (x : ℕ) (new : Machine) : Type 0 where
+  pub state : new.state ≡ state.Command
+  pub begun : new.begun ≡ with_byte old.begun x
   pub start : new.start ≡ old.start
   pub here : new.here ≡ next_spot old.here x
   pub phase : phase_of new.phase ≡ after (phase_of old.phase)
 
-abbrev pub ClosesCommand : Limits → (old : Machine) → (at x : ℕ) → OwnedSexp → (new : Machine) → Type 0
-ClosesCommand limits old at x s new = (at < limits.command) × IsWholeCommand old x s new ⊎ (limits.command ≤ at) × (new.state ≡ state.Failed CommandLong old.here)
+abbrev pub ClosesCommand : Limits → (old : Machine) → (at x : ℕ) → (new : Machine) → Type 0
+ClosesCommand limits old at x new = (at < limits.command) × IsWholeCommand old x new ⊎ (limits.command ≤ at) × (new.state ≡ state.Failed CommandLong old.here)
 
 -- what a `(` begins
 abbrev pub list_state : FilePhase → State
@@ -152,7 +170,7 @@ list_state file.Plain = state.Begun
 
 -- what is answered, where the first byte of the piece had this offset; nothing where more bytes are to come
 abbrev pub answer_at : State → (first here : ℕ) → Option Fed
-answer_at (state.Command s) first here = Some (fed.Command (here - first))
+answer_at state.Command first here = Some (fed.Command (here - first))
 answer_at (state.Failed name at) first here = Some (fed.Fault name at)
 answer_at state.NoMemory first here = Some fed.Memory
 answer_at s first here = None
@@ -163,6 +181,19 @@ answer_of first m = answer_at m.state first m.here.offset
 -- one byte of a piece is fed
 abbrev pub FeedsByte : (old : Machine) → (first x : ℕ) → Option Fed → (new : Machine) → Type 0
 FeedsByte old first x result new = (new.state ≡ state.NoMemory) × (result ≡ Some fed.Memory) ⊎ TakesByte old x new × (result ≡ answer_of first new)
+
+-- so many bytes of `rest` are taken, and nothing is answered
+pub record GoesOver (old : Machine) (first : ℕ) (rest : List ℕ) (n : ℕ) (new : Machine) : Type 0 where
+  pub within : n ≤ length rest
+  pub takes : TakesBytes old (take n rest) new
+  pub answer : answer_of first new ≡ None
+
+-- a byte of `rest` is answered
+pub record StopsIn (old : Machine) (first : ℕ) (rest : List ℕ) (f : Fed) (new : Machine) : Type 0 where
+  pub taken : ℕ
+  pub within : taken ≤ length rest
+  pub takes : TakesBytes old (take taken rest) new
+  pub answer : answer_of first new ≡ Some f
 
 -- what the end of the input answers
 pub record Finishing (limits : Limits) (old : Machine) (result : Finished) (new : Machine) : Type 0 where

@@ -1,5 +1,5 @@
 -- Tokens of more than one byte, a byte at a time.
-use Rattle.std.specs.Prelude.{◌≡◌, ℕ, suc, ◌+◌, ◌-◌, Bool, true, false, nat_lt, List, [], ◌++◌, length, take, codes, Option, Some, None, if◌then◌else◌}
+use Rattle.std.specs.Prelude.{◌≡◌, ℕ, suc, ◌+◌, ◌-◌, Bool, true, false, not, ◌&&◌, nat_lt, List, [], ◌++◌, length, take, codes, Option, Some, None, if◌then◌else◌}
 use Rattle.std.specs.List.{prefix_len}
 use Rattle.eo_base.specs.declared.FaultName.TheVariants.{BadByte, TokenLong}
 use Rattle.eo_base.specs.Limits.{Limits}
@@ -45,6 +45,13 @@ IsToken token.Quoted text = (more : List ℕ) → prefix_len is_quotable (text +
 
 abbrev pub token_size : Token → List ℕ → ℕ
 token_size t text = length (opening t) + length text
+
+-- the byte x leaves a token as it is, and is no line feed
+unfoldable pub is_plain : Token → ℕ → Bool
+is_plain token.Word x = is_word x
+is_plain (token.Text true) x = false
+is_plain (token.Text false) x = is_text x && not (is_one_of (codes "\"\n") x)
+is_plain token.Quoted x = is_quotable x && not (is_one_of (codes "\n") x)
 
 -- the kind of the atom that ends with these bytes
 abbrev pub atom_kind : Token → List ℕ → Kind

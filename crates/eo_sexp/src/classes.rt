@@ -18,6 +18,7 @@ pub(crate) enum Class {
 
 // What the byte begins.
 #[tactic(auto, unfolding(crate::specs::Lexicon::class, crate::specs::Lexicon::is_space))]
+#[inline(always)]
 pub(crate) fn classify(x: u8) -> Class
     ensures { class_of result ≡ class x }
 {
@@ -57,34 +58,21 @@ pub(crate) fn is_quotable(x: u8) -> bool
     is_text(x) && x != b'|' && x != b'\\'
 }
 
+// `1` stands at the place of a byte that may stand in a word.
+pub(crate) static WORD: [u8; 256] = *b"\
+    ................................\
+    .1.1111...11.11111111111111.1111\
+    111111111111111111111111111...11\
+    .11111111111111111111111111...1.\
+    ................................\
+    ................................\
+    ................................\
+    ................................";
+
 // Whether the byte may stand in a word.
-#[tactic(auto, unfolding(crate::specs::Lexicon::is_word))]
+#[inline(always)]
 pub(crate) fn is_word(x: u8) -> bool
     ensures { result ≡ is_word x }
 {
-    matches!(
-        x,
-        b'a'..=b'z'
-            | b'A'..=b'Z'
-            | b'0'..=b'9'
-            | b'~'
-            | b'!'
-            | b'@'
-            | b'$'
-            | b'%'
-            | b'^'
-            | b'&'
-            | b'*'
-            | b'_'
-            | b'-'
-            | b'+'
-            | b'='
-            | b'<'
-            | b'>'
-            | b'.'
-            | b'?'
-            | b'/'
-            | b':'
-            | b'#'
-    )
+    WORD[x as usize] == b'1'
 }

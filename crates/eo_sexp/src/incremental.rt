@@ -1,24 +1,25 @@
 //! Commands of a file that comes in pieces.
-ghost use Rattle.std.specs.Prelude.{◌≡◌, ℕ, ◌∷◌, [], ◌++◌, ◌+◌, ◌-◌, ◌<◌, ◌≤◌, ◌^◌, length, IfOk, Bool, OnOk, IsTrue, ◌≢◌, codes, bytes_eq, false};
+ghost use Rattle.std.specs.Prelude.{◌≡◌, ℕ, ◌∷◌, [], ◌++◌, ◌+◌, ◌-◌, ◌<◌, ◌≤◌, ◌^◌, length, IfOk, Bool, OnOk, IsTrue, ◌≢◌, ◌⊎◌, codes, bytes_eq, false, true, take, IfErr};
 ghost use Rattle.eo_base.specs.Limits.{limits};
 ghost use Rattle.eo_base.specs.Faults.{number};
 ghost use Rattle.eo_sexp.specs.Lexicon.{class, Open, Close};
 ghost use Rattle.eo_sexp.specs.Texts.{AfterPair, Start, after as phase_after, next_spot};
-ghost use Rattle.eo_sexp.specs.Collecting.{Collecting, new_collector, HasRoom, Feeds, HasMemory, Finishes, IsLive, start_of, here_of, IsAtCommand, Takes, ready};
-ghost use Rattle.eo_sexp.specs.Owned.{owned};
-ghost use Rattle.eo_sexp.specs.Machine.{phase_of, meaning, IsSound, IsBegun, IsPairFact, IsPlaced, IsFirst, TakesByte, Leaves, Keeps, Completes, Lengthens, ClosesCommand, earlier_fault, list_state, answer_of, FeedsByte, Finishing};
+ghost use Rattle.eo_sexp.specs.Collecting.{Collecting, new_collector, HasRoom, Feeds, HasMemory, Finishes, IsLive, start_of, here_of, IsAtCommand, IsWithin, Holds, ready};
+ghost use Rattle.eo_sexp.specs.Built.{nothing};
+ghost use Rattle.eo_sexp.specs.Machine.{phase_of, meaning, IsSound, IsBegun, IsPairFact, IsPlaced, IsFirst, TakesByte, Leaves, Keeps, Completes, Lengthens, ClosesCommand, earlier_fault, list_state, answer_of, FeedsByte, TakesBytes, Turned, GoesOver, StopsIn, Finishing};
 ghost use Rattle.eo_sexp.specs.Reader.{IsAtom};
 ghost use Rattle.eo_sexp.specs.Token.{class_of};
 
+use crate::buffer::Buffer;
 use crate::classes::{Class, classify, is_line_end};
-use crate::owned::OwnedSexp;
-use crate::reader::{Reader, ReaderTurn};
+use crate::lent::Sexp;
+use crate::plain::comment_run;
+use crate::reader::{Reader, ReaderTurn, Run};
 use crate::{Fed, Finished, Spot};
 use eo_base::FaultName;
 use eo_base::limits::COMMAND;
 use std::alloc::{AllocError, Global};
 use std::marker::Model;
-use std::mem::replace;
 
 /// Where a file stands between two commands.
 #[derive(Clone, Copy, Debug, PartialEq, Eq)]
@@ -45,9 +46,8 @@ enum State {
     /// The same, and it may still be a proof's outer pair: of it a `(`, white space and comments
     /// have come.
     Pair { comment: bool },
-    Command(OwnedSexp),
-    /// A command that was taken out.
-    Taken,
+    /// A command is answered, which is in the buffer.
+    Command,
     Failed { name: FaultName, at: Spot },
     NoMemory,
 }
@@ -55,7 +55,6 @@ enum State {
 /// The fields of a collector.
 #[derive(Drop)]
 struct Machine {
-    alloc: Global,
     phase: Phase,
     state: State,
     // the first byte of the command begun or answered last, or else the next byte
@@ -63,7 +62,7 @@ struct Machine {
     // the next byte
     here: Spot,
     // the bytes of the command begun or answered last
-    begun: Vec<u8>,
+    begun: Buffer,
     reader: Reader,
 }
 
@@ -114,20 +113,19 @@ fn list_state(phase: Phase) -> State
 }
 
 impl Machine {
-    fn new(alloc: Global, wrapped: bool) -> Machine
-        ensures sound { IsSound result }
-        ensures meant { meaning result ≡ new_collector wrapped }
+    fn new(alloc: Global, wrapped: bool) -> Result<Machine, AllocError>
+        ensures sound { IfOk result (λ m. IsSound m) }
+        ensures meant { IfOk result (λ m. meaning m ≡ new_collector wrapped) }
     {
         let first = Spot { line: 1, offset: 0 };
-        Machine {
-            alloc,
+        Ok(Machine {
             phase: if wrapped { Phase::Start } else { Phase::Plain },
             state: State::Between { comment: false },
             start: first,
             here: first,
-            begun: Vec::new(alloc),
-            reader: Reader::new(alloc),
-        }
+            begun: Buffer::new(alloc)?,
+            reader: Reader::new(),
+        })
     }
 
     // Leaves the bytes begun, or those of a command, behind.
@@ -143,7 +141,7 @@ impl Machine {
     fn pass(&mut self, comment: bool, x: u8)
         requires line { self.old.here.line ≤ self.old.here.offset + 1 }
         requires room { self.old.here.offset + 3 ≤ 2 ^ 64 }
-        requires nothing { self.old.begun.items ≡ [] }
+        requires nothing { self.old.begun ≡ nothing }
         ensures { Leaves self.old comment (next_spot self.old.here x) self.new }
     {
         self.here = next_spot(self.here, x);
@@ -172,12 +170,12 @@ impl Machine {
         };
     }
 
-    // The bytes begun are this command.
-    fn complete(&mut self, s: OwnedSexp)
-        ensures { Completes self.old s self.new }
+    // The bytes begun are a command.
+    fn complete(&mut self)
+        ensures { Completes self.old self.new }
     {
         self.phase = after(self.phase);
-        self.state = State::Command(s);
+        self.state = State::Command;
     }
 
     // Takes the byte x, or answers before it.
@@ -204,7 +202,7 @@ impl Machine {
     // The byte x between two commands.
     fn turn_between(&mut self, x: u8) -> Result<(), AllocError>
         requires between { self.old.state ≡ State.Between false }
-        requires nothing { self.old.begun.items ≡ [] }
+        requires nothing { self.old.begun ≡ nothing }
         requires placed { IsPlaced self.old }
         requires room { self.old.here.offset + 3 ≤ 2 ^ 64 }
         ensures { OnOk result (TakesByte self.old x self.new) }
@@ -222,7 +220,7 @@ impl Machine {
     // A `)` between two commands.
     fn turn_close(&mut self, x: u8)
         requires between { self.old.state ≡ State.Between false }
-        requires nothing { self.old.begun.items ≡ [] }
+        requires nothing { self.old.begun ≡ nothing }
         requires placed { IsPlaced self.old }
         requires class { class x ≡ Close }
         requires room { self.old.here.offset + 3 ≤ 2 ^ 64 }
@@ -240,7 +238,7 @@ impl Machine {
     // Begins a command with its first byte.
     fn begin(&mut self, c: Class, x: u8) -> Result<(), AllocError>
         requires between { self.old.state ≡ State.Between false }
-        requires nothing { self.old.begun.items ≡ [] }
+        requires nothing { self.old.begun ≡ nothing }
         requires placed { IsPlaced self.old }
         requires class { class_of c ≡ class x }
         requires first { IsFirst (class x) }
@@ -262,14 +260,14 @@ impl Machine {
     // Begins a list with its `(`.
     fn begin_list(&mut self, x: u8) -> Result<(), AllocError>
         requires between { self.old.state ≡ State.Between false }
-        requires nothing { self.old.begun.items ≡ [] }
+        requires nothing { self.old.begun ≡ nothing }
         requires placed { IsPlaced self.old }
         requires inside { phase_of self.old.phase ≢ AfterPair }
         requires class { class x ≡ Open }
         requires room { self.old.here.offset + 3 ≤ 2 ^ 64 }
         ensures { OnOk result (TakesByte self.old x self.new) }
     {
-        self.reader.begin_list(self.alloc)?;
+        self.reader.begin_list(&mut self.begun)?;
         self.keep(x)?;
         self.state = list_state(self.phase);
         Ok(())
@@ -278,7 +276,7 @@ impl Machine {
     // Begins an atom with its first byte.
     fn begin_atom(&mut self, c: Class, x: u8) -> Result<(), AllocError>
         requires between { self.old.state ≡ State.Between false }
-        requires nothing { self.old.begun.items ≡ [] }
+        requires nothing { self.old.begun ≡ nothing }
         requires placed { IsPlaced self.old }
         requires inside { phase_of self.old.phase ≢ AfterPair }
         requires class { class_of c ≡ class x }
@@ -286,7 +284,7 @@ impl Machine {
         requires room { self.old.here.offset + 3 ≤ 2 ^ 64 }
         ensures { OnOk result (TakesByte self.old x self.new) }
     {
-        self.reader.begin_atom(c, x)?;
+        self.reader.begin_atom(c, x);
         self.keep(x)?;
         self.state = State::Begun;
         Ok(())
@@ -326,20 +324,31 @@ impl Machine {
     // The byte x of a command that is begun.
     fn turn_begun(&mut self, x: u8) -> Result<(), AllocError>
         requires begun { IsBegun self.old }
-        requires pair { IsPairFact self.old.state (phase_of self.old.phase) (self.old.begun.items ++ x ∷ []) }
+        requires pair { IsPairFact self.old.state (phase_of self.old.phase) (self.old.begun.bytes ++ x ∷ []) }
         requires placed { IsPlaced self.old }
         requires room { self.old.here.offset + 3 ≤ 2 ^ 64 }
         ensures { OnOk result (TakesByte self.old x self.new) }
     {
-        let at = self.begun.len();
-        match self.reader.turn(self.alloc, at, x)? {
-            ReaderTurn::Before(s) => {
+        let at = self.begun.bytes().len();
+        let turn = self.reader.turn(&mut self.begun, at, x)?;
+        self.decide(turn, x)
+    }
+
+    // Does what the reader's turn at the byte x says.
+    fn decide(&mut self, turn: ReaderTurn, x: u8) -> Result<(), AllocError>
+        requires line { self.old.here.line ≤ self.old.here.offset + 1 }
+        requires room { self.old.here.offset + 3 ≤ 2 ^ 64 }
+        ensures { OnOk result ((old : Machine) → Turned old turn x self.old → TakesByte old x self.new) }
+    {
+        let at = self.begun.bytes().len();
+        match turn {
+            ReaderTurn::Before => {
                 if self.is_unsat() {
                     self.phase = Phase::AfterUnsat;
                     self.leave(false);
                     return self.turn_between(x);
                 }
-                self.complete(s);
+                self.complete();
                 Ok(())
             }
             ReaderTurn::Fault(name) => {
@@ -347,16 +356,54 @@ impl Machine {
                 Ok(())
             }
             ReaderTurn::Goes => self.lengthen(at, x),
-            ReaderTurn::Whole(s) => self.close(at, x, s),
+            ReaderTurn::Whole => self.close(at, x),
+        }
+    }
+
+    // Passes over the bytes at the front of `rest` that stay inside of a comment between two
+    // commands, and tells how many.
+    #[inline(never)]
+    fn run_comment(&mut self, rest: &[u8]) -> usize
+        requires between { self.old.state ≡ State.Between true }
+        requires nothing { self.old.begun ≡ nothing }
+        requires placed { IsPlaced self.old }
+        requires room { self.old.here.offset + length rest.now ≤ 2 ^ 64 - 2 }
+        ensures within { result ≤ length rest.now }
+        ensures stays { self.new.state ≡ self.old.state }
+        ensures takes { TakesBytes self.old (take result rest.now) self.new }
+    {
+        let run = comment_run(rest);
+        self.here.offset += run as u64;
+        self.start = self.here;
+        run
+    }
+
+    // Takes bytes at the front of `rest`, up to one that decides, and tells how many.
+    fn run(&mut self, rest: &[u8]) -> Result<usize, AllocError>
+        requires begun { self.old.state ≡ State.Begun }
+        requires sound { IsSound self.old }
+        requires room { self.old.here.offset + length rest.now ≤ 2 ^ 64 - 2 }
+        ensures within { IfOk result (λ n. n ≤ length rest.now) }
+        ensures takes { IfOk result (λ n. TakesBytes self.old (take n rest.now) self.new) }
+    {
+        let Run { taken, lines, turn } = self.reader.run(&mut self.begun, rest)?;
+        self.here.line += lines as u64;
+        self.here.offset += taken as u64;
+        match turn {
+            ReaderTurn::Goes => Ok(taken),
+            turn => {
+                self.decide(turn, rest[taken])?;
+                Ok(taken + 1)
+            }
         }
     }
 
     // Whether the bytes begun are the word that a proof may begin with.
     fn is_unsat(&self) -> bool
-        ensures yes { IsTrue result → (phase_of self.now.phase ≡ Start) × (self.now.begun.items ≡ codes "unsat") }
-        ensures no { result ≡ false → phase_of self.now.phase ≡ Start → bytes_eq self.now.begun.items (codes "unsat") ≡ false }
+        ensures yes { IsTrue result → (phase_of self.now.phase ≡ Start) × (self.now.begun.bytes ≡ codes "unsat") }
+        ensures no { result ≡ false → phase_of self.now.phase ≡ Start → bytes_eq self.now.begun.bytes (codes "unsat") ≡ false }
     {
-        self.phase == Phase::Start && self.begun.as_slice() == b"unsat".as_slice()
+        self.phase == Phase::Start && self.begun.bytes() == b"unsat".as_slice()
     }
 
     // The command goes on behind the byte x.
@@ -372,18 +419,18 @@ impl Machine {
         self.keep(x)
     }
 
-    // The byte x makes the command s whole.
-    fn close(&mut self, at: usize, x: u8, s: OwnedSexp) -> Result<(), AllocError>
+    // The byte x makes the command whole.
+    fn close(&mut self, at: usize, x: u8) -> Result<(), AllocError>
         requires line { self.old.here.line ≤ self.old.here.offset + 1 }
         requires room { self.old.here.offset + 3 ≤ 2 ^ 64 }
-        ensures { OnOk result (ClosesCommand limits self.old at x s self.new) }
+        ensures { OnOk result (ClosesCommand limits self.old at x self.new) }
     {
         if at >= COMMAND {
             self.fail(FaultName::CommandLong);
             return Ok(());
         }
         self.keep(x)?;
-        self.complete(s);
+        self.complete();
         Ok(())
     }
 
@@ -394,7 +441,7 @@ impl Machine {
         ensures meant { meaning self.new ≡ ready (meaning self.old) }
     {
         match self.state {
-            State::Command(_) | State::Taken => self.leave(false),
+            State::Command => self.leave(false),
             _ => {}
         }
     }
@@ -404,7 +451,7 @@ impl Machine {
         ensures { result ≡ answer_of first self.now }
     {
         match self.state {
-            State::Command(_) => Some(Fed::Command {
+            State::Command => Some(Fed::Command {
                 used: self.here.offset.saturating_sub(first) as usize,
             }),
             State::Failed { name, at } => Some(Fed::Fault { name, at }),
@@ -428,6 +475,32 @@ impl Machine {
         }
     }
 
+    // Feeds bytes at the front of the rest of a piece whose first byte had this offset, where a
+    // command or a comment is begun, and tells how many, or else what one of them answers.
+    fn feed_run(&mut self, first: u64, rest: &[u8]) -> Result<usize, Fed>
+        requires sound { IsSound self.old }
+        requires within { IsWithin (meaning self.old) }
+        requires room { self.old.here.offset + length rest.now ≤ 2 ^ 64 - 2 }
+        ensures goes { IfOk result (λ n. GoesOver self.old first rest.now n self.new) }
+        ensures stops { IfErr result (λ f. (self.new.state ≡ State.NoMemory) × (f ≡ Fed.Memory) ⊎ StopsIn self.old first rest.now f self.new) }
+    {
+        match self.state {
+            State::Begun => {}
+            State::Between { comment: true } => return Ok(self.run_comment(rest)),
+            _ => return Ok(0),
+        }
+        match self.run(rest) {
+            Ok(taken) => match self.answer(first) {
+                Some(fed) => Err(fed),
+                None => Ok(taken),
+            },
+            Err(_) => {
+                self.state = State::NoMemory;
+                Err(Fed::Memory)
+            }
+        }
+    }
+
     fn feed(&mut self, piece: &[u8]) -> Fed
         requires sound { IsSound self.old }
         requires room { HasRoom (meaning self.old) piece.now }
@@ -439,9 +512,15 @@ impl Machine {
         if let Some(fed) = self.answer(first) {
             return fed;
         }
-        for x in piece {
-            if let Some(fed) = self.feed_byte(first, *x) {
+        let mut taken = 0;
+        while taken < piece.len() {
+            if let Some(fed) = self.feed_byte(first, piece[taken]) {
                 return fed;
+            }
+            taken += 1;
+            match self.feed_run(first, &piece[taken..]) {
+                Ok(more) => taken += more,
+                Err(fed) => return fed,
             }
         }
         Fed::More
@@ -461,7 +540,7 @@ impl Machine {
     // The end between two commands.
     fn finish_between(&mut self) -> Finished
         requires between { (comment : Bool) × (self.old.state ≡ State.Between comment) }
-        requires nothing { self.old.begun.items ≡ [] }
+        requires nothing { self.old.begun ≡ nothing }
         requires placed { IsPlaced self.old }
         ensures { Finishing limits self.old result self.new }
     {
@@ -474,20 +553,19 @@ impl Machine {
     // The end of a command that is begun.
     fn finish_begun(&mut self) -> Finished
         requires begun { IsBegun self.old }
-        requires pair { IsPairFact self.old.state (phase_of self.old.phase) self.old.begun.items }
+        requires pair { IsPairFact self.old.state (phase_of self.old.phase) self.old.begun.bytes }
         requires placed { IsPlaced self.old }
         ensures { Finishing limits self.old result self.new }
     {
         if self.is_unsat() {
             return Finished::End;
         }
-        match self.reader.finish(self.alloc, self.begun.len()) {
-            None => self.finish_open(),
-            Some(s) => {
-                self.complete(s);
-                Finished::Command
-            }
+        let at = self.begun.bytes().len();
+        if self.reader.finish(&mut self.begun, at) {
+            self.complete();
+            return Finished::Command;
         }
+        self.finish_open()
     }
 
     fn finish(&mut self) -> Finished
@@ -505,16 +583,12 @@ impl Machine {
         }
     }
 
-    fn take(&mut self) -> OwnedSexp
-        requires sound { IsSound self.old }
-        requires command { IsAtCommand (meaning self.old) }
-        ensures sound { IsSound self.new }
-        ensures takes { Takes (meaning self.old) (owned result) (meaning self.new) }
+    fn command(&self) -> Sexp<'_>
+        requires sound { IsSound self.now }
+        requires command { IsAtCommand (meaning self.now) }
+        ensures { Holds (meaning self.now) result }
     {
-        match replace(&mut self.state, State::Taken) {
-            State::Command(s) => s,
-            _ => unreachable!(),
-        }
+        self.begun.first()
     }
 
     // The place of the command begun or answered last, or of the fault.
@@ -568,7 +642,7 @@ impl Collector {
         ensures { IfOk result (λ c. c ≡ new_collector wrapped) }
     {
         Ok(Collector {
-            machine: Machine::new(alloc, wrapped),
+            machine: Machine::new(alloc, wrapped)?,
         })
     }
 
@@ -590,12 +664,12 @@ impl Collector {
         self.machine.finish()
     }
 
-    /// Takes the command out that was answered last. It takes no memory.
-    pub fn take(&mut self) -> OwnedSexp
-        requires { IsAtCommand self.old }
-        ensures { Takes self.old (owned result) self.new }
+    /// The command that was answered last. It takes no memory.
+    pub fn command(&self) -> Sexp<'_>
+        requires { IsAtCommand self.now }
+        ensures { Holds self.now result }
     {
-        self.machine.take()
+        self.machine.command()
     }
 
     /// The place of the first byte of the command begun or answered last, else of the next byte.

@@ -5,15 +5,17 @@ ghost use Rattle.eo_base.specs.Limits.{limits};
 ghost use Rattle.eo_sexp.specs.Answering.{AnswersAlone};
 ghost use Rattle.eo_sexp.specs.Cutting.{ReadsInPieces};
 
+mod buffer;
 mod classes;
 mod incremental;
-mod owned;
+mod lent;
+mod plain;
 mod reader;
 mod token;
 
 use eo_base::FaultName;
 pub use incremental::Collector;
-pub use owned::{Bytes, OwnedSexp, OwnedSexps};
+pub use lent::{Children, Sexp};
 
 /// What an s-expression is.
 #[derive(Clone, Copy, Debug, PartialEq, Eq)]

@@ -1,27 +1,21 @@
 //! The command begun, a byte at a time.
-ghost use Rattle.std.specs.Prelude.{◌≡◌, ℕ, ◌∷◌, [], ◌+◌, ◌<◌, ◌≤◌, ◌^◌, length, reverse, option_map, IfOk, OnOk, suc, if◌then◌else◌};
+ghost use Rattle.std.specs.Prelude.{◌≡◌, ℕ, ◌+◌, ◌<◌, ◌≤◌, ◌^◌, [], length, IfOk, OnOk, suc, if◌then◌else◌, ◌==◌};
 ghost use Rattle.eo_base.specs.Limits.{limits};
-ghost use Rattle.eo_sexp.specs.Commands.{Cut, sexp};
-ghost use Rattle.eo_sexp.specs.Owned.{owned};
-ghost use Rattle.eo_sexp.specs.Token.{class_of, IsToken, token_size, token_end, atom_kind, atom_text};
-ghost use Rattle.eo_sexp.specs.Reader.{IsAtom, AddsChild, ClosesList, is_full, IsReader, Turns, Begins, BeginsToken, IsAtomOf, reading};
+ghost use Rattle.eo_sexp.specs.Nodes.{token_text, HasText};
+ghost use Rattle.eo_sexp.specs.Sexp.{Atom};
+ghost use Rattle.eo_sexp.specs.Built.{Built, nothing, with_byte, with_child};
+ghost use Rattle.eo_sexp.specs.Token.{class_of, atom_kind};
+ghost use Rattle.eo_sexp.specs.Reader.{held, IsAtom, AddsChild, ClosesList, is_full, IsReader, Turns, Begins, BeginsToken, Ends, EndsAt, atom_of, text_at, is_delimited, RunsTo, Runs};
 ghost use Rattle.eo_sexp.specs.Lexicon.{Open, class, is_line_end};
 
 use crate::Kind;
+use crate::buffer::Buffer;
 use crate::classes::{Class, classify, is_line_end};
-use crate::owned::{Bytes, OwnedSexp, OwnedSexps};
+use crate::plain::{comment_run, plain_run};
 use crate::token::{Token, TokenTurn, kind_of, may_end, token_turn};
 use eo_base::FaultName;
-use eo_base::limits::{NESTING, WIDTH};
-use std::alloc::{AllocError, Global};
-use std::mem::replace;
-
-/// A list that is open: the number of its `(`, and its children so far.
-#[derive(Drop)]
-pub(crate) struct Frame {
-    at: usize,
-    children: OwnedSexps,
-}
+use eo_base::limits::{COMMAND, NESTING, TOKEN, WIDTH};
+use std::alloc::AllocError;
 
 /// What the next byte stands in.
 #[derive(Clone, Copy, Debug, PartialEq, Eq)]
@@ -33,67 +27,73 @@ pub(crate) enum Place {
 }
 
 /// What the next byte does to a command.
-#[derive(Drop)]
+#[derive(Clone, Copy, Debug, PartialEq, Eq)]
 pub(crate) enum ReaderTurn {
     /// The command goes on behind the byte.
     Goes,
     /// The command ended before the byte.
-    Before(OwnedSexp),
+    Before,
     /// The command is whole with the byte.
-    Whole(OwnedSexp),
+    Whole,
     /// The byte is a fault.
     Fault(FaultName),
 }
 
-/// A command that is begun and not whole: its open lists, the innermost last, and the token that
-/// is begun.
+/// How many bytes were taken, and what the next one does. It is not known where that is `Goes`.
+#[derive(Clone, Copy, Debug, PartialEq, Eq)]
+pub(crate) struct Run {
+    pub(crate) taken: usize,
+    // how many of them are line feeds
+    pub(crate) lines: usize,
+    pub(crate) turn: ReaderTurn,
+}
+
+/// A command that is begun and not whole: the token that is begun. Its buffer has the rest.
 #[derive(Drop)]
 pub(crate) struct Reader {
-    frames: Vec<Frame>,
     place: Place,
-    // of the token begun, the number of its first byte, and its bytes without that if it is a
-    // delimiter
+    // the number of the token's first byte
     from: usize,
-    text: Vec<u8>,
 }
 
-// Adds a child to the innermost list. Where no list is open the child is the whole command.
-fn add_child(frames: &mut Vec<Frame>, child: OwnedSexp) -> Result<Option<OwnedSexp>, AllocError>
-    ensures { IfOk result (λ whole. AddsChild limits frames.old.items (owned child) frames.new.items whole) }
+// Adds an atom to the innermost list, and tells whether it is the whole command.
+#[inline(always)]
+fn add_atom(
+    buffer: &mut Buffer,
+    kind: Kind,
+    delimited: bool,
+    from: usize,
+    to: usize,
+) -> Result<bool, AllocError>
+    requires text { HasText buffer.old.bytes delimited from to }
+    requires short { to < 2 ^ 32 }
+    ensures bytes { OnOk result (buffer.new.bytes ≡ buffer.old.bytes) }
+    ensures added { IfOk result (λ whole. AddsChild limits buffer.old (Atom kind (token_text buffer.old.bytes delimited from to) (record { from = from; to = to })) buffer.new whole) }
 {
-    match frames.pop() {
-        None => Ok(Some(child)),
-        Some(Frame { at, mut children }) => {
-            children.push(child)?;
-            frames.push(Frame { at, children })?;
-            Ok(None)
-        }
-    }
+    buffer.add_atom(kind, delimited, from, to)?;
+    Ok(buffer.depth() == 0)
 }
 
-// Closes the innermost list before the byte with this number.
-fn close_list(frames: &mut Vec<Frame>, to: usize) -> Result<Option<OwnedSexp>, AllocError>
-    requires inside { 0 < length frames.old.items }
-    requires nested { length frames.old.items ≤ limits.nesting }
-    ensures { IfOk result (λ whole. ClosesList limits frames.old.items to frames.new.items whole) }
+// Closes the innermost list before the byte with this number, and tells whether it is the whole
+// command.
+#[inline(always)]
+fn close_list(buffer: &mut Buffer, to: usize) -> bool
+    requires inside { 0 < length buffer.old.open_lists }
+    requires nested { length buffer.old.open_lists ≤ limits.nesting }
+    requires short { to < 2 ^ 32 }
+    ensures bytes { buffer.new.bytes ≡ buffer.old.bytes }
+    ensures closed { ClosesList limits buffer.old to buffer.new result }
 {
-    match frames.pop() {
-        None => Ok(None),
-        Some(Frame { at, children }) => {
-            let span = (at, to);
-            add_child(frames, OwnedSexp::List { children, span })
-        }
-    }
+    buffer.close_list(to);
+    buffer.depth() == 0
 }
 
 // Whether the innermost list may have no further child.
-fn is_full(frames: &[Frame]) -> bool
-    ensures { result ≡ is_full limits (reverse frames.now) }
+#[inline(always)]
+fn is_full(buffer: &Buffer) -> bool
+    ensures { result ≡ is_full limits buffer.now.open_lists }
 {
-    match frames {
-        [] => false,
-        [.., last] => last.children.len() >= WIDTH,
-    }
+    buffer.width() >= WIDTH
 }
 
 // What the byte behind the byte x of a comment stands in.
@@ -107,79 +107,181 @@ fn behind_comment_byte(x: u8) -> Place
     }
 }
 
+// How many lines the byte ends.
+fn line_feeds(x: u8) -> usize
+    ensures { result ≡ (if x == 10 then 1 else 0) }
+{
+    if x == b'\n' { 1 } else { 0 }
+}
+
+fn smaller(a: usize, b: usize) -> usize
+    ensures a { result ≤ a }
+    ensures b { result ≤ b }
+{
+    if a < b { a } else { b }
+}
+
 impl Reader {
     // Before a command.
-    pub(crate) fn new(alloc: Global) -> Reader {
+    pub(crate) fn new() -> Reader {
         Reader {
-            frames: Vec::new(alloc),
             place: Place::Gap,
             from: 0,
-            text: Vec::new(alloc),
         }
     }
 
     // Begins a command that is a list.
-    pub(crate) fn begin_list(&mut self, alloc: Global) -> Result<(), AllocError>
-        ensures { OnOk result ((x : ℕ) → class x ≡ Open → Begins limits x self.new) }
+    pub(crate) fn begin_list(&mut self, buffer: &mut Buffer) -> Result<(), AllocError>
+        requires { buffer.old ≡ nothing }
+        ensures bytes { OnOk result (buffer.new.bytes ≡ []) }
+        ensures begins { OnOk result ((x : ℕ) → class x ≡ Open → Begins limits x (held (with_byte buffer.new x) self.new)) }
     {
-        self.frames.clear();
         self.place = Place::Gap;
-        let children = Vec::new(alloc);
-        self.frames.push(Frame { at: 0, children })?;
-        Ok(())
+        buffer.open_list(0)
     }
 
     // Begins a command that is an atom with the first byte x.
-    pub(crate) fn begin_atom(&mut self, c: Class, x: u8) -> Result<(), AllocError>
+    pub(crate) fn begin_atom(&mut self, c: Class, x: u8)
         requires class { class_of c ≡ class x }
         requires atom { IsAtom (class x) }
-        ensures { OnOk result (Begins limits x self.new) }
+        ensures { Begins limits x (held (with_byte nothing x) self.new) }
     {
-        self.frames.clear();
-        self.begin_token(c, 0, x)
+        self.begin_token(c, 0, x);
     }
 
-    // Begins a token.
-    fn begin_token(&mut self, c: Class, at: usize, x: u8) -> Result<(), AllocError>
+    // Begins a token with the byte x, which is not in the buffer yet.
+    #[inline(always)]
+    fn begin_token(&mut self, c: Class, at: usize, x: u8)
         requires class { class_of c ≡ class x }
         requires atom { IsAtom (class x) }
-        ensures { OnOk result (BeginsToken limits self.old at x self.new) }
+        ensures { (b : Built) → length b.bytes ≡ at → BeginsToken limits (held b self.old) at x (held (with_byte b x) self.new) }
     {
-        self.text.clear();
         self.from = at;
         match c {
             Class::Quote => self.place = Place::Token(Token::Text { closed: false }),
             Class::Bar => self.place = Place::Token(Token::Quoted),
-            _ => {
-                self.place = Place::Token(Token::Word);
-                self.text.push(x)?;
-            }
+            _ => self.place = Place::Token(Token::Word),
         }
-        Ok(())
     }
 
-    // The byte x, which has this number in the command.
-    pub(crate) fn turn(&mut self, alloc: Global, at: usize, x: u8) -> Result<ReaderTurn, AllocError>
-        requires reader { IsReader limits self.old at }
-        requires room { at < 2 ^ 63 }
-        ensures { IfOk result (λ t. Turns limits self.old at x t self.new) }
+    // The byte x, which has this number in the command and is not in the buffer yet.
+    #[inline(always)]
+    pub(crate) fn turn(
+        &mut self,
+        buffer: &mut Buffer,
+        at: usize,
+        x: u8,
+    ) -> Result<ReaderTurn, AllocError>
+        requires reader { IsReader limits (held buffer.old self.old) at }
+        requires at { length buffer.old.bytes ≡ at }
+        requires room { at < 2 ^ 31 }
+        ensures bytes { OnOk result (buffer.new.bytes ≡ buffer.old.bytes) }
+        ensures turns { IfOk result (λ t. Turns limits (held buffer.old self.old) at x t (held (with_byte buffer.new x) self.new)) }
     {
         match self.place {
-            Place::Gap => self.turn_gap(alloc, at, x),
+            Place::Gap => self.turn_gap(buffer, at, x),
             Place::Comment => {
                 self.place = behind_comment_byte(x);
                 Ok(ReaderTurn::Goes)
             }
-            Place::Token(token) => self.turn_token(alloc, token, at, x),
+            Place::Token(token) => self.turn_token(buffer, token, at, x),
         }
     }
 
+    // Takes the bytes at the front of `rest`, up to one that decides. It stops early where the command
+    // has as many bytes as it may.
+    pub(crate) fn run(&mut self, buffer: &mut Buffer, rest: &[u8]) -> Result<Run, AllocError>
+        requires reader { IsReader limits (held buffer.old self.old) (length buffer.old.bytes) }
+        requires short { length buffer.old.bytes ≤ limits.command }
+        ensures counts { IfOk result (λ r. (r.lines ≤ r.taken) × (r.taken ≤ length rest.now)) }
+        ensures runs { IfOk result (λ r. Runs limits buffer.old self.old rest.now r.taken r.lines r.turn buffer.new self.new) }
+    {
+        let mut taken = self.run_plain(buffer, rest)?;
+        let mut lines = 0;
+        while taken < rest.len() {
+            let x = rest[taken];
+            let at = buffer.bytes().len();
+            if at >= COMMAND {
+                break;
+            }
+            match self.turn(buffer, at, x)? {
+                ReaderTurn::Goes => {
+                    buffer.push(x)?;
+                    lines += line_feeds(x);
+                    taken += 1;
+                    taken += self.run_plain(buffer, &rest[taken..])?;
+                }
+                turn => return Ok(Run { taken, lines, turn }),
+            }
+        }
+        Ok(Run {
+            taken,
+            lines,
+            turn: ReaderTurn::Goes,
+        })
+    }
+
+    // Takes the bytes at the front of `rest` that leave a token or a comment as it is, but no line
+    // feed, and tells how many.
+    #[inline(always)]
+    fn run_plain(&self, buffer: &mut Buffer, rest: &[u8]) -> Result<usize, AllocError>
+        requires reader { IsReader limits (held buffer.old self.now) (length buffer.old.bytes) }
+        requires short { length buffer.old.bytes ≤ limits.command }
+        ensures { IfOk result (λ n. RunsTo limits buffer.old self.now rest.now n 0 buffer.new self.now) }
+    {
+        match self.place {
+            Place::Token(token) => self.run_token(buffer, token, rest),
+            Place::Comment => self.run_comment(buffer, rest),
+            Place::Gap => Ok(0),
+        }
+    }
+
+    // The same in a comment.
+    #[inline(never)]
+    fn run_comment(&self, buffer: &mut Buffer, rest: &[u8]) -> Result<usize, AllocError>
+        requires reader { IsReader limits (held buffer.old self.now) (length buffer.old.bytes) }
+        requires comment { self.now.place ≡ Place.Comment }
+        requires short { length buffer.old.bytes ≤ limits.command }
+        ensures { IfOk result (λ n. RunsTo limits buffer.old self.now rest.now n 0 buffer.new self.now) }
+    {
+        let most = smaller(rest.len(), COMMAND.saturating_sub(buffer.bytes().len()));
+        let run = comment_run(&rest[..most]);
+        if run > 0 {
+            buffer.extend(&rest[..run])?;
+        }
+        Ok(run)
+    }
+
+    // The same in a token.
+    #[inline(always)]
+    fn run_token(&self, buffer: &mut Buffer, token: Token, rest: &[u8]) -> Result<usize, AllocError>
+        requires reader { IsReader limits (held buffer.old self.now) (length buffer.old.bytes) }
+        requires token { self.now.place ≡ Place.Token token }
+        requires short { length buffer.old.bytes ≤ limits.command }
+        ensures { IfOk result (λ n. RunsTo limits buffer.old self.now rest.now n 0 buffer.new self.now) }
+    {
+        let at = buffer.bytes().len();
+        let more = smaller(
+            COMMAND.saturating_sub(at),
+            TOKEN.saturating_sub(at.saturating_sub(self.from)),
+        );
+        let most = smaller(rest.len(), more);
+        let run = plain_run(token, &rest[..most]);
+        if run > 0 {
+            buffer.extend(&rest[..run])?;
+        }
+        Ok(run)
+    }
+
     // The byte x between two tokens of a list.
-    fn turn_gap(&mut self, alloc: Global, at: usize, x: u8) -> Result<ReaderTurn, AllocError>
-        requires reader { IsReader limits self.old at }
+    #[inline(always)]
+    fn turn_gap(&mut self, buffer: &mut Buffer, at: usize, x: u8) -> Result<ReaderTurn, AllocError>
+        requires reader { IsReader limits (held buffer.old self.old) at }
         requires gap { self.old.place ≡ Place.Gap }
-        requires room { at < 2 ^ 63 }
-        ensures { IfOk result (λ t. Turns limits self.old at x t self.new) }
+        requires at { length buffer.old.bytes ≡ at }
+        requires room { at < 2 ^ 31 }
+        ensures bytes { OnOk result (buffer.new.bytes ≡ buffer.old.bytes) }
+        ensures turns { IfOk result (λ t. Turns limits (held buffer.old self.old) at x t (held (with_byte buffer.new x) self.new)) }
     {
         match classify(x) {
             Class::Space => Ok(ReaderTurn::Goes),
@@ -188,114 +290,154 @@ impl Reader {
                 Ok(ReaderTurn::Goes)
             }
             Class::Other => Ok(ReaderTurn::Fault(FaultName::BadByte)),
-            Class::Open => self.open_list(alloc, at),
-            Class::Close => match close_list(&mut self.frames, at + 1)? {
-                Some(s) => Ok(ReaderTurn::Whole(s)),
-                None => Ok(ReaderTurn::Goes),
-            },
+            Class::Open => self.open_list(buffer, at),
+            Class::Close => {
+                if close_list(buffer, at + 1) {
+                    return Ok(ReaderTurn::Whole);
+                }
+                Ok(ReaderTurn::Goes)
+            }
             c => {
-                if is_full(self.frames.as_slice()) {
+                if is_full(buffer) {
                     return Ok(ReaderTurn::Fault(FaultName::Width));
                 }
-                self.begin_token(c, at, x)?;
+                self.begin_token(c, at, x);
                 Ok(ReaderTurn::Goes)
             }
         }
     }
 
     // A `(` between two tokens of a list.
-    fn open_list(&mut self, alloc: Global, at: usize) -> Result<ReaderTurn, AllocError>
-        requires reader { IsReader limits self.old at }
+    fn open_list(&mut self, buffer: &mut Buffer, at: usize) -> Result<ReaderTurn, AllocError>
+        requires reader { IsReader limits (held buffer.old self.old) at }
         requires gap { self.old.place ≡ Place.Gap }
-        ensures { IfOk result (λ t. (x : ℕ) → class x ≡ Open → Turns limits self.old at x t self.new) }
+        requires at { length buffer.old.bytes ≡ at }
+        requires room { at < 2 ^ 31 }
+        ensures bytes { OnOk result (buffer.new.bytes ≡ buffer.old.bytes) }
+        ensures turns { IfOk result (λ t. (x : ℕ) → class x ≡ Open → Turns limits (held buffer.old self.old) at x t (held (with_byte buffer.new x) self.new)) }
     {
-        if self.frames.len() >= NESTING {
+        if buffer.depth() >= NESTING {
             return Ok(ReaderTurn::Fault(FaultName::Nesting));
         }
-        if is_full(self.frames.as_slice()) {
+        if is_full(buffer) {
             return Ok(ReaderTurn::Fault(FaultName::Width));
         }
-        let children = Vec::new(alloc);
-        self.frames.push(Frame { at, children })?;
+        buffer.open_list(at)?;
         Ok(ReaderTurn::Goes)
     }
 
     // The byte x inside or behind a token.
+    #[inline(always)]
     fn turn_token(
         &mut self,
-        alloc: Global,
+        buffer: &mut Buffer,
         token: Token,
         at: usize,
         x: u8,
     ) -> Result<ReaderTurn, AllocError>
-        requires reader { IsReader limits self.old at }
+        requires reader { IsReader limits (held buffer.old self.old) at }
         requires token { self.old.place ≡ Place.Token token }
-        requires room { at < 2 ^ 63 }
-        ensures { IfOk result (λ t. Turns limits self.old at x t self.new) }
+        requires at { length buffer.old.bytes ≡ at }
+        requires room { at < 2 ^ 31 }
+        ensures bytes { OnOk result (buffer.new.bytes ≡ buffer.old.bytes) }
+        ensures turns { IfOk result (λ t. Turns limits (held buffer.old self.old) at x t (held (with_byte buffer.new x) self.new)) }
     {
         match token_turn(token, at - self.from, x) {
             TokenTurn::Goes(token) => {
-                self.text.push(x)?;
                 self.place = Place::Token(token);
                 Ok(ReaderTurn::Goes)
             }
             TokenTurn::Fault(name) => Ok(ReaderTurn::Fault(name)),
             TokenTurn::Closes => {
-                let atom = self.end_token(alloc, token, at + 1);
+                let whole = self.end_token(buffer, token, at + 1)?;
                 self.place = Place::Gap;
-                match add_child(&mut self.frames, atom)? {
-                    Some(s) => Ok(ReaderTurn::Whole(s)),
-                    None => Ok(ReaderTurn::Goes),
+                if whole {
+                    return Ok(ReaderTurn::Whole);
                 }
+                Ok(ReaderTurn::Goes)
             }
             TokenTurn::Ends => {
-                let atom = self.end_token(alloc, token, at);
+                let whole = self.end_token(buffer, token, at)?;
                 self.place = Place::Gap;
-                match add_child(&mut self.frames, atom)? {
-                    Some(s) => Ok(ReaderTurn::Before(s)),
-                    None => self.turn_gap(alloc, at, x),
+                if whole {
+                    return Ok(ReaderTurn::Before);
                 }
+                self.turn_gap(buffer, at, x)
             }
         }
     }
 
-    // The atom that the token begun is, where it ends before the byte with this number.
-    fn end_token(&mut self, alloc: Global, token: Token, to: usize) -> OwnedSexp
-        ensures atom { IsAtomOf self.old token to (owned result) }
-        ensures frames { self.new.frames ≡ self.old.frames }
+    // Adds the atom that the token begun is, where it ends before the byte with this number, and
+    // tells whether it is the whole command.
+    #[inline(always)]
+    fn end_token(&self, buffer: &mut Buffer, token: Token, to: usize) -> Result<bool, AllocError>
+        requires token { self.now.place ≡ Place.Token token }
+        requires ends { EndsAt (held buffer.old self.now) token (length buffer.old.bytes) to }
+        requires short { to < 2 ^ 32 }
+        ensures bytes { OnOk result (buffer.new.bytes ≡ buffer.old.bytes) }
+        ensures added { IfOk result (λ whole. AddsChild limits buffer.old (atom_of (held buffer.old self.now) token to) buffer.new whole) }
     {
-        let mut text = replace(&mut self.text, Vec::new(alloc));
-        let kind = match token {
-            Token::Word => kind_of(text.as_slice()),
+        let kind = self.kind(buffer.bytes(), token);
+        add_atom(buffer, kind, is_delimited(token), self.from, to)
+    }
+
+    // The kind of the atom that the token begun is.
+    #[inline(always)]
+    fn kind(&self, bytes: &[u8], token: Token) -> Kind
+        requires { self.now.from ≤ length bytes.now }
+        ensures { result ≡ atom_kind token (text_at (Place.Token token) self.now.from bytes.now) }
+    {
+        match token {
+            Token::Word => kind_of(&bytes[self.from..]),
             Token::Quoted => Kind::Symbol,
-            Token::Text { .. } => {
-                let _ = text.pop();
-                Kind::String
-            }
-        };
-        OwnedSexp::Atom {
-            kind,
-            text: Bytes::of(text),
-            span: (self.from, to),
+            Token::Text { .. } => Kind::String,
         }
     }
 
-    // The command, where the input ends behind its bytes and makes it whole.
-    pub(crate) fn finish(&mut self, alloc: Global, to: usize) -> Option<OwnedSexp>
-        requires { IsReader limits self.old to }
-        ensures { reading limits self.old to [] ≡ Cut (option_map owned result) }
+    // Makes the command whole, where the input ends behind its bytes and makes it so, and tells
+    // whether it does. It takes no memory.
+    pub(crate) fn finish(&mut self, buffer: &mut Buffer, to: usize) -> bool
+        requires reader { IsReader limits (held buffer.old self.old) to }
+        requires at { length buffer.old.bytes ≡ to }
+        requires short { to < 2 ^ 32 }
+        ensures bytes { buffer.new.bytes ≡ buffer.old.bytes }
+        ensures ends { Ends limits (held buffer.old self.old) to buffer.new result }
     {
-        if !self.frames.is_empty() {
-            return None;
+        if buffer.depth() != 0 {
+            return false;
         }
         match self.place {
-            Place::Gap | Place::Comment => None,
+            Place::Gap | Place::Comment => false,
             Place::Token(token) => {
                 if !may_end(token) {
-                    return None;
+                    return false;
                 }
-                Some(self.end_token(alloc, token, to))
+                self.end_command(buffer, token, to);
+                true
             }
         }
+    }
+
+    // Makes the atom that the token begun is the whole command. It takes no memory.
+    fn end_command(&self, buffer: &mut Buffer, token: Token, to: usize)
+        requires token { self.now.place ≡ Place.Token token }
+        requires ends { EndsAt (held buffer.old self.now) token (length buffer.old.bytes) to }
+        requires short { to < 2 ^ 32 }
+        requires none { buffer.old.done ≡ [] }
+        requires outside { buffer.old.open_lists ≡ [] }
+        ensures { buffer.new ≡ with_child buffer.old (atom_of (held buffer.old self.now) token to) }
+    {
+        let kind = self.kind(buffer.bytes(), token);
+        buffer.be_atom(kind, is_delimited(token), self.from, to);
+    }
+}
+
+// Whether the token has a delimiter at each end.
+fn is_delimited(token: Token) -> bool
+    ensures { result ≡ is_delimited token }
+{
+    match token {
+        Token::Word => false,
+        Token::Text { .. } | Token::Quoted => true,
     }
 }

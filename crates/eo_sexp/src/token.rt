@@ -34,6 +34,7 @@ pub(crate) enum TokenTurn {
 
 // A byte more for a token of `size` bytes, which goes on as `token`.
 #[tactic(auto, unfolding(eo_base::specs::Limits::limits))]
+#[inline(always)]
 fn go_on(size: usize, token: Token) -> TokenTurn
     ensures { result ≡ go_on limits size token }
 {
@@ -46,6 +47,7 @@ fn go_on(size: usize, token: Token) -> TokenTurn
 
 // The last byte of a token behind `size` bytes.
 #[tactic(auto, unfolding(eo_base::specs::Limits::limits))]
+#[inline(always)]
 fn close(size: usize) -> TokenTurn
     ensures { result ≡ close limits size }
 {
@@ -58,6 +60,7 @@ fn close(size: usize) -> TokenTurn
 
 // The byte x behind `size` bytes of a token.
 #[tactic(auto, unfolding(crate::specs::Token::token_turn))]
+#[inline(always)]
 pub(crate) fn token_turn(token: Token, size: usize, x: u8) -> TokenTurn
     ensures { result ≡ token_turn limits size token x }
 {
@@ -88,6 +91,7 @@ pub(crate) fn may_end(token: Token) -> bool
 
 // The kind of a word.
 #[tactic(auto, unfolding(crate::specs::Lexicon::kind_of, crate::specs::Lexicon::begins_digit))]
+#[inline(always)]
 pub(crate) fn kind_of(word: &[u8]) -> Kind
     ensures { result ≡ kind_of word.now }
 {

@@ -1,11 +1,13 @@
 -- A command by its parts.
-use Rattle.std.proofs.Common.{◌≡◌, refl, Bool, List, [], ◌∷◌, ℕ, Option, None, Some, Err, ap, length, ◌∙◌, arith}
+use Rattle.std.proofs.Common.{◌≡◌, refl, Bool, List, [], ◌∷◌, ℕ, Option, None, Some, Err, ap, sym, length, ◌∙◌, arith}
+use Rattle.std.proofs.lemmas.Option.{same_Some}
 use Rattle.std.specs.Prelude.{if◌then◌else◌}
 use Rattle.eo_base.specs.declared.FaultName.TheVariants.{UnknownCommand, BadCommand}
 use Rattle.eo_base.specs.Checks.{Checked, ◌>>=◌, value_or}
 use Rattle.eo_sexp.specs.declared.Kind.TheVariants as kind
 use Rattle.eo_sexp.specs.Sexp.{Sexp, Atom, Listed, Sexps, NoSexp, Next, Span, children_of, sexp_children}
 use Rattle.eo_shape.specs.Shapes.{Command, Form, forms, reference_forms, form_of, shaped_by, command_of}
+use Rattle.eo_sexp.specs.Pairs.{first_one}
 use Rattle.eo_shape.specs.Words.{symbol_of}
 
 abbrev pub forms_of : Bool → List Form
@@ -58,3 +60,12 @@ command_of-unknown b s h parts w e f g = command_of-word b s h parts w e f ∙ a
 pub command_of-known : (b : Bool) (s h : Sexp) (parts : List Sexp) (w : List ℕ) (shape : List Sexp → Option Command) → sexp_children s ≡ h ∷ parts → symbol_of h ≡ Some w → form_of (forms_of b) w ≡ Some shape → command_of b s ≡ value_or BadCommand (shape parts)
 unfolding ◌>>=◌ value_or
 command_of-known b s h parts w shape e f g = command_of-word b s h parts w e f ∙ ap (λ o. by_form o parts) g
+
+-- what the first part and the others make
+pub split-some : (ss : List Sexp) (h : Sexp) (parts : List Sexp) (o : Option (Sexp × List Sexp)) → o ≡ first_one ss → o ≡ Some (h, parts) → ss ≡ h ∷ parts
+split-some [] h parts o e f = cc
+split-some (s ∷ ss) h parts o e f = let same : (s, ss) ≡ (h, parts) = same_Some (s, ss) (h, parts) (sym e ∙ f) in ap (λ (p : Sexp × List Sexp). p.0 ∷ p.1) same
+
+pub split-none : (ss : List Sexp) (o : Option (Sexp × List Sexp)) → o ≡ first_one ss → o ≡ None → ss ≡ []
+split-none [] o e f = refl
+split-none (s ∷ ss) o e f = cc

@@ -1,5 +1,4 @@
 pub mod Every
 pub mod Places
 pub mod Texts
-pub mod Owned
 pub mod ByWord

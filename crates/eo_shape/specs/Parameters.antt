@@ -1,16 +1,14 @@
--- Parameters that have their shape, in a list of s-expressions that are owned.
+-- Parameters that have their shape, in a list of s-expressions.
 use Rattle.std.specs.Prelude.{◌≡◌, List, [], map, Option, Some, option_and_then, unwrap_or}
-use Rattle.eo_sexp.specs.Owned.{owned}
 use Rattle.eo_sexp.specs.Sexp.{Sexp}
-use Rattle.eo_sexp.specs.declared.owned.OwnedSexp.{OwnedSexp}
 use Rattle.eo_shape.specs.Shapes.{ParameterShape, every, list_of, parameter_of}
 
 abbrev pub shaped_parameter : Sexp → Option ParameterShape
 shaped_parameter s = option_and_then parameter_of (list_of s)
 
-abbrev pub parameters_in : List OwnedSexp → List ParameterShape
-parameters_in items = unwrap_or (every shaped_parameter (map owned items)) []
+abbrev pub parameters_in : List Sexp → List ParameterShape
+parameters_in items = unwrap_or (every shaped_parameter items) []
 
 -- each has the shape of a parameter
-abbrev pub AreParameters : List OwnedSexp → Type 0
-AreParameters items = every shaped_parameter (map owned items) ≡ Some (parameters_in items)
+abbrev pub AreParameters : List Sexp → Type 0
+AreParameters items = every shaped_parameter items ≡ Some (parameters_in items)

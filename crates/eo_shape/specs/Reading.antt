@@ -1,8 +1,6 @@
 -- The parts of a command as the program has them, which borrow, and those of the definitions for which they stand.
-use Rattle.std.specs.Prelude.{map}
 use Rattle.eo_base.specs.declared.FaultName.{FaultName}
 use Rattle.eo_base.specs.declared.FaultName.TheVariants as fault
-use Rattle.eo_sexp.specs.Owned.{owned}
 use Rattle.eo_shape.specs.declared.ParameterShape as code_parameter
 use Rattle.eo_shape.specs.declared.AttributeShape as code_attribute
 use Rattle.eo_shape.specs.declared.AttributeShape.TheVariants as attribute
@@ -13,27 +11,27 @@ use Rattle.eo_shape.specs.declared.ShapeRefused.TheVariants as refused
 use Rattle.eo_shape.specs.Shapes.{ParameterShape, AttributeShape, NoAttribute, RightNilShape, LeftNilShape, RightShape, LeftShape, ChainShape, PairsShape, BinderShape, Command, DeclareConst, DeclareFun, DeclareSort, DeclareParameterized, DeclareLiterals, Define, Assume, Assert}
 
 abbrev pub read_parameter : code_parameter.ParameterShape → ParameterShape
-read_parameter p = record { name = p.name.now; type = owned p.ty.now; implicit = p.implicit; list = p.list }
+read_parameter p = record { name = p.name.now; type = p.ty; implicit = p.implicit; list = p.list }
 
 abbrev pub read_attribute : code_attribute.AttributeShape → AttributeShape
 read_attribute attribute.None = NoAttribute
-read_attribute (attribute.RightNil n) = RightNilShape (owned n.now)
-read_attribute (attribute.LeftNil n) = LeftNilShape (owned n.now)
+read_attribute (attribute.RightNil n) = RightNilShape n
+read_attribute (attribute.LeftNil n) = LeftNilShape n
 read_attribute attribute.Right = RightShape
 read_attribute attribute.Left = LeftShape
-read_attribute (attribute.Chain g) = ChainShape (owned g.now)
-read_attribute (attribute.Pairs g) = PairsShape (owned g.now)
-read_attribute (attribute.Binder b) = BinderShape (owned b.now)
+read_attribute (attribute.Chain g) = ChainShape g
+read_attribute (attribute.Pairs g) = PairsShape g
+read_attribute (attribute.Binder b) = BinderShape b
 
 abbrev pub read_command : code_command.Command → Command
-read_command (command.DeclareConst name ty a) = DeclareConst name.now (owned ty.now) (read_attribute a)
-read_command (command.DeclareFun name inputs output) = DeclareFun name.now (map owned inputs.now) (owned output.now)
+read_command (command.DeclareConst name ty a) = DeclareConst name.now ty (read_attribute a)
+read_command (command.DeclareFun name inputs output) = DeclareFun name.now inputs output
 read_command (command.DeclareSort name arity) = DeclareSort name.now arity
-read_command (command.DeclareParameterized name params ty a) = DeclareParameterized name.now params (owned ty.now) (read_attribute a)
-read_command (command.DeclareLiterals class ty) = DeclareLiterals class (owned ty.now)
-read_command (command.Define name params body) = Define name.now params (owned body.now)
-read_command (command.Assume name formula) = Assume name.now (owned formula.now)
-read_command (command.Assert formula) = Assert (owned formula.now)
+read_command (command.DeclareParameterized name params ty a) = DeclareParameterized name.now params ty (read_attribute a)
+read_command (command.DeclareLiterals class ty) = DeclareLiterals class ty
+read_command (command.Define name params body) = Define name.now params body
+read_command (command.Assume name formula) = Assume name.now formula
+read_command (command.Assert formula) = Assert formula
 
 abbrev pub fault_of : ShapeRefused → FaultName
 fault_of refused.UnknownCommand = fault.UnknownCommand

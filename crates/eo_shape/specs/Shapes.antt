@@ -4,8 +4,8 @@ use Rattle.eo_base.specs.declared.FaultName.TheVariants.{UnknownCommand, BadComm
 use Rattle.eo_base.specs.Checks.{Checked, ◌>>=◌, value_or}
 use Rattle.eo_sexp.specs.declared.Kind.TheVariants as kind
 use Rattle.eo_sexp.specs.Sexp.{Sexp, Atom, Listed, Next, children_of}
-use Rattle.eo_sig.specs.declared.LiteralClass.{LiteralClass}
-use Rattle.eo_sig.specs.declared.LiteralClass.TheVariants.{Numeral, Binary, String}
+use Rattle.eo_lit.specs.declared.LiteralClass.{LiteralClass}
+use Rattle.eo_lit.specs.declared.LiteralClass.TheVariants.{Numeral, Binary, String}
 use Rattle.eo_shape.specs.Words.{symbol_of, keyword_of, numeral_of, is_some_word}
 
 -- ---- parts

@@ -1,28 +1,30 @@
 //! The shape of an attribute.
-ghost use Rattle.std.specs.Prelude.{◌≡◌, option_map, map};
-ghost use Rattle.eo_sexp.specs.Owned.{owned};
+ghost use Rattle.std.specs.Prelude.{◌≡◌, option_map};
 ghost use Rattle.eo_shape.specs.Reading.{read_attribute};
 ghost use Rattle.eo_shape.specs.Shapes.{attribute_of, marked_attribute, valued_attribute};
 
 use crate::AttributeShape;
 use crate::words::is_keyword;
-use eo_sexp::OwnedSexp;
+use eo_sexp::{Children, Sexp};
 
 /// The attribute that these parts are: none, a mark, or a keyword with its value.
-pub(crate) fn attribute(parts: &[OwnedSexp]) -> Option<AttributeShape<'_>>
-    ensures { option_map read_attribute result ≡ attribute_of (map owned parts.now) }
+pub(crate) fn attribute<'b>(parts: &Children<'b>) -> Option<AttributeShape<'b>>
+    ensures { option_map read_attribute result ≡ attribute_of parts.now }
 {
-    match parts {
-        [] => Some(AttributeShape::None),
-        [mark] => marked(mark),
-        [keyword, value] => valued(keyword, value),
+    match parts.len() {
+        0 => Some(AttributeShape::None),
+        1 => marked(&parts.first()),
+        2 => {
+            let (keyword, value) = parts.only_two()?;
+            valued(&keyword, value)
+        }
         _ => None,
     }
 }
 
 /// The attribute of this keyword alone.
-fn marked<'a>(keyword: &'a OwnedSexp) -> Option<AttributeShape<'a>>
-    ensures { option_map read_attribute result ≡ marked_attribute (owned keyword.now) }
+fn marked<'a>(keyword: &Sexp<'_>) -> Option<AttributeShape<'a>>
+    ensures { option_map read_attribute result ≡ marked_attribute keyword.now }
 {
     if is_keyword(keyword, b":right-assoc") {
         return Some(AttributeShape::Right);
@@ -34,8 +36,8 @@ fn marked<'a>(keyword: &'a OwnedSexp) -> Option<AttributeShape<'a>>
 }
 
 /// The attribute of this keyword with this value.
-fn valued<'a>(keyword: &OwnedSexp, value: &'a OwnedSexp) -> Option<AttributeShape<'a>>
-    ensures { option_map read_attribute result ≡ valued_attribute (owned keyword.now) (owned value.now) }
+fn valued<'a>(keyword: &Sexp<'_>, value: Sexp<'a>) -> Option<AttributeShape<'a>>
+    ensures { option_map read_attribute result ≡ valued_attribute keyword.now value.entry }
 {
     if is_keyword(keyword, b":right-assoc-nil") {
         return Some(AttributeShape::RightNil(value));

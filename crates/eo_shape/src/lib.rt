@@ -7,19 +7,19 @@ mod parameters;
 mod shaping;
 mod words;
 
-use eo_sexp::OwnedSexp;
-use eo_sig::LiteralClass;
+use eo_lit::LiteralClass;
+use eo_sexp::{Children, Sexp};
 pub use parameters::ParameterShapes;
 pub use shaping::command_of;
 pub use words::symbol;
 
 /// A parameter: a name and a type, with at most one of each mark.
-#[derive(Clone, Copy, Debug)]
+#[derive(Debug, Drop)]
 pub struct ParameterShape<'a> {
     /// The name.
     pub name: &'a [u8],
     /// The type.
-    pub ty: &'a OwnedSexp,
+    pub ty: Sexp<'a>,
     /// Whether it is marked `:implicit`.
     pub implicit: bool,
     /// Whether it is marked `:list`.
@@ -27,24 +27,24 @@ pub struct ParameterShape<'a> {
 }
 
 /// How a constant folds its arguments (Ethos manual, attributes of constants).
-#[derive(Clone, Copy, Debug)]
+#[derive(Debug, Drop)]
 pub enum AttributeShape<'a> {
     /// Nothing is said.
     None,
     /// `:right-assoc-nil` with its terminator.
-    RightNil(&'a OwnedSexp),
+    RightNil(Sexp<'a>),
     /// `:left-assoc-nil` with its terminator.
-    LeftNil(&'a OwnedSexp),
+    LeftNil(Sexp<'a>),
     /// `:right-assoc`
     Right,
     /// `:left-assoc`
     Left,
     /// `:chainable` with what joins.
-    Chain(&'a OwnedSexp),
+    Chain(Sexp<'a>),
     /// `:pairwise` with what joins.
-    Pairs(&'a OwnedSexp),
+    Pairs(Sexp<'a>),
     /// `:binder` with what collects the variables.
-    Binder(&'a OwnedSexp),
+    Binder(Sexp<'a>),
 }
 
 /// A command by its parts.
@@ -53,14 +53,14 @@ pub enum Command<'a> {
     /// `(declare-const NAME TYPE ATTRIBUTE)`
     DeclareConst {
         name: &'a [u8],
-        ty: &'a OwnedSexp,
+        ty: Sexp<'a>,
         attribute: AttributeShape<'a>,
     },
     /// `(declare-fun NAME (INPUT ..) OUTPUT)`
     DeclareFun {
         name: &'a [u8],
-        inputs: &'a [OwnedSexp],
-        output: &'a OwnedSexp,
+        inputs: Children<'a>,
+        output: Sexp<'a>,
     },
     /// `(declare-sort NAME ARITY)`, with an arity of at most 64.
     DeclareSort {
@@ -71,28 +71,28 @@ pub enum Command<'a> {
     DeclareParameterized {
         name: &'a [u8],
         params: ParameterShapes<'a>,
-        ty: &'a OwnedSexp,
+        ty: Sexp<'a>,
         attribute: AttributeShape<'a>,
     },
     /// `(declare-consts CLASS TYPE)`
     DeclareLiterals {
         class: LiteralClass,
-        ty: &'a OwnedSexp,
+        ty: Sexp<'a>,
     },
     /// `(define NAME (PARAMETER ..) BODY)`
     Define {
         name: &'a [u8],
         params: ParameterShapes<'a>,
-        body: &'a OwnedSexp,
+        body: Sexp<'a>,
     },
     /// `(assume NAME FORMULA)`
     Assume {
         name: &'a [u8],
-        formula: &'a OwnedSexp,
+        formula: Sexp<'a>,
     },
     /// `(assert FORMULA)`, in a reference file alone.
     Assert {
-        formula: &'a OwnedSexp,
+        formula: Sexp<'a>,
     },
 }
 

@@ -1,6 +1,5 @@
 //! The command that an s-expression is.
-ghost use Rattle.std.specs.Prelude.{◌≡◌, Ok, Err, IfOk, IfErr, map, option_map, if◌then◌else◌};
-ghost use Rattle.eo_sexp.specs.Owned.{owned};
+ghost use Rattle.std.specs.Prelude.{◌≡◌, Ok, Err, IfOk, IfErr, option_map, if◌then◌else◌};
 ghost use Rattle.eo_shape.specs.Forms.{shape_by};
 ghost use Rattle.eo_shape.specs.Reading.{read_command, fault_of};
 ghost use Rattle.eo_shape.specs.Shapes.{command_of, form_of, forms, reference_forms};
@@ -11,7 +10,7 @@ use crate::commands::{
 };
 use crate::words::symbol;
 use crate::{Command, ShapeRefused};
-use eo_sexp::OwnedSexp;
+use eo_sexp::{Children, Sexp};
 
 /// The commands, by their words.
 #[derive(Clone, Copy)]
@@ -32,20 +31,20 @@ pub(crate) enum Form {
 /// It is `BadCommand` where the s-expression is no list that begins with a symbol. Else it is
 /// `UnknownCommand` where the symbol is no command's word there. Else it is `BadCommand` where what
 /// follows the word has a wrong shape.
-pub fn command_of(s: &OwnedSexp, in_reference: bool) -> Result<Command<'_>, ShapeRefused>
-    ensures shape { IfOk result (λ c. command_of in_reference (owned s.now) ≡ Ok (read_command c)) }
-    ensures refused { IfErr result (λ e. command_of in_reference (owned s.now) ≡ Err (fault_of e)) }
+pub fn command_of<'b>(s: &Sexp<'b>, in_reference: bool) -> Result<Command<'b>, ShapeRefused>
+    ensures shape { IfOk result (λ c. command_of in_reference s.now ≡ Ok (read_command c)) }
+    ensures refused { IfErr result (λ e. command_of in_reference s.now ≡ Err (fault_of e)) }
 {
     let Some((head, parts)) = s.children().split_first() else {
         return Err(ShapeRefused::BadCommand);
     };
-    let Some(word) = symbol(head) else {
+    let Some(word) = symbol(&head) else {
         return Err(ShapeRefused::BadCommand);
     };
     let Some(form) = form_named(word, in_reference) else {
         return Err(ShapeRefused::UnknownCommand);
     };
-    match shaped(form, parts) {
+    match shaped(form, &parts) {
         Some(command) => Ok(command),
         None => Err(ShapeRefused::BadCommand),
     }
@@ -101,8 +100,8 @@ fn proof_form(word: &[u8]) -> Option<Form>
 }
 
 /// The command of this form with these parts, where they have its shape.
-fn shaped(form: Form, parts: &[OwnedSexp]) -> Option<Command<'_>>
-    ensures { option_map read_command result ≡ shape_by form (map owned parts.now) }
+fn shaped<'b>(form: Form, parts: &Children<'b>) -> Option<Command<'b>>
+    ensures { option_map read_command result ≡ shape_by form parts.now }
 {
     match form {
         Form::DeclareConst => declare_const(parts),

@@ -1,21 +1,10 @@
 //! Shapes of commands, by hand.
-use crate::{AttributeShape, Command, ParameterShapes, ShapeRefused, command_of};
-use eo_sexp::{Collector, Fed, OwnedSexp};
-use std::alloc::Global;
-use std::fmt::Write;
-use std::process::Abort;
-use std::test::Fail;
+mod text;
 
-// The s-expression of a text that is one list.
-fn sexp(rt: &impl Abort, alloc: Global, text: &str) -> Result<OwnedSexp, Fail> {
-    let mut collector = Collector::new(alloc, false)?;
-    let here = collector.here();
-    assert!(rt; here.offset < 1000 && text.len() < 1000);
-    match collector.feed(text.as_bytes()) {
-        Fed::Command { .. } => Ok(collector.take()),
-        _ => panic!(rt; "no list"),
-    }
-}
+use crate::{AttributeShape, Command, ParameterShapes, ShapeRefused, command_of};
+use std::fmt::Write;
+use std::test::Fail;
+use text::Text;
 
 fn write_bytes(out: &mut String, bytes: &[u8]) -> Result<(), Fail> {
     for b in bytes {
@@ -44,8 +33,7 @@ fn write_attribute(out: &mut String, attribute: &AttributeShape<'_>) -> Result<(
 }
 
 fn write_parameters(out: &mut String, params: &ParameterShapes<'_>) -> Result<(), Fail> {
-    for i in 0..params.len() {
-        let p = params.get(i);
+    for p in params.again() {
         write_bytes(out, p.name)?;
         write_bytes(out, p.ty.text())?;
         if p.implicit {
@@ -151,9 +139,9 @@ fn shapes(rt: HostRuntime) -> Result<(), Fail> {
         ("(assume a f)", false, "a f "),
         ("(assert f)", true, "f "),
     ] {
-        let s = sexp(&rt, rt.alloc(), text)?;
+        let read = Text::new(&rt, rt.alloc(), text)?;
         let mut out = String::new(rt.alloc());
-        match command_of(&s, in_reference) {
+        match command_of(&read.sexp(), in_reference) {
             Ok(command) => write_command(&mut out, command)?,
             Err(_) => out.push_str("refused")?,
         }
@@ -207,8 +195,8 @@ fn wrong_shapes(rt: HostRuntime) -> Result<(), Fail> {
         ("(define m ((x)) x)", false, ShapeRefused::BadCommand),
         ("(define m (x) x)", false, ShapeRefused::BadCommand),
     ] {
-        let s = sexp(&rt, rt.alloc(), text)?;
-        match command_of(&s, in_reference) {
+        let read = Text::new(&rt, rt.alloc(), text)?;
+        match command_of(&read.sexp(), in_reference) {
             Ok(_) => panic!(rt; "a command at {text}"),
             Err(e) => assert_eq!(rt; e, want, "at {text}"),
         }

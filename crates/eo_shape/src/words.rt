@@ -1,21 +1,19 @@
 //! Atoms by their kind.
-ghost use Rattle.std.specs.Prelude.{◌≡◌, option_map, option_and_then, map, nat_le, if◌then◌else◌, Some, None};
+ghost use Rattle.std.specs.Prelude.{◌≡◌, option_and_then, nat_le, if◌then◌else◌, Some, None};
 ghost use Rattle.std.specs.Option.{option_copied};
 ghost use Rattle.eo_lit.specs.Literals.{numeral};
-ghost use Rattle.eo_sexp.specs.Owned.{owned};
-ghost use Rattle.eo_shape.specs.Shapes.{arity_of, class_named, is_keyword, list_of};
+ghost use Rattle.eo_shape.specs.Shapes.{arity_of, class_named, is_keyword};
 ghost use Rattle.eo_shape.specs.Words.{symbol_of, keyword_of};
 
-use eo_lit::read_numeral;
-use eo_sexp::{Kind, OwnedSexp};
-use eo_sig::LiteralClass;
+use eo_lit::{LiteralClass, read_numeral};
+use eo_sexp::{Kind, Sexp};
 
 /// The greatest arity of a sort.
 const ARITY: u128 = 64;
 
 /// The bytes of a symbol, without bars; none of any other s-expression.
-pub fn symbol(s: &OwnedSexp) -> Option<&[u8]>
-    ensures { option_copied result ≡ symbol_of (owned s.now) }
+pub fn symbol<'b>(s: &Sexp<'b>) -> Option<&'b [u8]>
+    ensures { option_copied result ≡ symbol_of s.now }
 {
     match s.kind() {
         Kind::Symbol => Some(s.text()),
@@ -24,8 +22,8 @@ pub fn symbol(s: &OwnedSexp) -> Option<&[u8]>
 }
 
 /// Whether it is this keyword.
-pub(crate) fn is_keyword(s: &OwnedSexp, word: &[u8]) -> bool
-    ensures { result ≡ is_keyword word.now (owned s.now) }
+pub(crate) fn is_keyword(s: &Sexp<'_>, word: &[u8]) -> bool
+    ensures { result ≡ is_keyword word.now s.now }
 {
     match s.kind() {
         Kind::Keyword => s.text() == word,
@@ -33,19 +31,9 @@ pub(crate) fn is_keyword(s: &OwnedSexp, word: &[u8]) -> bool
     }
 }
 
-/// The parts of a list; none of an atom.
-pub(crate) fn list(s: &OwnedSexp) -> Option<&[OwnedSexp]>
-    ensures { option_map (λ parts. map owned parts.now) result ≡ list_of (owned s.now) }
-{
-    match s {
-        OwnedSexp::Atom { .. } => None,
-        OwnedSexp::List { children, span: _ } => Some(children.as_slice()),
-    }
-}
-
 /// The number of arguments of a sort, at most 64.
-pub(crate) fn arity(s: &OwnedSexp) -> Option<u8>
-    ensures { result ≡ arity_of (owned s.now) }
+pub(crate) fn arity(s: &Sexp<'_>) -> Option<u8>
+    ensures { result ≡ arity_of s.now }
 {
     match s.kind() {
         Kind::Literal => small_numeral(s.text()),

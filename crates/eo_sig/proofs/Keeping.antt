@@ -6,8 +6,8 @@ use Rattle.std.proofs.lemmas.List.{map-append}
 use Rattle.std.proofs.lemmas.Option.{none-some}
 use Rattle.indexmap.proofs.MapLemmas.{some_index}
 use Rattle.eo_term.specs.Terms.{tree_at}
-use Rattle.eo_sig.specs.declared.LiteralClass.{LiteralClass}
-use Rattle.eo_sig.specs.declared.LiteralClass.TheVariants as class
+use Rattle.eo_lit.specs.declared.LiteralClass.{LiteralClass}
+use Rattle.eo_lit.specs.declared.LiteralClass.TheVariants as class
 use Rattle.eo_sig.specs.declared.records.Declared.{Declared}
 use Rattle.eo_sig.specs.declared.records.Declared.TheVariants as declared
 use Rattle.eo_sig.specs.declared.records.ConstDecl.{ConstDecl}

@@ -8,3 +8,4 @@ pub mod Same
 pub mod Keeping
 pub mod Solving
 pub mod Usable
+pub mod Growing

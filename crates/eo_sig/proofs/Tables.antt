@@ -7,7 +7,7 @@ use Rattle.std.specs.Option.{option_or, option_copied, IsSome}
 use Rattle.std.proofs.lemmas.List.{map-append, append-nil}
 use Rattle.std.proofs.lemmas.List.Elements.{filter_map-append, All-head, All-tail}
 use Rattle.std.proofs.lemmas.Option.{none-some, same_Some, slice_get-map}
-use Rattle.eo_sig.specs.declared.LiteralClass.{LiteralClass}
+use Rattle.eo_lit.specs.declared.LiteralClass.{LiteralClass}
 use Rattle.eo_sig.specs.declared.records.Declared.{Declared}
 use Rattle.eo_sig.specs.Held.{tagged, IsTable, literal_id, first_literal}
 

@@ -7,7 +7,7 @@ use Rattle.std.proofs.lemmas.Bool.{and_parts}
 use Rattle.std.proofs.lemmas.List.Elements.{filter_map-append}
 use Rattle.std.proofs.lemmas.Option.{none-some, same_Some}
 use Rattle.eo_term.specs.Tree.{Tree, is_value, type_tree, bool_tree}
-use Rattle.eo_sig.specs.declared.LiteralClass.{LiteralClass}
+use Rattle.eo_lit.specs.declared.LiteralClass.{LiteralClass}
 use Rattle.eo_sig.specs.Signature as sig
 use Rattle.eo_sig.specs.Signature.{Signature, Constant, Rule, Entry, Attribute}
 use Rattle.eo_sig.specs.Usable.{IsUsable}

@@ -1,7 +1,7 @@
 -- How a signature holds its declarations: tables of names beside the list, over any type of keys.
 use Rattle.std.specs.Prelude.{◌≡◌, ℕ, List, map, Option, Some, None, option_map, slice_get, filter_map, if◌then◌else◌}
-use Rattle.eo_sig.specs.declared.LiteralClass.{LiteralClass}
-use Rattle.eo_sig.specs.declared.LiteralClass.TheVariants as class
+use Rattle.eo_lit.specs.declared.LiteralClass.{LiteralClass}
+use Rattle.eo_lit.specs.declared.LiteralClass.TheVariants as class
 use Rattle.eo_sig.specs.declared.records.ConstDecl.{ConstDecl}
 use Rattle.eo_sig.specs.declared.records.MacroDecl.{MacroDecl}
 use Rattle.eo_sig.specs.declared.records.ProgramDecl.{ProgramDecl}

@@ -3,5 +3,5 @@ pub mod Code
 pub mod Reading
 pub mod Held
 pub mod Refused
-pub mod ParamSet
 pub mod Usable
+pub mod Growth

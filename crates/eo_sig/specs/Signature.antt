@@ -6,8 +6,9 @@ use Rattle.eo_base.specs.declared.FaultName.TheVariants.{BadPattern, UnboundPara
 use Rattle.eo_term.specs.declared.OpName.{OpName}
 use Rattle.eo_term.specs.declared.OpCode.{OpCode}
 use Rattle.eo_term.specs.Tree.{Tree, Con, Num, Bits, Str, Par, Var, App, Arr, Qar, Op, Trees, NoTree, More, type_tree, bool_tree, is_value, is_plain, occurs_in, occurs_openly, uses_only}
-use Rattle.eo_sig.specs.declared.LiteralClass.{LiteralClass}
-use Rattle.eo_sig.specs.declared.LiteralClass.TheVariants.{Numeral, Binary, String}
+pub use Rattle.eo_term.specs.Tree.{may_type_use, may_be_type, all_may_be_type}
+use Rattle.eo_lit.specs.declared.LiteralClass.{LiteralClass}
+use Rattle.eo_lit.specs.declared.LiteralClass.TheVariants.{Numeral, Binary, String}
 
 -- A parameter of a declaration: its number is its place in the list.
 pub record Parameter : Type 0 where
@@ -198,42 +199,6 @@ abbrev pub terminator : Signature → ℕ → Option Tree
 terminator S f = option_and_then (λ c. terminator_of c.attribute) (constant_at S f)
 
 -- What a declaration may hold.
-
--- the operators that a declared type may hold: those on literals, and three more
-abbrev pub may_type_use : OpCode → Bool
-may_type_use (OpCode.Builtin OpName.IsOk) = false
-may_type_use (OpCode.Builtin OpName.Typeof) = false
-may_type_use (OpCode.Builtin OpName.Var) = false
-may_type_use (OpCode.Builtin OpName.Nameof) = false
-may_type_use (OpCode.Builtin OpName.Nil) = false
-may_type_use (OpCode.Builtin OpName.Cons) = false
-may_type_use (OpCode.Builtin OpName.ListLen) = false
-may_type_use (OpCode.Builtin OpName.ListConcat) = false
-may_type_use (OpCode.Builtin OpName.ListNth) = false
-may_type_use (OpCode.Builtin OpName.ListFind) = false
-may_type_use (OpCode.Builtin OpName.ListRev) = false
-may_type_use (OpCode.Builtin OpName.ListErase) = false
-may_type_use (OpCode.Builtin OpName.ListSetof) = false
-may_type_use (OpCode.Builtin OpName.ListMinclude) = false
-may_type_use (OpCode.Builtin o) = true
-may_type_use (OpCode.Prog p) = false
-
-abbrev mutual
-  pub may_be_type : Tree → Bool
-  may_be_type (Con k) = true
-  may_be_type (Num z) = true
-  may_be_type (Bits w v) = true
-  may_be_type (Str s) = true
-  may_be_type (Par i) = true
-  may_be_type (Var s t) = may_be_type t
-  may_be_type (App f x) = may_be_type f && may_be_type x
-  may_be_type (Arr a b) = may_be_type a && may_be_type b
-  may_be_type (Qar i t b) = may_be_type t && may_be_type b
-  may_be_type (Op c ts) = may_type_use c && all_may_be_type ts
-
-  pub all_may_be_type : Trees → Bool
-  all_may_be_type NoTree = true
-  all_may_be_type (More t ts) = may_be_type t && all_may_be_type ts
 
 -- whether the type of each parameter of the list, whose first has number i, uses earlier parameters only
 abbrev pub are_ordered : ℕ → List Parameter → Bool

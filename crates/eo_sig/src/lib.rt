@@ -6,7 +6,6 @@
 #![tactic(auto)]
 
 mod lists;
-mod param_set;
 mod patterns;
 mod records;
 mod refused;
@@ -14,6 +13,7 @@ mod reserved;
 mod signature;
 mod types;
 
+pub use eo_lit::LiteralClass;
 pub use lists::{Cases, IdPairs, Params};
 pub use records::{
     Attribute, Case, ConstDecl, Declaration, Declared, Entry, MacroDecl, Param, PremiseShape,
@@ -22,17 +22,6 @@ pub use records::{
 pub use refused::SigRefused;
 pub use reserved::is_reserved;
 pub use signature::{SigMark, Signature};
-
-/// A class of literals that gets one declared type.
-#[derive(Clone, Copy, Debug, PartialEq, Eq)]
-pub enum LiteralClass {
-    /// Integers.
-    Numeral,
-    /// Bit strings.
-    Binary,
-    /// Strings of characters.
-    String,
-}
 
 #[cfg(test)]
 mod tests;

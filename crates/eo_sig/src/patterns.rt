@@ -5,30 +5,10 @@ ghost use Rattle.eo_term.specs.Tree.{Tree, is_plain, uses_only, occurs_in};
 ghost use Rattle.eo_term.specs.Terms.{tree_at};
 ghost use Rattle.eo_sig.specs.Signature as sig;
 ghost use Rattle.eo_sig.specs.Reading.{read_case, read_rule, read_premises, read_pair, read_parameter, CaseBelow, RuleBelow, SomeBelow, PremisesBelow};
-ghost use Rattle.eo_sig.specs.ParamSet.{has, AddsAll};
+ghost use Rattle.eo_term.specs.ParamSet.{has, AddsAll};
 
-use crate::param_set::ParamSet;
 use crate::{Case, Param, PremiseShape, RuleDecl};
-use eo_term::{Id, Node, Table};
-
-/// Whether the term holds no operator.
-pub(crate) fn is_plain(table: &Table, id: Id) -> bool
-    requires { id < length table.now.trees }
-    ensures { result ≡ is_plain (tree_at table.now.trees id) }
-{
-    match table.node(id) {
-        Node::Con(_) => true,
-        Node::Num(_) => true,
-        Node::Bits { .. } => true,
-        Node::Str(_) => true,
-        Node::Par(_) => true,
-        Node::Var { ty, .. } => is_plain(table, ty),
-        Node::App { fun, arg } => is_plain(table, fun) && is_plain(table, arg),
-        Node::Arr { from, to } => is_plain(table, from) && is_plain(table, to),
-        Node::Qar { ty, to, .. } => is_plain(table, ty) && is_plain(table, to),
-        Node::Op { .. } => false,
-    }
-}
+use eo_term::{Id, ParamSet, Table};
 
 /// Whether no term holds an operator.
 pub(crate) fn are_plain(table: &Table, ids: &[Id]) -> bool
@@ -36,36 +16,20 @@ pub(crate) fn are_plain(table: &Table, ids: &[Id]) -> bool
     ensures { result ≡ list_all is_plain (map (tree_at table.now.trees) ids.now) }
 {
     for id in ids {
-        if !is_plain(table, *id) {
+        if !table.is_plain(*id) {
             return false;
         }
     }
     true
 }
 
-/// Whether each parameter that occurs in the term is in the set.
-pub(crate) fn uses_only(table: &Table, known: &ParamSet, id: Id) -> bool
-    requires { id < length table.now.trees }
-    ensures { result ≡ uses_only (has known.now) (tree_at table.now.trees id) }
+/// Adds the parameters that occur in the terms.
+fn add_occurring(table: &Table, ids: &[Id], known: &mut ParamSet)
+    requires { All (λ i. i < length table.now.trees) ids.now }
+    ensures { AddsAll (λ i. occurs_in i (map (tree_at table.now.trees) ids.now)) known.old known.new }
 {
-    match table.node(id) {
-        Node::Con(_) => true,
-        Node::Num(_) => true,
-        Node::Bits { .. } => true,
-        Node::Str(_) => true,
-        Node::Par(i) => known.has(i as usize),
-        Node::Var { ty, .. } => uses_only(table, known, ty),
-        Node::App { fun, arg } => uses_only(table, known, fun) && uses_only(table, known, arg),
-        Node::Arr { from, to } => uses_only(table, known, from) && uses_only(table, known, to),
-        Node::Qar { ty, to, .. } => uses_only(table, known, ty) && uses_only(table, known, to),
-        Node::Op { count, .. } => {
-            for i in 0..count as usize {
-                if !uses_only(table, known, table.arg(id, i)) {
-                    return false;
-                }
-            }
-            true
-        }
+    for id in ids {
+        known.add_all(table.parameters(*id));
     }
 }
 
@@ -101,8 +65,8 @@ fn case_is_bound(table: &Table, case: &Case) -> bool
     ensures { result ≡ sig.case_is_bound (read_case table.now.trees case.now) }
 {
     let mut bound = ParamSet::new();
-    bound.add_occurring_in(table, case.patterns.as_slice());
-    uses_only(table, &bound, case.body)
+    add_occurring(table, case.patterns.as_slice(), &mut bound);
+    table.uses_only(&bound, case.body)
 }
 
 /// Whether no pattern of the rule holds an operator.
@@ -121,7 +85,7 @@ fn assumption_is_plain(table: &Table, pattern: Option<Id>) -> bool
     ensures { result ≡ list_all is_plain (option_to_list (option_map (tree_at table.now.trees) pattern)) }
 {
     match pattern {
-        Some(id) => is_plain(table, id),
+        Some(id) => table.is_plain(id),
         None => true,
     }
 }
@@ -133,7 +97,7 @@ fn premises_are_plain(table: &Table, premises: &PremiseShape) -> bool
 {
     match premises {
         PremiseShape::Each(ids) => are_plain(table, ids.as_slice()),
-        PremiseShape::Joined { pattern, .. } => is_plain(table, *pattern),
+        PremiseShape::Joined { pattern, .. } => table.is_plain(*pattern),
     }
 }
 
@@ -144,7 +108,7 @@ pub(crate) fn rule_is_bound(table: &Table, d: &RuleDecl) -> bool
 {
     let solved = solved(table, d);
     pairs_use_only(table, &solved, d.requirements.as_slice())
-        && uses_only(table, &solved, d.conclusion)
+        && table.uses_only(&solved, d.conclusion)
 }
 
 // The parameters of the rule that get a value.
@@ -165,7 +129,7 @@ fn in_patterns(table: &Table, d: &RuleDecl) -> ParamSet
     let mut known = ParamSet::new();
     add_assumption(table, d.assumption, &mut known);
     add_premises(table, &d.premises, &mut known);
-    known.add_occurring_in(table, d.args.as_slice());
+    add_occurring(table, d.args.as_slice(), &mut known);
     known
 }
 
@@ -175,7 +139,7 @@ fn add_assumption(table: &Table, pattern: Option<Id>, known: &mut ParamSet)
     ensures { AddsAll (λ j. occurs_in j (option_to_list (option_map (tree_at table.now.trees) pattern))) known.old known.new }
 {
     match pattern {
-        Some(id) => known.add_occurring(table, id),
+        Some(id) => known.add_all(table.parameters(id)),
         None => {}
     }
 }
@@ -186,8 +150,8 @@ fn add_premises(table: &Table, premises: &PremiseShape, known: &mut ParamSet)
     ensures { AddsAll (λ j. occurs_in j (sig.premise_patterns (read_premises table.now.trees premises.now))) known.old known.new }
 {
     match premises {
-        PremiseShape::Each(ids) => known.add_occurring_in(table, ids.as_slice()),
-        PremiseShape::Joined { pattern, .. } => known.add_occurring(table, *pattern),
+        PremiseShape::Each(ids) => add_occurring(table, ids.as_slice(), known),
+        PremiseShape::Joined { pattern, .. } => known.add_all(table.parameters(*pattern)),
     }
 }
 
@@ -202,7 +166,7 @@ fn solve(table: &Table, params: &[Param], known: &mut ParamSet)
         i -= 1;
         let ty = params[i].ty;
         if known.has(i) {
-            known.add_open(table, ty);
+            known.add_all(table.open_parameters(ty));
         }
     }
 }
@@ -213,7 +177,7 @@ fn pairs_use_only(table: &Table, known: &ParamSet, pairs: &[(Id, Id)]) -> bool
     ensures { result ≡ list_all (λ q. uses_only (has known.now) q.0 && uses_only (has known.now) q.1) (map (read_pair table.now.trees) pairs.now) }
 {
     for (a, b) in pairs {
-        if !(uses_only(table, known, *a) && uses_only(table, known, *b)) {
+        if !(table.uses_only(known, *a) && table.uses_only(known, *b)) {
             return false;
         }
     }

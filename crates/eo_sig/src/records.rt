@@ -4,7 +4,7 @@ ghost use Rattle.std.specs.Option.{option_copied};
 ghost use Rattle.eo_sig.specs.Signature.{constant_may_hold};
 ghost use Rattle.eo_sig.specs.Reading.{const_of, program_decl_of, rule_decl_of, read_constant, ConstBelow};
 
-use crate::types::{may_be_type, may_fold, may_type};
+use crate::types::{may_fold, may_type};
 use crate::{Cases, IdPairs, LiteralClass, Params};
 use eo_base::Name;
 use eo_term::{Id, Ids, Table};
@@ -65,7 +65,7 @@ impl ConstDecl {
         requires { ConstBelow (length table.now.trees) self.now }
         ensures { result ≡ constant_may_hold (read_constant table.now.trees self.now) }
     {
-        may_be_type(table, self.ty)
+        table.may_be_type(self.ty)
             && may_type(table, self.params.as_slice())
             && may_fold(table, &self.attribute)
     }

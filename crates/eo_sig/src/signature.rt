@@ -15,7 +15,11 @@ use eo_base::Name;
 use eo_term::{BOOL, Id, TYPE};
 use indexmap::IndexMap;
 use std::alloc::{AllocError, Global};
+use std::hash::{BuildHasherDefault, DefaultHasher};
 use std::marker::Model;
+
+// What is found by name. A file chooses the names, so they are hashed by SipHash.
+type Named<V> = IndexMap<Vec<u8>, V, BuildHasherDefault<DefaultHasher>>;
 
 /// A place in the history of a signature's macros: how many there were.
 #[derive(Clone, Copy, Debug, PartialEq, Eq)]
@@ -36,16 +40,16 @@ impl Model for SigMark {
 /// What is declared, in order of declaration, and the macros. Constants, programs and rules are
 /// each numbered from 0 in that order, and so are macros.
 ///
-/// A name is looked up by its hash, without memory.
+/// A name is looked up by its hash, without memory. The hash is SipHash.
 #[derive(Drop)]
 pub struct Signature {
     alloc: Global,
     entries: Vec<Declared>,
     // By name the places in `entries`, in order: the place in the map is the number.
-    constants: IndexMap<Vec<u8>, usize>,
-    programs: IndexMap<Vec<u8>, usize>,
-    rules: IndexMap<Vec<u8>, usize>,
-    macros: IndexMap<Vec<u8>, MacroDecl>,
+    constants: Named<usize>,
+    programs: Named<usize>,
+    rules: Named<usize>,
+    macros: Named<MacroDecl>,
     numeral: Option<Id>,
     binary: Option<Id>,
     string: Option<Id>,
@@ -163,10 +167,10 @@ impl Signature {
         Signature {
             alloc,
             entries: Vec::new(alloc),
-            constants: IndexMap::new(alloc),
-            programs: IndexMap::new(alloc),
-            rules: IndexMap::new(alloc),
-            macros: IndexMap::new(alloc),
+            constants: IndexMap::with_hasher(alloc, BuildHasherDefault::new()),
+            programs: IndexMap::with_hasher(alloc, BuildHasherDefault::new()),
+            rules: IndexMap::with_hasher(alloc, BuildHasherDefault::new()),
+            macros: IndexMap::with_hasher(alloc, BuildHasherDefault::new()),
             numeral: None,
             binary: None,
             string: None,

@@ -7,83 +7,10 @@ ghost use Rattle.eo_sig.specs.Signature as sig;
 ghost use Rattle.eo_sig.specs.Reading.{read_parameter, read_attribute, AttributeBelow};
 
 use crate::{Attribute, Param};
-use eo_term::{Id, Node, OpCode, OpName, Table};
+use eo_term::{Id, Node, Table};
 
-/// Whether a declared type may hold the operator.
-pub(crate) fn may_type_use(code: OpCode) -> bool
-    ensures { result ≡ sig.may_type_use code }
-{
-    match code {
-        OpCode::Builtin(
-            OpName::IsOk
-            | OpName::Typeof
-            | OpName::Var
-            | OpName::Nameof
-            | OpName::Nil
-            | OpName::Cons
-            | OpName::ListLen
-            | OpName::ListConcat
-            | OpName::ListNth
-            | OpName::ListFind
-            | OpName::ListRev
-            | OpName::ListErase
-            | OpName::ListSetof
-            | OpName::ListMinclude,
-        ) => false,
-        OpCode::Builtin(_) => true,
-        OpCode::Prog(_) => false,
-    }
-}
-
-/// Whether the term may be a declared type.
-pub(crate) fn may_be_type(table: &Table, id: Id) -> bool
-    requires { id < length table.now.trees }
-    ensures { result ≡ sig.may_be_type (tree_at table.now.trees id) }
-{
-    match table.node(id) {
-        Node::Con(_) => true,
-        Node::Num(_) => true,
-        Node::Bits { .. } => true,
-        Node::Str(_) => true,
-        Node::Par(_) => true,
-        Node::Var { ty, .. } => may_be_type(table, ty),
-        Node::App { fun, arg } => may_be_type(table, fun) && may_be_type(table, arg),
-        Node::Arr { from, to } => may_be_type(table, from) && may_be_type(table, to),
-        Node::Qar { ty, to, .. } => may_be_type(table, ty) && may_be_type(table, to),
-        Node::Op { code, count } => {
-            if !may_type_use(code) {
-                return false;
-            }
-            for i in 0..count as usize {
-                if !may_be_type(table, table.arg(id, i)) {
-                    return false;
-                }
-            }
-            true
-        }
-    }
-}
-
-/// Whether the parameter occurs in the term outside every operator.
-pub(crate) fn is_open_in(table: &Table, par: usize, id: Id) -> bool
-    requires { id < length table.now.trees }
-    ensures { result ≡ occurs_openly par (tree_at table.now.trees id) }
-{
-    match table.node(id) {
-        Node::Con(_) => false,
-        Node::Num(_) => false,
-        Node::Bits { .. } => false,
-        Node::Str(_) => false,
-        Node::Par(i) => par == i as usize,
-        Node::Var { ty, .. } => is_open_in(table, par, ty),
-        Node::App { fun, arg } => is_open_in(table, par, fun) || is_open_in(table, par, arg),
-        Node::Arr { from, to } => is_open_in(table, par, from) || is_open_in(table, par, to),
-        Node::Qar { ty, to, .. } => is_open_in(table, par, ty) || is_open_in(table, par, to),
-        Node::Op { .. } => false,
-    }
-}
-
-/// Whether the parameter occurs so in the type of an argument of a constant of this type.
+/// Whether the parameter occurs outside every operator in the type of an argument of a constant of
+/// this type.
 pub(crate) fn is_open_in_arguments(table: &Table, par: usize, id: Id) -> bool
     requires { id < length table.now.trees }
     ensures { result ≡ list_any (occurs_openly par) (sig.argument_types (tree_at table.now.trees id)) }
@@ -97,10 +24,10 @@ pub(crate) fn is_open_in_arguments(table: &Table, par: usize, id: Id) -> bool
         Node::Var { .. } => false,
         Node::App { .. } => false,
         Node::Arr { from, to } => {
-            is_open_in(table, par, from) || is_open_in_arguments(table, par, to)
+            table.open_parameters(from).has(par) || is_open_in_arguments(table, par, to)
         }
         Node::Qar { ty, to, .. } => {
-            is_open_in(table, par, ty) || is_open_in_arguments(table, par, to)
+            table.open_parameters(ty).has(par) || is_open_in_arguments(table, par, to)
         }
         Node::Op { .. } => false,
     }
@@ -112,7 +39,7 @@ pub(crate) fn may_type(table: &Table, params: &[Param]) -> bool
     ensures { result ≡ sig.may_type (map (read_parameter table.now.trees) params.now) }
 {
     for p in params {
-        if !may_be_type(table, p.ty) {
+        if !table.may_be_type(p.ty) {
             return false;
         }
     }

@@ -1,47 +1,69 @@
 -- The entries that a table begins with.
-use Rattle.std.proofs.Common.{◌≡◌, ℕ, zero, suc, ◌<◌, true, false, ◌&&◌, List, [], ◌∷◌, ◌++◌, length, get_or, slice_get, Some, All, if◌then◌else◌, eqb, refl, sym, ap, ◌∙◌, subst, arith}
-use Rattle.std.proofs.lemmas.Bool.{and_left}
+use Rattle.std.proofs.Common.{◌≡◌, ℕ, zero, suc, ◌+◌, ◌<◌, inl, inr, true, false, List, [], ◌∷◌, ◌++◌, length, get_or, slice_get, Some, All, refl, sym, ap, ◌∙◌, subst, arith}
 use Rattle.std.proofs.lemmas.List.Elements.{All-nil}
 use Rattle.std.proofs.lemmas.Option.{none-some, same_Some}
-use Rattle.std.specs.Str.{bytes_eq}
-use Rattle.indexmap.specs.IndexMap.{insert_entry}
 use Rattle.eo_term.specs.declared.node.Node.TheVariants as node
-use Rattle.eo_term.specs.declared.node.Key.{Key}
+use Rattle.eo_term.specs.Keys.{Root, IsNew}
 use Rattle.eo_term.specs.declared.node.Info.{Info}
+use Rattle.eo_term.specs.ParamSet.{has}
 use Rattle.eo_term.specs.Tree.{Tree, Con}
 use Rattle.eo_base.specs.Characters.{AreCharacters}
 use Rattle.eo_term.specs.Terms.{tree_at, tree_of, trees_at, PartsBelow, TextsBelow, HasArguments, IsProper, AreApart, first_trees}
-use Rattle.eo_term.specs.Held.{tree_of_key, trees_after, trees_of, Tells, IsEntry, Holds, IsSound}
-use Rattle.eo_term.specs.contracts.node.NodePartialEq.TheImpl as node_eq
-use Rattle.eo_term.specs.contracts.node.KeyPartialEq.TheImpl as key_eq
+use Rattle.eo_term.specs.Held.{tree_of_root, trees_after, trees_of, Tells, IsEntry, Holds, IsSound}
+use Rattle.eo_term.proofs.Grown.{slice_get_push}
 
--- the key of a constant
-pub record IsConstant (n : ℕ) (k : Key) : Type 0 where
+-- the root of a constant
+pub record IsConstant (n : ℕ) (k : Root) : Type 0 where
   pub node : k.node ≡ node.Con n
-  pub args : k.args.items ≡ []
+  pub args : k.args ≡ []
 
-constants_apart : (m n : ℕ) (k l : Key) → IsConstant m k → IsConstant n l → eqb m n ≡ false → key_eq.ghosts.eq k l ≡ false
-constants_apart m n k l p q e =
-    (λ i. node_eq.ghosts.eq (p.node i) (q.node i) && bytes_eq k.args.items l.args.items) ∙ and_left _ _ e
+-- the entries are constants below n
+abbrev pub AreConstants : ℕ → List (Root × Info) → Type 0
+AreConstants n es = (i : ℕ) (e : Root × Info) → slice_get es i ≡ Some e → (m : ℕ) × (m < n) × (e.0.node ≡ node.Con m)
 
-abbrev leaf : Info
-leaf = record { height = 1; value = true; closed = true }
+pub no_constants : (es : List (Root × Info)) → es ≡ [] → AreConstants 0 es
+no_constants es e i f p = absurd (none-some f (sym (ap (λ fs. slice_get fs i) e) ∙ p))
 
-tree_of_constant : (ts : List Tree) (xs : List (List ℕ)) (n : ℕ) (k : Key) → IsConstant n k → tree_of_key ts xs k ≡ Con n
-tree_of_constant ts xs n k p = λ i. tree_of ts xs (p.node i) (trees_at ts k.args.items)
+pub one_constant : (n : ℕ) (es fs : List (Root × Info)) (is : List ℕ) (s : Info) → AreConstants n es → fs ≡ es ++ (record { node = node.Con n; args = is }, s) ∷ [] → AreConstants (n + 1) fs
+one_constant n es fs is s h e i f p =
+    elim (slice_get_push es (record { node = node.Con n; args = is }, s) i f (sym (ap (λ gs. slice_get gs i) e) ∙ p)) [
+      | inl q ↦ let g = h i f q.1 in (g.0, omega (arith, g.1), g.2)
+      | inr q ↦ (n, omega arith, ap (λ (g : Root × Info). g.0.node) q.1)
+    ]
 
-entry_of_constant : (xs : List (List ℕ)) (i n : ℕ) (k : Key) → IsConstant n k → tree_at first_trees i ≡ Con n → IsEntry first_trees xs i k leaf
-entry_of_constant xs i n k p e = record {
+pub constant_new : (n : ℕ) (es : List (Root × Info)) (is : List ℕ) → AreConstants n es → IsNew es (node.Con n) is
+constant_new n es is h i e p q =
+    let g = h i e p in
+    let both : node.Con g.0 ≡ node.Con n = sym g.2 ∙ ap (λ (r : Root). r.node) q in
+    let same : g.0 ≡ n = cc in
+    omega (arith, g.1)
+
+-- what is known of a leaf without parameters
+pub record IsLeaf (s : Info) : Type 0 where
+  pub height : s.height ≡ 1
+  pub value : s.value ≡ true
+  pub closed : s.closed ≡ true
+  pub plain : s.plain ≡ true
+  pub typable : s.typable ≡ true
+  pub parameters : (i : ℕ) → has s.parameters i ≡ false
+  pub open_parameters : (i : ℕ) → has s.open_parameters i ≡ false
+
+tree_of_constant : (ts : List Tree) (xs : List (List ℕ)) (n : ℕ) (k : Root) → IsConstant n k → tree_of_root ts xs k ≡ Con n
+tree_of_constant ts xs n k p = λ i. tree_of ts xs (p.node i) (trees_at ts k.args)
+
+entry_of_constant : (xs : List (List ℕ)) (i n : ℕ) (k : Root) (leaf : Info) → IsLeaf leaf → IsConstant n k → tree_at first_trees i ≡ Con n → IsEntry first_trees xs i k leaf
+entry_of_constant xs i n k leaf l p e = record {
   over = record {
     parts = subst (PartsBelow i) (sym p.node) tt;
     texts = subst (TextsBelow (length xs)) (sym p.node) tt;
     args = subst (All (λ j. j < i)) (sym p.args) (All-nil (λ j. j < i));
-    count = subst (λ d. HasArguments d k.args.items) (sym p.node) p.args;
+    count = subst (λ d. HasArguments d k.args) (sym p.node) p.args;
     proper = subst IsProper (sym p.node) tt;
   };
   tree = e ∙ sym (tree_of_constant first_trees xs n k p);
-  tells = subst (λ t. Tells t leaf) (sym e) (record { height = refl; value = refl; closed = refl });
-  low = omega arith;
+  tells = subst (λ t. Tells t leaf) (sym e)
+      (record { height = l.height; value = l.value; closed = l.closed; plain = l.plain; typable = l.typable; parameters = l.parameters; open_parameters = l.open_parameters });
+  low = omega (arith, l.height);
 }
 
 first_at : (i : ℕ) (d : Tree) → i < 4 → get_or first_trees i d ≡ Con i
@@ -57,32 +79,29 @@ first_apart i j d h l e =
     let one : i ≡ j = cc in
     omega arith
 
-module _ (k l m n : Key) (xs : List (List ℕ)) (p : IsConstant 0 k) (q : IsConstant 1 l) (r : IsConstant 2 m) (s : IsConstant 3 n) where
-  abbrev four : List (Key × Info)
-  four = (k, leaf) ∷ (l, leaf) ∷ (m, leaf) ∷ (n, leaf) ∷ []
+module _ (k_info l_info m_info n_info : Info) (k_leaf : IsLeaf k_info) (l_leaf : IsLeaf l_info) (m_leaf : IsLeaf m_info) (n_leaf : IsLeaf n_info) (k l m n : Root) (xs : List (List ℕ)) (p : IsConstant 0 k) (q : IsConstant 1 l) (r : IsConstant 2 m) (s : IsConstant 3 n) where
+  abbrev four : List (Root × Info)
+  four = (k, k_info) ∷ (l, l_info) ∷ (m, m_info) ∷ (n, n_info) ∷ []
 
-  pub first_entries : (a b c d : List (Key × Info)) → a ≡ (k, leaf) ∷ [] → b ≡ insert_entry key_eq.ghosts.eq a l leaf → c ≡ insert_entry key_eq.ghosts.eq b m leaf → d ≡ insert_entry key_eq.ghosts.eq c n leaf → d ≡ four
+  pub first_entries : (a b c d : List (Root × Info)) → a ≡ (k, k_info) ∷ [] → b ≡ a ++ (l, l_info) ∷ [] → c ≡ b ++ (m, m_info) ∷ [] → d ≡ c ++ (n, n_info) ∷ [] → d ≡ four
   first_entries a b c d e f g h =
-      let b' : b ≡ (k, leaf) ∷ (l, leaf) ∷ [] = f ∙ ap (λ z. insert_entry key_eq.ghosts.eq z l leaf) e ∙ ap (λ t. if t then (k, leaf) ∷ [] else (k, leaf) ∷ (l, leaf) ∷ []) (constants_apart 1 0 l k q p refl) in
-      let c' : c ≡ (k, leaf) ∷ (l, leaf) ∷ (m, leaf) ∷ [] =
-      g ∙ ap (λ z. insert_entry key_eq.ghosts.eq z m leaf) b'
-      ∙ (λ i. if constants_apart 2 0 m k r p refl i then (k, leaf) ∷ (l, leaf) ∷ [] else (k, leaf) ∷ (if constants_apart 2 1 m l r q refl i then (l, leaf) ∷ [] else (l, leaf) ∷ (m, leaf) ∷ [])) in
-      h ∙ ap (λ z. insert_entry key_eq.ghosts.eq z n leaf) c'
-      ∙ (λ i. if constants_apart 3 0 n k s p refl i then (k, leaf) ∷ (l, leaf) ∷ (m, leaf) ∷ [] else (k, leaf) ∷ (if constants_apart 3 1 n l s q refl i then (l, leaf) ∷ (m, leaf) ∷ [] else (l, leaf) ∷ (if constants_apart 3 2 n m s r refl i then (m, leaf) ∷ [] else (m, leaf) ∷ (n, leaf) ∷ [])))
+      let b' : b ≡ (k, k_info) ∷ (l, l_info) ∷ [] = f ∙ ap (λ z. z ++ (l, l_info) ∷ []) e in
+      let c' : c ≡ (k, k_info) ∷ (l, l_info) ∷ (m, m_info) ∷ [] = g ∙ ap (λ z. z ++ (m, m_info) ∷ []) b' in
+      h ∙ ap (λ z. z ++ (n, n_info) ∷ []) c'
 
   pub first_trees_of : trees_of xs four ≡ first_trees
   unfolding trees_after
   first_trees_of =
-      let a : List Tree = tree_of_key [] xs k ∷ [] in
-      let b : List Tree = a ++ tree_of_key a xs l ∷ [] in
-      let c : List Tree = b ++ tree_of_key b xs m ∷ [] in
+      let a : List Tree = tree_of_root [] xs k ∷ [] in
+      let b : List Tree = a ++ tree_of_root a xs l ∷ [] in
+      let c : List Tree = b ++ tree_of_root b xs m ∷ [] in
       λ i. tree_of_constant [] xs 0 k p i ∷ tree_of_constant a xs 1 l q i ∷ tree_of_constant b xs 2 m r i ∷ tree_of_constant c xs 3 n s i ∷ []
 
-  each : (i : ℕ) (e : Key × Info) → slice_get four i ≡ Some e → IsEntry first_trees xs i e.0 e.1
-  each zero e h = subst (λ f. IsEntry first_trees xs 0 f.0 f.1) (same_Some (k, leaf) e h) (entry_of_constant xs 0 0 k p refl)
-  each (suc zero) e h = subst (λ f. IsEntry first_trees xs 1 f.0 f.1) (same_Some (l, leaf) e h) (entry_of_constant xs 1 1 l q refl)
-  each (suc (suc zero)) e h = subst (λ f. IsEntry first_trees xs 2 f.0 f.1) (same_Some (m, leaf) e h) (entry_of_constant xs 2 2 m r refl)
-  each (suc (suc (suc zero))) e h = subst (λ f. IsEntry first_trees xs 3 f.0 f.1) (same_Some (n, leaf) e h) (entry_of_constant xs 3 3 n s refl)
+  each : (i : ℕ) (e : Root × Info) → slice_get four i ≡ Some e → IsEntry first_trees xs i e.0 e.1
+  each zero e h = subst (λ f. IsEntry first_trees xs 0 f.0 f.1) (same_Some (k, k_info) e h) (entry_of_constant xs 0 0 k k_info k_leaf p refl)
+  each (suc zero) e h = subst (λ f. IsEntry first_trees xs 1 f.0 f.1) (same_Some (l, l_info) e h) (entry_of_constant xs 1 1 l l_info l_leaf q refl)
+  each (suc (suc zero)) e h = subst (λ f. IsEntry first_trees xs 2 f.0 f.1) (same_Some (m, m_info) e h) (entry_of_constant xs 2 2 m m_info m_leaf r refl)
+  each (suc (suc (suc zero))) e h = subst (λ f. IsEntry first_trees xs 3 f.0 f.1) (same_Some (n, n_info) e h) (entry_of_constant xs 3 3 n n_info n_leaf s refl)
   each (suc (suc (suc (suc i)))) e h = absurd (none-some e h)
 
   pub first_sound : AreApart xs → All AreCharacters xs → IsSound four xs

@@ -5,12 +5,12 @@ use Rattle.std.proofs.lemmas.List.{get_or-take, length-take-le, take-append-drop
 use Rattle.std.proofs.lemmas.List.Elements.{All-take}
 use Rattle.eo_term.specs.declared.node.Node.{Node}
 use Rattle.eo_term.specs.declared.node.Node.TheVariants as node
-use Rattle.eo_term.specs.declared.node.Key.{Key}
+use Rattle.eo_term.specs.Keys.{Root}
 use Rattle.eo_term.specs.declared.node.Info.{Info}
 use Rattle.eo_term.specs.Tree.{Tree, Trees, Con}
 use Rattle.eo_base.specs.Characters.{AreCharacters}
 use Rattle.eo_term.specs.Terms.{tree_at, text_at, tree_of, trees_at, TextsBelow, AreApart, HasTextsOf, IsMark, first_trees}
-use Rattle.eo_term.specs.Held.{tree_of_key, trees_after, trees_of, IsOver, IsEntry, Holds, IsSound}
+use Rattle.eo_term.specs.Held.{tree_of_root, trees_after, trees_of, IsOver, IsEntry, Holds, IsSound}
 use Rattle.eo_term.proofs.Grown.{take_take, slice_get_take, trees_after-append, trees_after-texts, length-trees_of}
 use Rattle.eo_term.proofs.Apart.{one_place}
 use Rattle.eo_term.proofs.Sound.{entry_kept, shown, slice_get_some}
@@ -36,7 +36,7 @@ four (a ∷ b ∷ c ∷ []) e = absurd cc
 four (a ∷ b ∷ c ∷ d ∷ us) e = omega arith
 
 -- a table's own mark
-pub IsMark-now : (es : List (Key × Info)) (xs : List (List ℕ)) → IsSound es xs → IsMark (shown es xs) (length (trees_of xs es), length xs)
+pub IsMark-now : (es : List (Root × Info)) (xs : List (List ℕ)) → IsSound es xs → IsMark (shown es xs) (length (trees_of xs es), length xs)
 IsMark-now es xs h = record {
   first = four (trees_of xs es) h.first;
   terms = omega arith;
@@ -48,7 +48,7 @@ IsMark-now es xs h = record {
     each i d l =
         let at = slice_get_some es i (omega (arith, h.count)) in
         let e = h.entries i at.0 at.1 in
-        subst (HasTextsOf xs) (sym (get_or_default (trees_of xs es) i d (Con 0) l ∙ e.tree)) (has_texts (trees_of xs es) xs at.0.0.node (trees_at (trees_of xs es) at.0.0.args.items) e.over.texts)
+        subst (HasTextsOf xs) (sym (get_or_default (trees_of xs es) i d (Con 0) l ∙ e.tree)) (has_texts (trees_of xs es) xs at.0.0.node (trees_at (trees_of xs es) at.0.0.args) e.over.texts)
 
 below_from : (xs : List (List ℕ)) (m : ℕ) → AreApart xs → m ≤ length xs → (s : ℕ) → s < length xs → Contains (take m xs) (text_at xs s) → s < m
 below_from xs m apart g s q h =
@@ -71,14 +71,14 @@ texts_below ts xs m apart g (node.Qar i t b) bs q h = tt
 texts_below ts xs m apart g (node.Op c n) bs q h = tt
 
 -- the trees of the first entries are the first trees
-trees_after-prefix : (xs : List (List ℕ)) (ts : List Tree) (es : List (Key × Info)) → (us : List Tree) × (trees_after xs ts es ≡ ts ++ us)
+trees_after-prefix : (xs : List (List ℕ)) (ts : List Tree) (es : List (Root × Info)) → (us : List Tree) × (trees_after xs ts es ≡ ts ++ us)
 unfolding trees_after
 trees_after-prefix xs ts [] = ([], sym (append-nil ts))
 trees_after-prefix xs ts (e ∷ es) =
-    let r = trees_after-prefix xs (ts ++ tree_of_key ts xs e.0 ∷ []) es in
-    (tree_of_key ts xs e.0 ∷ r.0, r.1 ∙ append_assoc ts (tree_of_key ts xs e.0 ∷ []) r.0)
+    let r = trees_after-prefix xs (ts ++ tree_of_root ts xs e.0 ∷ []) es in
+    (tree_of_root ts xs e.0 ∷ r.0, r.1 ∙ append_assoc ts (tree_of_root ts xs e.0 ∷ []) r.0)
 
-pub trees_of-take : (xs : List (List ℕ)) (es : List (Key × Info)) (n : ℕ) → n ≤ length es → trees_of xs (take n es) ≡ take n (trees_of xs es)
+pub trees_of-take : (xs : List (List ℕ)) (es : List (Root × Info)) (n : ℕ) → n ≤ length es → trees_of xs (take n es) ≡ take n (trees_of xs es)
 trees_of-take xs es n g =
     let us : List Tree = trees_of xs (take n es) in
     let r = trees_after-prefix xs us (drop n es) in
@@ -86,23 +86,23 @@ trees_of-take xs es n g =
     let count : length us ≡ n = length-trees_of xs (take n es) ∙ length-take-le n es g in
     sym (ap (take n) all ∙ ap (λ k. take k (us ++ r.0)) (sym count) ∙ take-append_seam us r.0)
 
-module _ (es : List (Key × Info)) (xs : List (List ℕ)) (m : ℕ × ℕ) (h : IsSound es xs) (k : IsMark (shown es xs) m) where
+module _ (es : List (Root × Info)) (xs : List (List ℕ)) (m : ℕ × ℕ) (h : IsSound es xs) (k : IsMark (shown es xs) m) where
   abbrev ts : List Tree
   ts = trees_of xs es
 
-  below : (i : ℕ) (e : Key × Info) → slice_get es i ≡ Some e → i < m.0 → TextsBelow m.1 e.0.node
+  below : (i : ℕ) (e : Root × Info) → slice_get es i ≡ Some e → i < m.0 → TextsBelow m.1 e.0.node
   below i e p l =
       let at = h.entries i e p in
       let within : i < length (take m.0 ts) = omega (arith, length-take-le m.0 ts k.terms) in
       let root : HasTextsOf (take m.1 xs) (tree_at ts i) = subst (HasTextsOf (take m.1 xs)) (get_or-take m.0 ts i (Con 0) l) (k.among i (Con 0) within) in
-      texts_below ts xs m.1 h.texts_apart k.texts e.0.node (trees_at ts e.0.args.items) at.over.texts (subst (HasTextsOf (take m.1 xs)) at.tree root)
+      texts_below ts xs m.1 h.texts_apart k.texts e.0.node (trees_at ts e.0.args) at.over.texts (subst (HasTextsOf (take m.1 xs)) at.tree root)
 
   pub trees_of-cut : trees_of (take m.1 xs) (take m.0 es) ≡ take m.0 ts
   trees_of-cut =
       trees_after-texts m.1 (record { at = λ i l. get_or-take m.1 xs i [] l }) [] (take m.0 es) (λ i e p. let q = slice_get_take m.0 es i e p in below i e q.1 q.0)
       ∙ trees_of-take xs es m.0 (omega (arith, k.terms, h.count))
 
-  cut_entry : (i : ℕ) (e : Key × Info) → slice_get (take m.0 es) i ≡ Some e → IsEntry (take m.0 ts) (take m.1 xs) i e.0 e.1
+  cut_entry : (i : ℕ) (e : Root × Info) → slice_get (take m.0 es) i ≡ Some e → IsEntry (take m.0 ts) (take m.1 xs) i e.0 e.1
   cut_entry i e p =
       let q = slice_get_take m.0 es i e p in
       let at = h.entries i e q.1 in

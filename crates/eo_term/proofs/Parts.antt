@@ -6,7 +6,7 @@ use Rattle.std.proofs.lemmas.List.Elements.{All-head, All-tail}
 use Rattle.eo_base.specs.Limits.{height_limit}
 use Rattle.eo_term.specs.declared.node.Node.{Node}
 use Rattle.eo_term.specs.declared.node.Node.TheVariants as node
-use Rattle.eo_term.specs.declared.node.Key.{Key}
+use Rattle.eo_term.specs.Keys.{Root}
 use Rattle.eo_term.specs.declared.node.Info.{Info}
 use Rattle.eo_term.specs.Tree.{Tree, Con, height}
 use Rattle.eo_term.specs.Terms.{tree_at, tree_of, trees_at, PartsBelow, AreAmong, HasPartsAmong, AreLow, HaveOlderParts}
@@ -34,8 +34,8 @@ module _ (ts : List Tree) (i : ℕ) (l : i ≤ length ts) where
   older_parts xs (node.Qar k t b) is p h = (older t p.0, older b p.1)
   older_parts xs (node.Op c n) is p h = older_list is h
 
-module _ (es : List (Key × Info)) (xs : List (List ℕ)) (h : IsSound es xs) where
-  entry_at : (i : ℕ) → i < length (trees_of xs es) → (e : Key × Info) × IsEntry (trees_of xs es) xs i e.0 e.1
+module _ (es : List (Root × Info)) (xs : List (List ℕ)) (h : IsSound es xs) where
+  entry_at : (i : ℕ) → i < length (trees_of xs es) → (e : Root × Info) × IsEntry (trees_of xs es) xs i e.0 e.1
   entry_at i l = let at = slice_get_some es i (omega (arith, h.count)) in (at.0, h.entries i at.0 at.1)
 
   pub low_trees : AreLow (trees_of xs es)
@@ -46,4 +46,4 @@ module _ (es : List (Key × Info)) (xs : List (List ℕ)) (h : IsSound es xs) wh
   pub older_trees : HaveOlderParts (trees_of xs es)
   older_trees i l =
       let e = entry_at i l in
-      subst (HasPartsAmong (take i (trees_of xs es))) (sym e.1.tree) (older_parts (trees_of xs es) i (omega arith) xs e.0.0.node e.0.0.args.items e.1.over.parts e.1.over.args)
+      subst (HasPartsAmong (take i (trees_of xs es))) (sym e.1.tree) (older_parts (trees_of xs es) i (omega arith) xs e.0.0.node e.0.0.args e.1.over.parts e.1.over.args)

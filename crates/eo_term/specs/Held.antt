@@ -1,22 +1,23 @@
 -- How a table holds its terms.
 use Rattle.std.specs.Prelude.{◌≡◌, ℕ, ◌<◌, ◌≤◌, List, [], ◌∷◌, ◌++◌, length, take, slice_get, All, Some}
-use Rattle.eo_term.specs.declared.node.Key.{Key}
 use Rattle.eo_term.specs.declared.node.Info.{Info}
 use Rattle.eo_term.specs.declared.table.TheConstants.{HEIGHT_LIMIT}
-use Rattle.eo_term.specs.Tree.{Tree, height, is_value, is_closed}
+use Rattle.eo_term.specs.ParamSet.{has}
+use Rattle.eo_term.specs.Tree.{Tree, height, is_value, is_closed, is_plain, may_be_type, occurs, occurs_openly}
 use Rattle.eo_base.specs.Characters.{AreCharacters}
-use Rattle.eo_term.specs.Terms.{tree_at, tree_of, trees_at, PartsBelow, TextsBelow, HasArguments, IsProper, AreApart, first_trees}
+use Rattle.eo_term.specs.Terms.{Terms, tree_at, tree_of, trees_at, PartsBelow, TextsBelow, HasArguments, IsProper, AreApart, first_trees}
+use Rattle.eo_term.specs.Keys.{Root}
 
--- the tree of a key over trees and texts
-abbrev pub tree_of_key : List Tree → List (List ℕ) → Key → Tree
-tree_of_key ts xs k = tree_of ts xs k.node (trees_at ts k.args.items)
+-- the tree of a root over trees and texts
+abbrev pub tree_of_root : List Tree → List (List ℕ) → Root → Tree
+tree_of_root ts xs k = tree_of ts xs k.node (trees_at ts k.args)
 
 -- the trees, after those of more entries, each over the trees before it
-unfoldable pub trees_after : List (List ℕ) → List Tree → List (Key × Info) → List Tree
+unfoldable pub trees_after : List (List ℕ) → List Tree → List (Root × Info) → List Tree
 trees_after xs ts [] = ts
-trees_after xs ts (e ∷ es) = trees_after xs (ts ++ tree_of_key ts xs e.0 ∷ []) es
+trees_after xs ts (e ∷ es) = trees_after xs (ts ++ tree_of_root ts xs e.0 ∷ []) es
 
-abbrev pub trees_of : List (List ℕ) → List (Key × Info) → List Tree
+abbrev pub trees_of : List (List ℕ) → List (Root × Info) → List Tree
 trees_of xs es = trees_after xs [] es
 
 -- what is known tells of the tree
@@ -24,30 +25,39 @@ pub record Tells (t : Tree) (s : Info) : Type 0 where
   pub height : s.height ≡ height t
   pub value : s.value ≡ is_value t
   pub closed : s.closed ≡ is_closed t
+  pub plain : s.plain ≡ is_plain t
+  pub typable : s.typable ≡ may_be_type t
+  pub parameters : (i : ℕ) → has s.parameters i ≡ occurs i t
+  pub open_parameters : (i : ℕ) → has s.open_parameters i ≡ occurs_openly i t
 
--- the key has its parts below n, and its texts below m
-pub record IsOver (n m : ℕ) (k : Key) : Type 0 where
+-- the root has its parts below n, and its texts below m
+pub record IsOver (n m : ℕ) (k : Root) : Type 0 where
   pub parts : PartsBelow n k.node
   pub texts : TextsBelow m k.node
-  pub args : All (λ j. j < n) k.args.items
-  pub count : HasArguments k.node k.args.items
+  pub args : All (λ j. j < n) k.args
+  pub count : HasArguments k.node k.args
   pub proper : IsProper k.node
 
 -- the entry at i, among those trees and texts
-pub record IsEntry (ts : List Tree) (xs : List (List ℕ)) (i : ℕ) (k : Key) (s : Info) : Type 0 where
+pub record IsEntry (ts : List Tree) (xs : List (List ℕ)) (i : ℕ) (k : Root) (s : Info) : Type 0 where
   pub over : IsOver i (length xs) k
-  pub tree : tree_at ts i ≡ tree_of_key ts xs k
+  pub tree : tree_at ts i ≡ tree_of_root ts xs k
   pub tells : Tells (tree_at ts i) s
   pub low : s.height ≤ HEIGHT_LIMIT
 
 -- the entries hold those trees, and those texts
-pub record Holds (ts : List Tree) (es : List (Key × Info)) (xs : List (List ℕ)) : Type 0 where
+pub record Holds (ts : List Tree) (es : List (Root × Info)) (xs : List (List ℕ)) : Type 0 where
   pub count : length ts ≡ length es
-  pub entries : (i : ℕ) (e : Key × Info) → slice_get es i ≡ Some e → IsEntry ts xs i e.0 e.1
+  pub entries : (i : ℕ) (e : Root × Info) → slice_get es i ≡ Some e → IsEntry ts xs i e.0 e.1
   pub apart : AreApart ts
   pub texts_apart : AreApart xs
   pub characters : All AreCharacters xs
   pub first : take 4 ts ≡ first_trees
 
-abbrev pub IsSound : List (Key × Info) → List (List ℕ) → Type 0
+abbrev pub IsSound : List (Root × Info) → List (List ℕ) → Type 0
 IsSound es xs = Holds (trees_of xs es) es xs
+
+-- the term has that root
+pub record HasRoot (t : Terms) (i : ℕ) (r : Root) : Type 0 where
+  pub over : IsOver i (length t.texts) r
+  pub tree : tree_at t.trees i ≡ tree_of_root t.trees t.texts r

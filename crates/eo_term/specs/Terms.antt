@@ -1,10 +1,10 @@
 -- What a table of terms holds, and what its calls say of it.
 use Rattle.std.specs.Prelude.{◌≡◌, ℕ, ◌<◌, ◌≤◌, ◌^◌, ◌⊎◌, ◌≢◌, false, List, [], ◌∷◌, ◌++◌, length, take, slice_index_or, AllPairs, All, Contains}
 use Rattle.eo_base.specs.Limits.{bits_limit, parameters_limit}
-use Rattle.eo_term.specs.declared.OpName.{OpName}
 use Rattle.eo_term.specs.declared.OpCode.{OpCode}
 use Rattle.eo_term.specs.declared.node.Node.{Node}
 use Rattle.eo_term.specs.declared.node.Node.TheVariants as node
+pub use Rattle.eo_term.specs.Operators.{arity}
 use Rattle.eo_term.specs.Tree.{Tree, Trees, Con, Num, Bits, Str, Par, Var, App, Arr, Qar, Op, NoTree, More, is_tall}
 use Rattle.eo_term.specs.Arguments.{count_of}
 
@@ -104,61 +104,18 @@ HasCount (node.Arr a b) args = Unit {0}
 HasCount (node.Qar i t b) args = Unit {0}
 HasCount (node.Op c n) args = count_of args ≡ n
 
--- how many arguments an operator takes
-abbrev pub arity : OpName → ℕ
-arity OpName.Ite = 3
-arity OpName.Requires = 3
-arity OpName.IsEq = 2
-arity OpName.IsOk = 1
-arity OpName.Typeof = 1
-arity OpName.Var = 2
-arity OpName.Nameof = 1
-arity OpName.IsZ = 1
-arity OpName.IsBin = 1
-arity OpName.IsStr = 1
-arity OpName.IsBool = 1
-arity OpName.IsVar = 1
-arity OpName.And = 2
-arity OpName.Or = 2
-arity OpName.Xor = 2
-arity OpName.Not = 1
-arity OpName.Add = 2
-arity OpName.Mul = 2
-arity OpName.Neg = 1
-arity OpName.Zdiv = 2
-arity OpName.Zmod = 2
-arity OpName.IsNeg = 1
-arity OpName.Gt = 2
-arity OpName.Len = 1
-arity OpName.Concat = 2
-arity OpName.Extract = 3
-arity OpName.Find = 2
-arity OpName.ToZ = 1
-arity OpName.ToBin = 2
-arity OpName.ToStr = 1
-arity OpName.Nil = 1
-arity OpName.Cons = 3
-arity OpName.ListLen = 2
-arity OpName.ListConcat = 3
-arity OpName.ListNth = 3
-arity OpName.ListFind = 3
-arity OpName.ListRev = 2
-arity OpName.ListErase = 3
-arity OpName.ListSetof = 2
-arity OpName.ListMinclude = 3
-
 -- an operator of the language takes as many arguments, a program up to the limit
 abbrev pub HasArity : OpCode → ℕ → Type 0
 HasArity (OpCode.Builtin o) n = n ≡ arity o
 HasArity (OpCode.Prog p) n = n ≤ parameters_limit
 
--- a bit string fits its width, and an operator has its number of arguments
+-- a bit string fits its width, a parameter is one of a declaration's, and an operator has its number of arguments
 abbrev pub IsProper : Node → Type 0
 IsProper (node.Con k) = Unit {0}
 IsProper (node.Num z) = Unit {0}
 IsProper (node.Bits w v) = (w ≤ bits_limit) × (v < 2 ^ w)
 IsProper (node.Str s) = Unit {0}
-IsProper (node.Par i) = Unit {0}
+IsProper (node.Par i) = i < parameters_limit
 IsProper (node.Var s t) = Unit {0}
 IsProper (node.App f x) = Unit {0}
 IsProper (node.Arr a b) = Unit {0}

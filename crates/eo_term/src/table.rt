@@ -1,16 +1,20 @@
 //! The table of terms.
-ghost use Rattle.std.specs.Prelude.{◌≡◌, ℕ, ◌+◌, ◌<◌, ◌≤◌, ◌↔◌, [], ◌∷◌, length, take, true, false, IsTrue, All, IfOk, OnOk, OnErr};
+ghost use Rattle.std.specs.Prelude.{◌≡◌, ℕ, ◌+◌, ◌<◌, ◌≤◌, ◌↔◌, ◌&&◌, ◌||◌, nat_eq, [], ◌∷◌, length, take, true, false, IsTrue, All, IfOk, OnOk, OnErr, slice_index_or};
 ghost use Rattle.eo_base.specs.Characters.{AreCharacters};
-ghost use Rattle.eo_term.specs.Tree.{height, height_all, is_tall, is_value, is_closed, all_closed, NoTree, Op, App};
+ghost use Rattle.eo_term.specs.ParamSet.{has};
+ghost use Rattle.eo_term.specs.Tree.{height, height_all, is_tall, is_value, is_closed, all_closed, is_plain, may_type_use, may_be_type, all_may_be_type, occurs, occurs_in_all, occurs_openly, uses_only, NoTree, Op, App};
 ghost use Rattle.eo_term.specs.Arguments.{count_of, arguments_of, argument_at};
+ghost use Rattle.eo_term.specs.Growth.{IsTable};
 ghost use Rattle.eo_term.specs.Terms.{Terms, tree_at, text_at, trees_at, tree_of, PartsBelow, TextsBelow, IsPlain, HasCount, HasArity, IsProper, AreApart, AreLow, HaveOlderParts, Grows, Interned, InternedText, IsMark, first_trees};
 ghost use Rattle.eo_term.specs.Refused.{IsTall};
-ghost use Rattle.eo_term.specs.Held.{Tells, IsEntry, IsOver, tree_of_key};
+ghost use Rattle.eo_term.specs.Held.{Tells, IsOver, HasRoot};
 
-use crate::node::{Info, Key};
-use crate::{Id, Mark, Node, OpCode, TextId};
-use indexmap::{IndexMap, IndexSet};
+use crate::node::Info;
+use crate::nodes::Nodes;
+use crate::{Id, Mark, Node, OpCode, ParamSet, TextId};
+use indexmap::IndexSet;
 use std::alloc::{AllocError, Global};
+use std::hash::{BuildHasherDefault, DefaultHasher};
 use std::marker::Model;
 
 mod release;
@@ -42,14 +46,15 @@ impl From<AllocError> for TermRefused {
 /// texts; an [`Id`] or a [`TextId`] is a place in them.
 ///
 /// No two terms have the same tree, so two live ids are equal exactly where their trees are. The
-/// parts of a term stand before it. A term's height, and whether it is a value and whether it is
-/// closed, are stored with it.
+/// parts of a term stand before it. A term's height, which parameters occur in it and what operators
+/// it holds are stored with it, so that to ask for them does not depend on its size.
 #[derive(Drop)]
 pub struct Table {
     alloc: Global,
     // A term's number is its place, so terms are dropped from the end at a cost of what is dropped.
-    nodes: IndexMap<Key, Info>,
-    texts: IndexSet<Vec<u32>>,
+    nodes: Nodes,
+    // A file chooses texts freely, so they are hashed by SipHash.
+    texts: IndexSet<Vec<u32>, BuildHasherDefault<DefaultHasher>>,
 }
 
 impl Model for Table {
@@ -57,14 +62,15 @@ impl Model for Table {
     ghost use Rattle.eo_term.specs.Terms.{Terms};
     ghost use Rattle.eo_term.specs.TermsCode.{terms_code};
     ghost use Rattle.eo_term.specs.Held.{IsSound, trees_of};
+    ghost use Rattle.eo_term.specs.Keys.{entries_of, IsKept};
 
     ghost Value = { Terms };
 
     ghost coded = { terms_code };
 
-    ghost view = { λ a. let xs = map (λ w. w.items) a.texts.keys in record { trees = trees_of xs a.nodes.entries; texts = xs } };
+    ghost view = { λ a. let xs = map (λ w. w.items) a.texts.keys in record { trees = trees_of xs (entries_of a.nodes); texts = xs } };
 
-    ghost invariant = { λ a. IsSound a.nodes.entries (map (λ w. w.items) a.texts.keys) };
+    ghost invariant = { λ a. IsKept a.nodes × IsSound (entries_of a.nodes) (map (λ w. w.items) a.texts.keys) };
 }
 
 impl Table {
@@ -73,20 +79,15 @@ impl Table {
         ensures trees { IfOk result (λ t. t.trees ≡ first_trees) }
         ensures texts { IfOk result (λ t. t.texts ≡ []) }
     {
-        let mut nodes = IndexMap::new(alloc);
-        let info = Info {
-            height: 1,
-            value: true,
-            closed: true,
-        };
-        nodes.insert(Key::plain(alloc, Node::Con(0)), info)?;
-        nodes.insert(Key::plain(alloc, Node::Con(1)), info)?;
-        nodes.insert(Key::plain(alloc, Node::Con(2)), info)?;
-        nodes.insert(Key::plain(alloc, Node::Con(3)), info)?;
+        let mut nodes = Nodes::new(alloc);
+        nodes.add(Node::Con(0), Vec::new(alloc), Info::leaf())?;
+        nodes.add(Node::Con(1), Vec::new(alloc), Info::leaf())?;
+        nodes.add(Node::Con(2), Vec::new(alloc), Info::leaf())?;
+        nodes.add(Node::Con(3), Vec::new(alloc), Info::leaf())?;
         Ok(Table {
             alloc,
             nodes,
-            texts: IndexSet::new(alloc),
+            texts: IndexSet::with_hasher(alloc, BuildHasherDefault::new()),
         })
     }
 
@@ -100,6 +101,13 @@ impl Table {
         ensures first { take 4 self.now.trees ≡ first_trees }
     {
         self.nodes.len()
+    }
+
+    /// What holds of every table. A call costs nothing: it tells a proof these facts.
+    pub fn laws(&self)
+        ensures { IsTable self.now }
+    {
+        let _count = self.nodes.len();
     }
 
     /// The present place in the table's history, to which it can be cut later.
@@ -123,8 +131,8 @@ impl Table {
         ensures proper { IsProper result }
         ensures count { HasCount result (arguments_of (tree_at self.now.trees id)) }
     {
-        let (key, _) = self.entry(id);
-        key.node
+        let (node, _) = self.root(id);
+        node
     }
 
     /// The argument of an operator at a place, counted from 0. It is an older term.
@@ -134,8 +142,8 @@ impl Table {
         ensures tree { tree_at self.now.trees result ≡ argument_at (arguments_of (tree_at self.now.trees id)) i }
         ensures older { result < id }
     {
-        let (key, _) = self.entry(id);
-        key.args[i]
+        let (_, args) = self.root(id);
+        argument(args, i)
     }
 
     /// Whether two terms have the same tree.
@@ -165,8 +173,7 @@ impl Table {
         ensures height { result ≡ height (tree_at self.now.trees id) }
         ensures low { result ≤ HEIGHT_LIMIT }
     {
-        let (_, info) = self.entry(id);
-        info.height
+        self.info(id).height
     }
 
     /// Whether a term is a value: it has no parameter, no operator and no function type that binds
@@ -176,8 +183,7 @@ impl Table {
         ensures value { result ≡ is_value (tree_at self.now.trees id) }
         ensures low { AreLow self.now.trees }
     {
-        let (_, info) = self.entry(id);
-        info.value
+        self.info(id).value
     }
 
     /// Whether a term has no parameter.
@@ -186,8 +192,47 @@ impl Table {
         ensures closed { result ≡ is_closed (tree_at self.now.trees id) }
         ensures low { AreLow self.now.trees }
     {
-        let (_, info) = self.entry(id);
-        info.closed
+        self.info(id).closed
+    }
+
+    /// Whether a term has no operator.
+    pub fn is_plain(&self, id: Id) -> bool
+        requires { id < length self.now.trees }
+        ensures { result ≡ is_plain (tree_at self.now.trees id) }
+    {
+        self.info(id).plain
+    }
+
+    /// Whether a term may be a declared type: whether such types may hold each of its operators.
+    pub fn may_be_type(&self, id: Id) -> bool
+        requires { id < length self.now.trees }
+        ensures { result ≡ may_be_type (tree_at self.now.trees id) }
+    {
+        self.info(id).typable
+    }
+
+    /// The parameters that occur in a term.
+    pub fn parameters(&self, id: Id) -> ParamSet
+        requires { id < length self.now.trees }
+        ensures { (i : ℕ) → has result i ≡ occurs i (tree_at self.now.trees id) }
+    {
+        self.info(id).parameters
+    }
+
+    /// The parameters that occur in a term outside every operator.
+    pub fn open_parameters(&self, id: Id) -> ParamSet
+        requires { id < length self.now.trees }
+        ensures { (i : ℕ) → has result i ≡ occurs_openly i (tree_at self.now.trees id) }
+    {
+        self.info(id).open_parameters
+    }
+
+    /// Whether each parameter that occurs in a term is in the set.
+    pub fn uses_only(&self, known: &ParamSet, id: Id) -> bool
+        requires { id < length self.now.trees }
+        ensures { result ≡ uses_only (has known.now) (tree_at self.now.trees id) }
+    {
+        self.parameters(id).is_within(*known)
     }
 
     /// The characters of a text.
@@ -220,7 +265,8 @@ impl Table {
     }
 
     /// The term with this root, which is not an operator, over live terms and texts. It is added
-    /// where its tree is not there. A bit string has at most 128 bits and fits its width.
+    /// where its tree is not there. A bit string has at most 128 bits and fits its width, and a
+    /// parameter has a number below 64, as those of a declaration have.
     ///
     /// It is refused with [`TermRefused::Tall`] exactly where its height would exceed
     /// [`HEIGHT_LIMIT`]. The table then stays as it is, and also where there is no memory left.
@@ -239,8 +285,7 @@ impl Table {
         if info.height > HEIGHT_LIMIT {
             return Err(TermRefused::Tall);
         }
-        let key = Key::plain(self.alloc, node);
-        Ok(self.add(key, info)?)
+        Ok(self.add(node, &[], info)?)
     }
 
     /// The term that applies an operator of the language, to as many arguments as it takes, or a
@@ -257,7 +302,7 @@ impl Table {
         ensures grows { Grows self.old self.new }
         ensures grown { (t : Terms) → Grows t self.old → Grows t self.new }
     {
-        let info = self.info_of_op(args);
+        let info = self.info_of_op(code, args);
         if info.height > HEIGHT_LIMIT {
             return Err(TermRefused::Tall);
         }
@@ -265,44 +310,44 @@ impl Table {
             code,
             count: args.len() as u8,
         };
-        let args = args.to_vec(self.alloc)?;
-        Ok(self.add(Key { node, args }, info)?)
+        Ok(self.add(node, args, info)?)
     }
 
-    // The key of a term, and what is known of it.
-    fn entry(&self, id: Id) -> (&Key, Info)
+    // The root of a term.
+    fn root(&self, id: Id) -> (Node, &[Id])
         requires { id < length self.now.trees }
-        ensures entry { IsEntry self.now.trees self.now.texts id result.0.now result.1 }
+        ensures { HasRoot self.now id (record { node = result.0; args = result.1.now }) }
+    {
+        let (node, args, _) = self.nodes.get(id.number);
+        (node, args)
+    }
+
+    // What is known of a term.
+    fn info(&self, id: Id) -> Info
+        requires { id < length self.now.trees }
+        ensures tells { Tells (tree_at self.now.trees id) result }
+        ensures small { result.height ≤ HEIGHT_LIMIT }
         ensures low { AreLow self.now.trees }
     {
-        let (key, info) = self.nodes.get_index(id.number).unwrap();
-        (key, *info)
+        self.nodes.info(id.number)
     }
 
     // What is known of a term with this root.
     fn info_of(&self, node: &Node) -> Info
         requires plain { IsPlain node.now }
         requires parts { PartsBelow (length self.now.trees) node.now }
+        requires proper { IsProper node.now }
         ensures tells { Tells (tree_of self.now.trees self.now.texts node.now NoTree) result }
         ensures small { result.height ≤ HEIGHT_LIMIT + 1 }
     {
         match *node {
-            Node::Con(_) | Node::Num(_) | Node::Bits { .. } | Node::Str(_) => Info {
-                height: 1,
-                value: true,
-                closed: true,
-            },
-            Node::Par(_) => Info {
-                height: 1,
-                value: false,
-                closed: false,
-            },
+            Node::Con(_) | Node::Num(_) | Node::Bits { .. } | Node::Str(_) => Info::leaf(),
+            Node::Par(i) => Info::parameter(i),
             Node::Var { ty, .. } => {
-                let (_, t) = self.entry(ty);
+                let t = self.info(ty);
                 Info {
                     height: 1 + t.height,
-                    value: t.value,
-                    closed: t.closed,
+                    ..t
                 }
             }
             Node::App { fun, arg } => self.info_of_pair(fun, arg),
@@ -310,16 +355,11 @@ impl Table {
             Node::Qar { ty, to, .. } => {
                 let both = self.info_of_pair(ty, to);
                 Info {
-                    height: both.height,
                     value: false,
-                    closed: both.closed,
+                    ..both
                 }
             }
-            Node::Op { .. } => Info {
-                height: 1,
-                value: false,
-                closed: true,
-            },
+            Node::Op { .. } => Info::leaf(),
         }
     }
 
@@ -330,54 +370,82 @@ impl Table {
         ensures tells { Tells (App (tree_at self.now.trees first) (tree_at self.now.trees second)) result }
         ensures small { result.height ≤ HEIGHT_LIMIT + 1 }
     {
-        let (_, a) = self.entry(first);
-        let (_, b) = self.entry(second);
+        let a = self.info(first);
+        let b = self.info(second);
         Info {
             height: 1 + a.height.max(b.height),
             value: a.value && b.value,
             closed: a.closed && b.closed,
+            plain: a.plain && b.plain,
+            typable: a.typable && b.typable,
+            parameters: a.parameters.union(b.parameters),
+            open_parameters: a.open_parameters.union(b.open_parameters),
         }
     }
 
     // What is known of an operator with these arguments.
-    fn info_of_op(&self, args: &[Id]) -> Info
+    fn info_of_op(&self, code: OpCode, args: &[Id]) -> Info
         requires { All (λ j. j < length self.now.trees) args.now }
-        ensures height { result.height ≡ 1 + height_all (trees_at self.now.trees args.now) }
-        ensures value { result.value ≡ false }
-        ensures closed { result.closed ≡ all_closed (trees_at self.now.trees args.now) }
+        ensures tells { Tells (Op code (trees_at self.now.trees args.now)) result }
         ensures small { result.height ≤ HEIGHT_LIMIT + 1 }
     {
         let mut tallest = 0;
         let mut closed = true;
+        let mut typable = may_type_use(code);
+        let mut parameters = ParamSet::new();
         for id in args {
-            let (_, info) = self.entry(*id);
+            let info = self.info(*id);
             tallest = info.height.max(tallest);
             closed = info.closed && closed;
+            typable = info.typable && typable;
+            parameters.add_all(info.parameters);
         }
         Info {
             height: 1 + tallest,
             value: false,
             closed,
+            plain: false,
+            typable,
+            parameters,
+            open_parameters: ParamSet::new(),
         }
     }
 
-    // The term with this key, of which `info` is known.
-    fn add(&mut self, key: Key, info: Info) -> Result<Id, AllocError>
-        requires over { IsOver (length self.old.trees) (length self.old.texts) key }
-        requires tells { Tells (tree_of_key self.old.trees self.old.texts key) info }
+    // The term with this root, of which `info` is known.
+    fn add(&mut self, node: Node, args: &[Id], info: Info) -> Result<Id, AllocError>
+        requires over { IsOver (length self.old.trees) (length self.old.texts) (record { node = node; args = args.now }) }
+        requires tells { Tells (tree_of self.old.trees self.old.texts node (trees_at self.old.trees args.now)) info }
         requires low { info.height ≤ HEIGHT_LIMIT }
-        ensures interned { IfOk result (λ i. Interned self.old (tree_of_key self.old.trees self.old.texts key) i self.new) }
+        ensures interned { IfOk result (λ i. Interned self.old (tree_of self.old.trees self.old.texts node (trees_at self.old.trees args.now)) i self.new) }
         ensures err { OnErr result (self.new ≡ self.old) }
         ensures grows { Grows self.old self.new }
         ensures grown { (t : Terms) → Grows t self.old → Grows t self.new }
     {
-        match self.nodes.get_index_of(&key) {
+        match self.nodes.find(&node, args) {
             Some(number) => Ok(Id { number }),
             None => {
                 let number = self.nodes.len();
-                self.nodes.insert(key, info)?;
+                let args = args.to_vec(self.alloc)?;
+                self.nodes.add(node, args, info)?;
                 Ok(Id { number })
             }
         }
+    }
+}
+
+fn argument(args: &[Id], i: usize) -> Id
+    requires { i < length args.now }
+    ensures { result ≡ slice_index_or args.now i 0 }
+{
+    args[i]
+}
+
+// Whether a declared type may hold the operator.
+fn may_type_use(code: OpCode) -> bool
+    ensures { result ≡ may_type_use code }
+{
+    match code {
+        OpCode::Builtin(op) => op.is_in_types(),
+        OpCode::Prog(_) => false,
     }
 }

@@ -32,12 +32,3 @@ no_matching before ps ts h = by (matching before ps ts) refl
     by : (o : Option Assignment) → matching before ps ts ≡ o → o ≡ None
     by None e = refl
     by (Some σ) e = absurd (h σ (matching_matches before ps ts σ e))
-
--- a number above the parameters of each argument is above those of all
-pub above_all : (j n : ℕ) (ts : Trees) → ((k : ℕ) → k < count_of ts → occurs j (argument_at ts k) ≡ true → j < n) → occurs_in_all j ts ≡ true → j < n
-above_all j n NoTree h o = clash o
-above_all j n (More t ts) h o = by (occurs j t) (h 0 (omega arith)) (above_all j n ts (λ k l. h (suc k) (omega arith))) o
-  where
-    by : (b : Bool) → (b ≡ true → j < n) → (occurs_in_all j ts ≡ true → j < n) → (b || occurs_in_all j ts) ≡ true → j < n
-    by true f g q = f refl
-    by false f g q = g q

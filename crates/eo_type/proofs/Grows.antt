@@ -3,8 +3,8 @@ use Rattle.std.specs.Prelude.{◌≡◌, ◌&&◌, ◌++◌, if◌then◌else◌
 use Rattle.std.proofs.Common.{◌∙◌, ap}
 use Rattle.eo_term.specs.Tree.{Tree, Con, Num, Bits, Str, Par, Var, App, Arr, Qar, Op, type_tree, is_value, tree_eq}
 use Rattle.eo_term.proofs.Values.{clash}
-use Rattle.eo_sig.specs.declared.LiteralClass.{LiteralClass}
-use Rattle.eo_sig.specs.declared.LiteralClass.TheVariants.{Numeral, Binary, String}
+use Rattle.eo_lit.specs.declared.LiteralClass.{LiteralClass}
+use Rattle.eo_lit.specs.declared.LiteralClass.TheVariants.{Numeral, Binary, String}
 use Rattle.eo_sig.specs.Signature.{Signature, Constant, constant_at, literal_type}
 use Rattle.eo_sig.proofs.Grows.{constant_at_more, literal_type_more}
 use Rattle.eo_type.specs.Types.{TypeOutcome, Typed, Untyped, on_typed, typed_if, declared, literal_type_at, applied, type_of}

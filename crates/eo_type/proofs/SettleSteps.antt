@@ -1,10 +1,14 @@
 -- Settling part by part.
-use Rattle.std.proofs.Common.{◌≡◌, ℕ, zero, suc, ◌<◌, ◌≤◌, Bool, true, false, List, [], ◌∷◌, length, map, take, get_or, if◌then◌else◌, refl, sym, ap, ◌∙◌, subst, arith}
-use Rattle.std.specs.Prelude.{Result, Ok, Err, Option}
+use Rattle.std.proofs.Common.{◌≡◌, ℕ, zero, suc, ◌<◌, ◌≤◌, Bool, true, false, List, [], ◌∷◌, length, map, take, get_or, if◌then◌else◌, nat_eq, Some, None, refl, sym, ap, ◌∙◌, subst, arith}
+use Rattle.std.specs.Prelude.{Result, Ok, Err, Option, IfSome, IfNone}
 use Rattle.std.specs.List.{list_all}
 use Rattle.eo_term.specs.declared.OpCode.{OpCode}
-use Rattle.eo_term.specs.Tree.{Tree, Con, Num, Bits, Str, Par, Var, App, Arr, Qar, Op, Trees, NoTree, More, to_trees, is_tall, is_closed, is_value}
-use Rattle.eo_term.specs.Terms.{tree_at}
+use Rattle.eo_term.specs.Tree.{Tree, Con, Num, Bits, Str, Par, Var, App, Arr, Qar, Op, Trees, NoTree, More, to_trees, is_tall, is_closed, is_plain}
+use Rattle.eo_term.specs.Memo.{told, TellsOnly}
+use Rattle.eo_term.proofs.Memos.{tells_more, tells_weaker}
+use Rattle.eo_type.specs.Steps.{IsMade, IsNext}
+use Rattle.eo_type.specs.Parts.{IsSettled}
+use Rattle.eo_term.specs.Terms.{Terms, Grows, tree_at}
 use Rattle.eo_term.specs.Arguments.{count_of, argument_at}
 use Rattle.eo_term.proofs.Equality.{both}
 use Rattle.eo_term.proofs.Values.{clash}
@@ -16,18 +20,56 @@ use Rattle.eo_type.specs.Outcomes.{Answers, IsTall, Stops}
 use Rattle.eo_type.proofs.Walk.{stops_first}
 use Rattle.eo_type.proofs.Heights.{settle_low, settle_all_low, never_tall}
 
--- a value stays what it is
-pub settle_value : (t : Tree) → is_value t ≡ true → settle t ≡ Typed t
-settle_value (Con k) h = refl
-settle_value (Num z) h = refl
-settle_value (Bits w v) h = refl
-settle_value (Str s) h = refl
-settle_value (Par i) h = refl
-settle_value (Var s t) h = ap (λ o. on_typed o (λ u. Typed (Var s u))) (settle_value t h)
-settle_value (App f x) h = let p = settle_value f (both h).0 in let q = settle_value x (both h).1 in λ i. on_typed (p i) (λ g. on_typed (q i) (λ y. Typed (App g y)))
-settle_value (Arr a b) h = let p = settle_value a (both h).0 in let q = settle_value b (both h).1 in λ i. on_typed (p i) (λ c. on_typed (q i) (λ d. Typed (Arr c d)))
-settle_value (Qar i t b) h = clash h
-settle_value (Op c ts) h = clash h
+-- a tree without operators stays what it is
+pub settle_plain : (t : Tree) → is_plain t ≡ true → settle t ≡ Typed t
+settle_plain (Con k) h = refl
+settle_plain (Num z) h = refl
+settle_plain (Bits w v) h = refl
+settle_plain (Str s) h = refl
+settle_plain (Par i) h = refl
+settle_plain (Var s t) h = ap (λ o. on_typed o (λ u. Typed (Var s u))) (settle_plain t h)
+settle_plain (App f x) h = let p = settle_plain f (both h).0 in let q = settle_plain x (both h).1 in λ i. on_typed (p i) (λ g. on_typed (q i) (λ y. Typed (App g y)))
+settle_plain (Arr a b) h = let p = settle_plain a (both h).0 in let q = settle_plain b (both h).1 in λ i. on_typed (p i) (λ c. on_typed (q i) (λ d. Typed (Arr c d)))
+settle_plain (Qar i t b) h = let p = settle_plain t (both h).0 in let q = settle_plain b (both h).1 in λ j. on_typed (p j) (λ c. on_typed (q j) (λ d. Typed (Qar i c d)))
+settle_plain (Op c ts) h = clash h
+
+-- what a memo tells stays
+pub settles_grown : (old new : Terms) (m : List (ℕ × ℕ)) → Grows old new → TellsOnly (IsSettled old.trees) m → TellsOnly (IsSettled new.trees) m
+settles_grown old new m g t =
+    tells_weaker (IsSettled old.trees) (IsSettled new.trees) m (λ k v p. record {
+      term = omega (arith, p.term, g.more_trees);
+      made = omega (arith, p.made, g.more_trees);
+      typed = ap settle (g.tree k p.term) ∙ p.typed ∙ ap Typed (sym (g.tree v p.made));
+    }) t
+
+-- what a memo tells of a term
+pub told_settled : (ts : List Tree) (m : List (ℕ × ℕ)) (k : ℕ) (o : Option ℕ) → o ≡ told m k → TellsOnly (IsSettled ts) m → IfSome o (λ v. v < length ts) × (IfSome o (λ v. settle (tree_at ts k) ≡ Typed (tree_at ts v)) × IfNone o (told m k ≡ None))
+told_settled ts m k None e h = (tt, (tt, sym e))
+told_settled ts m k (Some v) e h = let p = h k v (sym e) in (p.made, (p.typed, tt))
+
+-- what stops the term k stops the term id
+abbrev pub StopsAll : List Tree → ℕ → ℕ → Type 0
+StopsAll ts id k = (e : Stop) → Stops e (settle (tree_at ts k)) → Stops e (settle (tree_at ts id))
+
+-- a step of the walk for the term id, at the term k, with the table old at its start, mid before the step and new after it
+module _ (old mid new : Terms) (id k : ℕ) (g : Grows old mid) (r : StopsAll old.trees id k) (l : k < length old.trees) where
+  pub step_stops : (e : Stop) → Stops e (settle (tree_at mid.trees k)) → Stops e (settle (tree_at old.trees id))
+  step_stops e h = r e (subst (λ (t : Tree). Stops e (settle t)) (g.tree k l) h)
+
+  pub step_part : (m : List (ℕ × ℕ)) (p : ℕ) → IsNext mid.trees m k p → StopsAll old.trees id p
+  step_part m p n e h = step_stops e (n.stops e (subst (λ (t : Tree). Stops e (settle t)) (sym (g.tree p (omega (arith, n.older, l)))) h))
+
+  pub step_made : (v : ℕ) → k ≡ id → IsMade mid.trees k new.trees v → IsMade old.trees id new.trees v
+  step_made v e p = record { live = p.live; typed = ap (λ j. settle (tree_at old.trees j)) (sym e) ∙ ap settle (sym (g.tree k l)) ∙ p.typed }
+
+  pub step_kept : (v : ℕ) (m n : List (ℕ × ℕ)) → Grows mid new → ((j : ℕ) → told n j ≡ (if nat_eq k j then Some v else told m j)) → TellsOnly (IsSettled mid.trees) m → IsMade mid.trees k new.trees v → TellsOnly (IsSettled new.trees) n
+  step_kept v m n w f t p =
+      let live : k < length mid.trees = omega (arith, l, g.more_trees) in
+      tells_more (IsSettled new.trees) m n k v f (settles_grown mid new m w t) (record {
+        term = omega (arith, live, w.more_trees);
+        made = p.live;
+        typed = ap settle (w.tree k live) ∙ p.typed;
+      })
 
 -- what is made of settled parts is low
 pub var_low : (t u v : Tree) (s : List ℕ) → Var s u ≡ t → settle u ≡ Typed v → is_tall t ≡ false → is_tall (Var s v) ≡ false

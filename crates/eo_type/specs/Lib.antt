@@ -2,3 +2,4 @@ pub mod Types
 pub mod Outcomes
 pub mod Known
 pub mod Parts
+pub mod Steps

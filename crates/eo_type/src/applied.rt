@@ -1,6 +1,5 @@
 //! Types of applications: an argument's type is matched, and what is found is put in.
 ghost use Rattle.std.specs.Prelude.{◌≡◌, ℕ, ◌<◌, [], ◌∷◌, length, true, None, Some, IsTrue, IsFalse, IfOk, IfErr, OnOk};
-ghost use Rattle.eo_term.specs.Tree.{occurs};
 ghost use Rattle.eo_term.specs.Terms.{Terms, tree_at, Grows};
 ghost use Rattle.eo_pattern.specs.Matching.{empty, assign, put, matching};
 ghost use Rattle.eo_pattern.specs.Slots.{held, AreBelow, AreEmpty};
@@ -114,34 +113,7 @@ fn meets(table: &Table, subst: &mut Subst, pattern: Id, ty: Id) -> Result<bool, 
     ensures no { IfOk result (λ b. IsFalse b → matching empty (tree_at table.now.trees pattern ∷ []) (tree_at table.now.trees ty ∷ []) ≡ None) }
     ensures below { OnOk result (AreBelow (length table.now.trees) subst.new) }
 {
-    subst.reserve(room(table, pattern), table.height(pattern) as usize)?;
+    let room = table.parameters(pattern).bound();
+    subst.reserve(room, table.height(pattern) as usize)?;
     Ok(match_terms(table, &[pattern], &[ty], subst))
-}
-
-// A number above each parameter of the term.
-fn room(table: &Table, id: Id) -> usize
-    requires { id < length table.now.trees }
-    ensures { (i : ℕ) → occurs i (tree_at table.now.trees id) ≡ true → i < result }
-{
-    if table.is_closed(id) {
-        return 0;
-    }
-    match table.node(id) {
-        Node::Par(i) => usize::from(i) + 1,
-        Node::Var { ty, .. } => room(table, ty),
-        Node::App { fun, arg } => room(table, fun).max(room(table, arg)),
-        Node::Arr { from, to } => room(table, from).max(room(table, to)),
-        Node::Qar { ty, to, .. } => room(table, ty).max(room(table, to)),
-        Node::Op { count, .. } => {
-            let mut most = 0;
-            for i in 0..count as usize {
-                most = room(table, table.arg(id, i)).max(most);
-            }
-            most
-        }
-        Node::Con(_) => 0,
-        Node::Num(_) => 0,
-        Node::Bits { .. } => 0,
-        Node::Str(_) => 0,
-    }
 }

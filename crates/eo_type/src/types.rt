@@ -77,7 +77,10 @@ impl Types {
         answer(self.find(sig, table, id))
     }
 
-    // The type of a term that may be known.
+    // The type of a term that may be known. What is found is kept before it is answered, and the first
+    // failure ends the walk, so no term is derived twice in a call. It goes down from a term to its
+    // parts alone, so its calls nest no deeper than a small multiple of the term's height, which
+    // `HEIGHT_LIMIT` bounds.
     #[cycle(typing)]
     fn find(&mut self, sig: &Signature, table: &mut Table, id: Id) -> Result<Id, Stop>
         requires live { id < length table.old.trees }

@@ -1,5 +1,5 @@
 -- When a file is said to be absent.
-use Rattle.std.proofs.Common.{◌≡◌, ◌≢◌, ℕ, suc, zero, List, ◌∷◌, ◌++◌, length, take, Option, None, Some, refl, sym, ◌∙◌, ap, subst, arith}
+use Rattle.std.proofs.Common.{◌≡◌, ◌≢◌, ℕ, suc, zero, List, ◌∷◌, ◌++◌, length, take, Option, None, Some, refl, sym, ◌∙◌, ap, arith}
 use Rattle.std.specs.Prelude.{option_map}
 use Rattle.std.proofs.lemmas.List.{append_cancel_left}
 use Rattle.std.proofs.Math.Seq.{take-length}
@@ -105,9 +105,3 @@ absent_by_letter (Some files) letter rest s t w x before now other h = tt
 absent_by_letter None letter rest s t w x before now other h = λ r absent old ew eu.
     let front = front_of_due s (record { status = t; text = letter ∷ rest }) old (verdict_text (verdict.Refused r)) w x h ew eu in
     absurd (other (front_head front.0 _ _ _ _ front.1))
-
--- the same, where nothing was written before that
-pub absent_after_nothing : (told : Option Files) (letter : ℕ) (rest : List ℕ) (s t : Status) (v w x : Option (List ℕ)) (before now : ℕ) → letter ≢ 114 → w ≡ v
-    → WritesDue s (record { status = t; text = letter ∷ rest }) w x → AbsentHasCause told v x before now
-absent_after_nothing told letter rest s t v w x before now other same h =
-    subst (λ (o : Option (List ℕ)). AbsentHasCause told o x before now) same (absent_by_letter told letter rest s t w x before now other h)

@@ -14,7 +14,7 @@ use Rattle.ethos.specs.CheckWords.{FirstWords}
 use Rattle.eo_run.specs.declared.Verdict.{Verdict}
 use Rattle.eo_run.specs.declared.Verdict.TheVariants as answer
 use Rattle.ethos.specs.Ends.{Ends, EndHasCause}
-use Rattle.ethos.specs.FirstProgram.{first_due}
+use Rattle.ethos.specs.FirstProgram.{first_due, EndsAs}
 
 -- the status of a verdict is none of a fault of the outside
 no_fault_status : (v : verdict.Verdict) → (verdict_status v ≢ status.ReadFault) × (verdict_status v ≢ status.OutOfMemory) × (verdict_status v ≢ status.Usage)
@@ -83,11 +83,11 @@ answer_ends paths (answer.Refused fault) v s w x (r, e, d) h = of_verdict s (ver
 answer_ends paths answer.ReadFault v s w x e h = read_fault_ends s (verdict_due v) w x h
 answer_ends paths answer.OutOfMemory v s w x e h = out_of_memory_ends s (verdict_due v) w x h
 
-pub told_ends : (told : Option Files) (reference proof : List ℕ) (paths : List (List ℕ)) (a : Verdict) (s : Status) (w x : Option (List ℕ))
-    → IfSome told (λ files. Answers paths a (check.verdict files reference proof)) → WritesDue s (answer_due paths a) w x
-    → IfSome told (λ files. Ends s (verdict_due (check.verdict files reference proof)) w x)
-told_ends None reference proof paths a s w x h writes = tt
-told_ends (Some files) reference proof paths a s w x h writes = answer_ends paths a (check.verdict files reference proof) s w x h writes
+pub told_ends : (told : Option Files) (words : FirstWords) (paths : List (List ℕ)) (a : Verdict) (s : Status) (w x : Option (List ℕ))
+    → IfSome told (λ files. Answers paths a (check.verdict files words.reference words.proof)) → WritesDue s (answer_due paths a) w x → EndsAs told s (Some words) w x
+unfolding first_due
+told_ends None words paths a s w x h writes = tt
+told_ends (Some files) words paths a s w x h writes = answer_ends paths a (check.verdict files words.reference words.proof) s w x h writes
 
 -- an answer other than a fault of reading has no such status
 read_fault_is : {F : Type 0} (told : Option F) (paths : List (List ℕ)) (a : Verdict) (before now : ℕ) → status.ReadFault ≡ (answer_due paths a).status → AnswerHasCause a told before now → Rose before now
@@ -128,22 +128,18 @@ no_usage paths a status.ReadFault w x h = λ e. cc
 no_usage paths a status.WriteFault w x h = λ e. cc
 no_usage paths a status.Usage w x h = λ _. no_usage_due paths a (sym h.0)
 
--- the words name the files of the job
-pub words_end : (told : Option Files) (s : Status) (w x : Option (List ℕ)) (words : FirstWords) (reference : Option (List ℕ)) (proof : List ℕ) → reference ≡ Some words.reference → proof ≡ words.proof
-    → IfSome told (λ files. Ends s (verdict_due (check.verdict files (unwrap_or reference []) proof)) w x) → IfSome told (λ files. Ends s (first_due files (Some words)) w x)
-unfolding first_due
-words_end None s w x words reference proof e e' h = tt
-words_end (Some files) s w x words reference proof e e' h =
-    subst (λ (r : List ℕ). Ends s (verdict_due (check.verdict files r words.proof)) w x) (ap (λ o. unwrap_or o []) e)
-    (subst (λ (p : List ℕ). Ends s (verdict_due (check.verdict files (unwrap_or reference []) p)) w x) e' h)
+-- there is no memory, whatever was read of the words
+pub memory_ends : (told : Option Files) (s : Status) (w x : Option (List ℕ)) (reading : Option FirstWords) → WritesDue s out_of_memory_due w x → EndsAs told s reading w x
+memory_ends None s w x reading h = tt
+memory_ends (Some files) s w x reading h = out_of_memory_ends s (first_due files reading) w x h
 
 -- the words have this reading
 pub reading_ends : (told : Option Files) (s : Status) (w x : Option (List ℕ)) (reading other : Option FirstWords) → reading ≡ other
-    → IfSome told (λ files. Ends s (first_due files reading) w x) → IfSome told (λ files. Ends s (first_due files other) w x)
-reading_ends told s w x reading other e h = subst (λ (o : Option FirstWords). IfSome told (λ files. Ends s (first_due files o) w x)) e h
+    → EndsAs told s reading w x → EndsAs told s other w x
+reading_ends told s w x reading other e h = subst (λ (o : Option FirstWords). EndsAs told s o w x) e h
 
 -- the words have no reading
-pub no_reading_ends : (told : Option Files) (s : Status) (w x : Option (List ℕ)) → Ends s usage_due w x → IfSome told (λ files. Ends s (first_due files None) w x)
+pub no_reading_ends : (told : Option Files) (s : Status) (w x : Option (List ℕ)) → Ends s usage_due w x → EndsAs told s None w x
 unfolding first_due
 no_reading_ends None s w x h = tt
 no_reading_ends (Some files) s w x h = h

@@ -1,5 +1,8 @@
 ghost use Rattle.std.specs.Prelude.{◌≤◌};
 
+mod declarations;
+mod shared;
+
 use crate::{ethos_main, run_in_memory};
 use eo_base::{Status, Text};
 use eo_io::{HonestLibrary, MemoryLibrary, MemorySink};

@@ -1,114 +1,62 @@
 //! Texts in pieces of every size against answers that were worked out by hand.
-ghost use Rattle.eo_sexp.specs.Collecting.{IsAtCommand, IsLive};
+ghost use Rattle.std.specs.Prelude.{◌<◌, ◌≤◌, length};
 
-use super::*;
-use crate::Kind;
+use answers::Answers;
+use std::alloc::Global;
 use std::process::Abort;
 use std::test::Fail;
 
-// The tokens of a command, each behind a letter for its kind.
-fn write_sexp(out: &mut String, s: &OwnedSexp) -> Result<(), Fail> {
-    match s {
-        OwnedSexp::Atom { kind, text, .. } => {
-            out.push(match kind {
-                Kind::List => 'l',
-                Kind::Symbol => 's',
-                Kind::Keyword => 'k',
-                Kind::Literal => 'n',
-                Kind::String => 't',
-            })?;
-            for x in text.as_slice() {
-                out.push(*x as char)?;
-            }
-            out.push(' ')?;
-        }
-        OwnedSexp::List { children, .. } => {
-            out.push('(')?;
-            for child in children {
-                write_sexp(out, child)?;
-            }
-            out.push(')')?;
-        }
+mod answers;
+
+// The size of the pieces of a long text.
+const PIECE: usize = 65_536;
+
+// Checks the answer to a text in pieces of 1 byte, of 3, of 7, and in two at every place.
+fn check(rt: &impl Abort, alloc: Global, proof: bool, text: &[u8], want: &str) -> Result<(), Fail> {
+    for size in [1usize, 3, 7] {
+        in_pieces(rt, alloc, proof, text, size, want)?;
+    }
+    for at in 0..=text.len() {
+        in_two(rt, alloc, proof, text, at, want)?;
     }
     Ok(())
 }
 
-fn write_spot(out: &mut String, at: Spot) -> Result<(), Fail> {
-    let Spot { line, offset } = at;
-    Ok(write!(out, "{line}:{offset} ")?)
-}
-
-fn write_command(out: &mut String, collector: &mut Collector) -> Result<(), Fail>
-    requires { IsAtCommand collector.old }
-    ensures { IsLive collector.new }
-{
-    let at = collector.start();
-    let command = collector.take();
-    write_spot(out, at)?;
-    write_sexp(out, &command)
-}
-
-fn write_fault(out: &mut String, name: FaultName, at: Spot) -> Result<(), Fail> {
-    out.push_str(name.text())?;
-    out.push(' ')?;
-    write_spot(out, at)
-}
-
-// What a collector answers to the text in pieces of `size` bytes, up to the end or a fault.
-fn read(
+fn in_pieces(
     rt: &impl Abort,
     alloc: Global,
     proof: bool,
     text: &[u8],
     size: usize,
-) -> Result<String, Fail> {
-    let mut out = String::new(alloc);
-    let mut collector = Collector::new(alloc, proof)?;
-    assert!(rt; text.len() < 100_000_000);
-    for _ in 0..u64::MAX {
-        let here = collector.here();
-        let at = here.offset as usize;
-        if at >= text.len() {
-            break;
-        }
-        let end = if text.len() - at < size {
-            text.len()
-        } else {
-            at + size
-        };
-        match collector.feed(&text[at..end]) {
-            Fed::More => {}
-            Fed::Command { .. } => write_command(&mut out, &mut collector)?,
-            Fed::Fault { name, at } => {
-                write_fault(&mut out, name, at)?;
-                return Ok(out);
-            }
-            Fed::Memory => return Ok(out),
-        }
+    want: &str,
+) -> Result<(), Fail>
+    requires { 0 < size }
+{
+    let mut answers = Answers::new(alloc, proof)?;
+    for piece in text.chunks(size) {
+        answers.feed(rt, piece)?;
     }
-    for _ in 0..2 {
-        match collector.finish() {
-            Finished::End => {
-                out.push_str("end ")?;
-                write_spot(&mut out, collector.here())?;
-                return Ok(out);
-            }
-            Finished::Command => write_command(&mut out, &mut collector)?,
-            Finished::Fault { name, at } => {
-                write_fault(&mut out, name, at)?;
-                return Ok(out);
-            }
-        }
-    }
-    Ok(out)
+    answers.finish()?;
+    assert_eq!(rt; answers.text(), want, "in pieces of {size}");
+    Ok(())
 }
 
-// Checks the answer to a text in pieces of 1 byte, of 3, of 7, and in one.
-fn check(rt: &impl Abort, alloc: Global, proof: bool, text: &[u8], want: &str) -> Result<(), Fail> {
-    for size in [1usize, 3, 7, 99_999_999] {
-        let out = read(rt, alloc, proof, text, size)?;
-        assert_eq!(rt; out.as_str(), want, "in pieces of {size}");
-    }
+fn in_two(
+    rt: &impl Abort,
+    alloc: Global,
+    proof: bool,
+    text: &[u8],
+    at: usize,
+    want: &str,
+) -> Result<(), Fail>
+    requires { at ≤ length text.now }
+{
+    let (front, back) = text.split_at(at);
+    let mut answers = Answers::new(alloc, proof)?;
+    answers.feed(rt, front)?;
+    answers.feed(rt, back)?;
+    answers.finish()?;
+    assert_eq!(rt; answers.text(), want, "cut at {at}");
     Ok(())
 }
 
@@ -221,20 +169,32 @@ fn every_byte_of_a_string(rt: HostRuntime) -> Result<(), Fail> {
     Ok(())
 }
 
-// A text of `count` bytes x with `front` before them and `back` behind.
-fn padded(alloc: Global, front: &[u8], x: u8, count: usize, back: &[u8]) -> Result<Vec<u8>, Fail> {
-    let mut text = Vec::new(alloc);
-    text.extend_from_slice(front)?;
-    for _ in 0..count {
-        text.push(x)?;
+// The answer to `count` bytes x with `front` before them and `back` behind.
+fn padded(
+    rt: &impl Abort,
+    alloc: Global,
+    proof: bool,
+    front: &[u8],
+    x: u8,
+    count: usize,
+    back: &[u8],
+) -> Result<Answers, Fail> {
+    let mut fill = Vec::new(alloc);
+    fill.resize(PIECE, x)?;
+    let mut answers = Answers::new(alloc, proof)?;
+    answers.feed(rt, front)?;
+    for _ in 0..count / PIECE {
+        answers.feed(rt, fill.as_slice())?;
     }
-    text.extend_from_slice(back)?;
-    Ok(text)
+    answers.feed(rt, &fill.as_slice()[..count % PIECE])?;
+    answers.feed(rt, back)?;
+    answers.finish()?;
+    Ok(answers)
 }
 
 #[test]
 fn limits(rt: HostRuntime) -> Result<(), Fail> {
-    let rows: [(bool, &[u8], u8, usize, &[u8], &str); 12] = [
+    let rows: [(bool, &[u8], u8, usize, &[u8], &str); 10] = [
         (false, b"", b'(', 512, b"", "Unclosed 1:512 "),
         (false, b"", b'(', 513, b"", "Nesting 1:512 "),
         (true, b"", b'(', 513, b"", "Unclosed 1:513 "),
@@ -243,41 +203,37 @@ fn limits(rt: HostRuntime) -> Result<(), Fail> {
         (false, b"\"", b'a', 1_048_575, b"\"", "TokenLong 1:1048576 "),
         (false, b"(|", b'a', 1_048_575, b"|)", "TokenLong 1:1048577 "),
         (false, b"\"", b'a', 1_048_575, b"\x7f", "BadByte 1:1048576 "),
-        (false, b"(", b' ', 16_777_214, b")", "1:0 ()end 1:16777216 "),
         (
             false,
-            b"(",
-            b' ',
-            16_777_215,
-            b")",
-            "CommandLong 1:16777216 ",
-        ),
-        (true, b"(", b' ', 16_777_215, b"(", "Unclosed 1:16777217 "),
-        (
-            true,
             b"(;",
             b'x',
-            16_777_215,
-            b"",
-            "CommandLong 1:16777216 ",
+            16_777_212,
+            b"\n)",
+            "1:0 ()end 2:16777216 ",
+        ),
+        (
+            false,
+            b"(;",
+            b'x',
+            16_777_213,
+            b"\n)",
+            "CommandLong 2:16777216 ",
         ),
     ];
     for (proof, front, x, count, back, want) in rows {
-        let text = padded(rt.alloc(), front, x, count, back)?;
-        let out = read(&rt, rt.alloc(), proof, text.as_slice(), 65_536)?;
-        assert_eq!(rt; out.as_str(), want);
+        let answers = padded(&rt, rt.alloc(), proof, front, x, count, back)?;
+        assert_eq!(rt; answers.text(), want);
     }
     Ok(())
 }
 
 #[test]
 fn width(rt: HostRuntime) -> Result<(), Fail> {
-    let mut text = Vec::new(rt.alloc());
-    text.push(b'(')?;
+    let mut answers = Answers::new(rt.alloc(), false)?;
+    answers.feed(&rt, b"(")?;
     for _ in 0..65_537 {
-        text.extend_from_slice(b"a ".as_slice())?;
+        answers.feed(&rt, b"a ")?;
     }
-    let out = read(&rt, rt.alloc(), false, text.as_slice(), 5)?;
-    assert_eq!(rt; out.as_str(), "Width 1:131073 ");
+    assert_eq!(rt; answers.text(), "Width 1:131073 ");
     Ok(())
 }

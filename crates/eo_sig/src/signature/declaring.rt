@@ -10,7 +10,7 @@ ghost use Rattle.eo_sig.specs.Usable.{IsUsable};
 
 use super::Signature;
 use crate::patterns::{cases_are_bound, cases_may_hold, rule_is_bound, rule_is_plain};
-use crate::types::{ends_at_right, implicit_occur, may_be_type, may_type};
+use crate::types::{ends_at_right, implicit_occur, may_type};
 use crate::{ConstDecl, LiteralClass, MacroDecl, PremiseShape, ProgramDecl, RuleDecl, SigRefused};
 use eo_term::{Id, Table};
 
@@ -149,7 +149,7 @@ impl Signature {
         if self.literal_type(class).is_some() {
             return Err(SigRefused::Redeclared);
         }
-        if !may_be_type(table, ty) {
+        if !table.may_be_type(ty) {
             return Err(SigRefused::BadPattern);
         }
         match self.keep_literal(class, ty) {

@@ -16,7 +16,7 @@ impl Table {
         ensures texts { self.new.texts ≡ take mark.1 self.old.texts }
         ensures marks { (m : ℕ × ℕ) → m.0 ≤ mark.0 → m.1 ≤ mark.1 → IsMark self.old m → IsMark self.new m }
     {
-        self.nodes.truncate(mark.terms);
+        self.nodes.cut(mark.terms);
         self.texts.truncate(mark.texts);
     }
 
@@ -39,7 +39,7 @@ impl Table {
             places.as_slice(),
         )?;
         self.nodes.reserve(kept.len())?;
-        self.nodes.truncate(start);
+        self.nodes.cut(start);
         put_entries(&mut self.nodes, kept);
         move_ids(ids, start, places.as_slice());
         Ok(())

@@ -1,34 +1,26 @@
 use Rattle.std.proofs.Common.{ap, sym, ◌∙◌}
-use Rattle.std.proofs.lemmas.Result.{err_from_is_err_and}
-use Rattle.eo_term.specs.Terms.{tree_at, tree_of}
+use Rattle.eo_base.proofs.Answering.{fails}
 use Rattle.eo_term.specs.Arguments.{arguments_of}
+use Rattle.eo_term.specs.Growth.{tree_in}
+use Rattle.eo_term.specs.Terms.{tree_of}
 use Rattle.eo_elab.specs.Declarations.{constant_number}
-use Rattle.eo_elab.specs.Walk.{context}
 use Rattle.eo_elab.proofs.CheckedLemmas.{then-ok, then-err}
 use Rattle.eo_elab.proofs.ConstantLemmas.{other_number}
 use Rattle.eo_elab.proofs.constants.constant_meant.Goals as goal
 
-pub returns-in_err-id-clause-fault : goal.returns-in_err-id-clause-fault
-returns-in_err-id-clause-fault c =
-    let e = err_from_is_err_and c.from_residual.result c.from_residual.ensures.1 in
-    rw (e.1, e.2) (λ h. then-err (constant_number (context c.args.table.now.trees c.args.sig.now)) _ _ (c.in_err-id.ensures.fault h))
+pub returns-in_err-id-clause-gives : goal.returns-in_err-id-clause-gives
+returns-in_err-id-clause-gives c = fails _ _ _ _ _ _ _ c.from_residual.ensures.1 (λ f e. then-err constant_number _ f e) c.in_err-id.ensures.gives
 
-pub returns-in-Con-clause-value : goal.returns-in-Con-clause-value
-returns-in-Con-clause-value c =
+pub returns-in-Con-clause-gives : goal.returns-in-Con-clause-gives
+returns-in-Con-clause-gives c =
     let t = c.term.new.table in
-    let args = arguments_of (tree_at t.trees c.in_ok-id.id) in
-    then-ok (constant_number (context c.args.table.now.trees c.args.sig.now)) _ _ c.in_ok-id.ensures.tree
-    ∙ ap (constant_number (context c.args.table.now.trees c.args.sig.now)) (sym c.node.ensures.tree ∙ ap (λ n. tree_of t.trees t.texts n args) c.in-Con.is)
-
-pub returns-in_default : goal.returns-in_default
-returns-in_default c =
-    let t = c.term.new.table in
-    let args = arguments_of (tree_at t.trees c.in_ok-id.id) in
     record {
-      value = tt;
-      fault = λ h. then-ok (constant_number (context c.args.table.now.trees c.args.sig.now)) _ _ c.in_ok-id.ensures.tree
-          ∙ ap (constant_number (context c.args.table.now.trees c.args.sig.now)) (sym c.node.ensures.tree)
-          ∙ other_number (context c.args.table.now.trees c.args.sig.now) t.trees t.texts c.node.result args c.in_default.not-Con;
-      grows = c.in_ok-id.ensures.grows;
-      grown = c.in_ok-id.ensures.grown;
+      live = tt;
+      is = then-ok constant_number _ _ c.in_ok-id.ensures.gives.is ∙ ap constant_number (sym c.node.ensures.tree ∙ ap (λ n. tree_of t.trees t.texts n (arguments_of (tree_in t c.in_ok-id.id))) c.in-Con.is);
     }
+
+pub returns-in_default-clause-gives : goal.returns-in_default-clause-gives
+returns-in_default-clause-gives c =
+    let t = c.term.new.table in
+    then-ok constant_number _ _ c.in_ok-id.ensures.gives.is ∙ ap constant_number (sym c.node.ensures.tree)
+    ∙ other_number t.trees t.texts c.node.result (arguments_of (tree_in t c.in_ok-id.id)) c.in_default.not-Con

@@ -3,7 +3,7 @@ use Rattle.std.specs.Prelude.{Some, option_map, false}
 use Rattle.std.specs.Option.{option_map_or}
 use Rattle.eo_sig.specs.Reading.{read_named}
 use Rattle.eo_elab.specs.Declarations.{is_named_by_reference}
-use Rattle.eo_elab.specs.Walk.{context}
+use Rattle.eo_names.specs.Ready.{context}
 use Rattle.eo_elab.proofs.constants.is_reference_name.Goals as goal
 
 pub returns-in-Some-Constant : goal.returns-in-Some-Constant

@@ -1,83 +1,61 @@
-use Rattle.std.proofs.Common.{◌≡◌, ℕ, ◌<◌, ◌+◌, ◌++◌, [], ◌∷◌, length, map, drop, All, arith, rules, ap, sym, subst, ◌∙◌}
-use Rattle.std.specs.Prelude.{Ok, Err}
-use Rattle.std.proofs.lemmas.List.{at_drop_more, at_drop_all, map-append}
-use Rattle.std.proofs.lemmas.List.Elements.{All-append}
-use Rattle.std.proofs.lemmas.Result.{err_from_is_err_and}
-use Rattle.eo_sexp.specs.Owned.{owned}
-use Rattle.eo_term.proofs.Grown.{grows_refl}
-use Rattle.eo_term.specs.Terms.{tree_at}
-use Rattle.eo_elab.specs.Declarations.{meanings}
-use Rattle.eo_elab.specs.Meaning.{meaning}
-use Rattle.eo_elab.specs.Names.{read_locals}
-use Rattle.eo_elab.specs.Refused.{fault_of}
-use Rattle.eo_elab.specs.Walk.{context}
-use Rattle.eo_elab.proofs.BoundLemmas.{keeps-grown}
-use Rattle.eo_elab.proofs.ConstantLemmas.{behind, behind-none, meanings-next, meanings-refused, meanings-end, trees-grown, ids-more}
+use Rattle.std.proofs.Common.{◌≡◌, ◌<◌, ◌++◌, [], ◌∷◌, length, All, refl, rules, ap, sym, subst, ◌∙◌}
+use Rattle.std.specs.Prelude.{Ok}
+use Rattle.std.proofs.lemmas.List.Elements.{All-nil}
+use Rattle.eo_base.proofs.Answering.{fails}
+use Rattle.eo_term.specs.Growth.{tree_in, trees_in}
+use Rattle.eo_term.proofs.Growing.{grows_on_refl}
+use Rattle.eo_names.specs.Worlds.{World, world_of}
+use Rattle.eo_elab.specs.Worlds.{meaning_in, meanings_in}
+use Rattle.eo_elab.proofs.ConstantLemmas.{behind, behind-none, meanings-next, meanings-refused, meanings-end}
+use Rattle.eo_elab.proofs.Giving.{same_world_of, still_ready_of}
+use Rattle.eo_names.proofs.JoinLemmas.{push_grown, push_live}
 use Rattle.eo_elab.proofs.constants.meanings.Goals as goal
 
 pub loop-s-init : goal.loop-s-init
 loop-s-init c =
-    let ts = c.args.table.now.trees in
-    let all = meanings (context ts c.args.sig.now) (read_locals ts c.args.locals.now) (map owned c.args.terms.now) in
+    let t = c.args.table.now in
+    let w = world_of t c.args.sig.now c.args.locals.now in
+    let left = c.into_iter-s-iterator.result in
+    let all : left ≡ c.args.terms.now = cc in
     record {
-      live = subst (All (λ (i : ℕ). i < length ts)) (sym c.in_ok-ids.ensures) (search rules);
-      ready = c.requires.ready;
-      grows = grows_refl c.args.table.now;
-      grown = λ t g. g;
-      trees = ap (λ ids. behind (map (tree_at ts) ids) all) c.in_ok-ids.ensures ∙ behind-none all;
+      left = sym (ap (λ ids. behind (trees_in t ids) (meanings_in w left)) c.in_ok-ids.ensures ∙ behind-none (meanings_in w left) ∙ ap (meanings_in w) all);
+      live = subst (All (λ i. i < length t.trees)) (sym c.in_ok-ids.ensures) (All-nil (λ i. i < length t.trees));
+      grows = grows_on_refl t;
     }
 
-pub returns-in_err-id-clause-fault : goal.returns-in_err-id-clause-fault
-returns-in_err-id-clause-fault c =
-    let e = err_from_is_err_and c.from_residual-in_err-id.result c.from_residual-in_err-id.ensures.1 in
-    rw (e.1, e.2) (λ h.
-    let ts = c.args.table.now.trees in
-    let l = c.loop-s in
-    let k = c.args.sig.now in
-    let ls = c.args.locals.now in
-    let kept = keeps-grown k ls c.args.table.now l.table c.requires.ready l.invariant.grows in
-    let before = map (tree_at l.table.trees) l.ids in
-    let known : meaning (context ts k) (read_locals ts ls) (owned c.s-item.result) ≡ Err (fault_of _) = (λ i. meaning (sym kept.context i) (sym kept.names i) (owned c.s-item.result)) ∙ c.in_err-id.ensures.fault h in
-    sym l.invariant.trees
-    ∙ at_drop_more (λ xs. behind before (meanings (context ts k) (read_locals ts ls) (map owned xs))) c.args.terms.now l.s-index c.s-item.result c.loop-s-test.true
-    ∙ ap (λ x. behind before (meanings (context ts k) (read_locals ts ls) (owned x ∷ map owned (drop (l.s-index + 1) c.args.terms.now)))) (sym c.s-item.is)
-    ∙ meanings-refused (context ts k) (read_locals ts ls) before (owned c.s-item.result) (map owned (drop (l.s-index + 1) c.args.terms.now)) (fault_of _) known)
+pub term-requires : goal.term-requires
+term-requires c = record { ready = still_ready_of c.args.sig.now c.args.locals.now c.args.table.now c.loop-s.table c.requires.ready c.loop-s.invariant.grows }
+
+pub returns-in_err-id-clause-gives : goal.returns-in_err-id-clause-gives
+returns-in_err-id-clause-gives c =
+    let w = world_of c.args.table.now c.args.sig.now c.args.locals.now in
+    let same = same_world_of c.args.sig.now c.args.locals.now c.args.table.now c.loop-s.table c.requires.ready c.loop-s.invariant.grows in
+    let done = trees_in c.loop-s.table c.loop-s.ids in
+    let s = c.in-Some.s in
+    let step = c.loop-s.invariant.left ∙ ap (λ ss. behind done (meanings_in w ss)) c.in-Some.ensures.steps in
+    fails _ _ _ _ _ _ _ c.from_residual-in_err-id.ensures.1 (λ f e. step ∙ meanings-refused w.names w.locals done s c.next.new.self f (ap (λ (u : World). meaning_in u s) (sym same) ∙ e)) c.in_err-id.ensures.gives
 
 pub loop-s-preserved : goal.loop-s-preserved
 loop-s-preserved c =
-    let ts = c.args.table.now.trees in
-    let l = c.loop-s in
-    let k = c.args.sig.now in
-    let ls = c.args.locals.now in
+    let w = world_of c.args.table.now c.args.sig.now c.args.locals.now in
+    let same = same_world_of c.args.sig.now c.args.locals.now c.args.table.now c.loop-s.table c.requires.ready c.loop-s.invariant.grows in
+    let now = c.loop-s.table in
     let new = c.term.new.table in
-    let t = tree_at new.trees c.in_ok-id.id in
-    let kept = keeps-grown k ls c.args.table.now l.table c.requires.ready l.invariant.grows in
-    let before = map (tree_at l.table.trees) l.ids in
-    let rest = map owned (drop (l.s-index + 1) c.args.terms.now) in
-    let grows = c.in_ok-id.ensures.grows in
-    let known : meaning (context ts k) (read_locals ts ls) (owned c.s-item.result) ≡ Ok t = (λ i. meaning (sym kept.context i) (sym kept.names i) (owned c.s-item.result)) ∙ c.in_ok-id.ensures.tree in
-    let read : map (tree_at new.trees) c.push.new.self ≡ before ++ t ∷ [] =
-    ap (map (tree_at new.trees)) c.in_ok-push.ensures.pushed ∙ map-append (tree_at new.trees) l.ids (c.in_ok-id.id ∷ []) ∙ ap (λ us. us ++ t ∷ []) (trees-grown (length l.table.trees) l.table.trees new.trees l.ids grows.tree l.invariant.live) in
+    let done = trees_in now c.loop-s.ids in
+    let s = c.in-Some.s in
+    let id = c.in_ok-id.id in
+    let step = c.loop-s.invariant.left ∙ ap (λ ss. behind done (meanings_in w ss)) c.in-Some.ensures.steps in
+    let own : meaning_in w s ≡ Ok (tree_in new id) = ap (λ (u : World). meaning_in u s) (sym same) ∙ c.in_ok-id.ensures.gives.is in
+    let more : trees_in new c.push.new.self ≡ done ++ tree_in new id ∷ [] =
+    ap (trees_in new) c.in_ok-push.ensures.pushed ∙ push_grown (length now.trees) now.trees new.trees c.term.ensures.grows.now.tree c.loop-s.ids id (tree_in new id) c.loop-s.invariant.live refl in
     record {
-      live = subst (All (λ (i : ℕ). i < length new.trees)) (sym c.in_ok-push.ensures.pushed)
-          (All-append (λ (i : ℕ). i < length new.trees) l.ids (c.in_ok-id.id ∷ []) (ids-more (length l.table.trees) (length new.trees) l.ids grows.more_trees l.invariant.live) (search rules));
-      ready = c.in_ok-id.ensures.keeps.ready;
-      grows = c.in_ok-id.ensures.grown c.args.table.now l.invariant.grows;
-      grown = λ u g. c.in_ok-id.ensures.grown u (l.invariant.grown u g);
-      trees = ap (λ us. behind us (meanings (context ts k) (read_locals ts ls) rest)) read
-          ∙ meanings-next (context ts k) (read_locals ts ls) before (owned c.s-item.result) rest t known
-          ∙ ap (λ x. behind before (meanings (context ts k) (read_locals ts ls) (owned x ∷ rest))) c.s-item.is
-          ∙ sym (at_drop_more (λ xs. behind before (meanings (context ts k) (read_locals ts ls) (map owned xs))) c.args.terms.now l.s-index c.s-item.result c.loop-s-test.true)
-          ∙ l.invariant.trees;
+      left = step ∙ sym (meanings-next w.names w.locals done s c.next.new.self (tree_in new id) own) ∙ ap (λ us. behind us (meanings_in w c.next.new.self)) (sym more);
+      live = subst (All (λ i. i < length new.trees)) (sym c.in_ok-push.ensures.pushed) (push_live (length now.trees) (length new.trees) id c.loop-s.ids c.term.ensures.grows.now.more_trees c.in_ok-id.ensures.gives.live c.loop-s.invariant.live);
+      grows = search rules;
     }
 
-pub returns-clause-value : goal.returns-clause-value
-returns-clause-value c =
-    let ts = c.args.table.now.trees in
-    let l = c.loop-s in
-    let k = c.args.sig.now in
-    let ls = c.args.locals.now in
-    let before = map (tree_at l.table.trees) l.ids in
-    sym l.invariant.trees
-    ∙ at_drop_all (λ xs. behind before (meanings (context ts k) (read_locals ts ls) (map owned xs))) c.args.terms.now l.s-index (omega (arith, c.loop-s-test.false))
-    ∙ meanings-end (context ts k) (read_locals ts ls) before
+pub returns-clause-gives : goal.returns-clause-gives
+returns-clause-gives c =
+    let w = world_of c.args.table.now c.args.sig.now c.args.locals.now in
+    let done = trees_in c.loop-s.table c.loop-s.ids in
+    record { live = c.loop-s.invariant.live; is = c.loop-s.invariant.left ∙ ap (λ ss. behind done (meanings_in w ss)) c.in-None.ensures.steps.0 ∙ meanings-end w.names w.locals done }

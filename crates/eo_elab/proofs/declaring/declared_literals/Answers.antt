@@ -1,15 +1,16 @@
-use Rattle.std.proofs.Common.{◌≡◌, ◌∷◌, [], Bool, true, false, Option, Some, None, ap, sym, ◌∙◌, refl}
+use Rattle.std.proofs.Common.{◌≡◌, ◌∷◌, [], Bool, true, false, Option, Some, None, ap, sym, subst, ◌∙◌, refl}
 use Rattle.std.specs.Prelude.{codes, option_map, is_none, is_some}
 use Rattle.eo_base.specs.declared.FaultName.TheVariants.{Redeclared}
-use Rattle.eo_sexp.specs.Owned.{owned}
 use Rattle.eo_term.specs.Terms.{tree_at}
 use Rattle.eo_elab.specs.Declarations.{declared_literals, self}
-use Rattle.eo_elab.specs.Meaning.{Local, meaning}
-use Rattle.eo_elab.specs.Names.{local, read_locals}
-use Rattle.eo_elab.specs.Walk.{context}
-use Rattle.eo_elab.proofs.BoundLemmas.{keeps-grown}
+use Rattle.eo_names.specs.Gives.{GivesTree}
+use Rattle.eo_elab.specs.Meaning.{meaning}
+use Rattle.eo_names.specs.Names.{local, read_locals}
+use Rattle.eo_elab.specs.Worlds.{context_in}
 use Rattle.eo_elab.proofs.CheckedLemmas.{require-yes, require-no}
-use Rattle.eo_elab.proofs.PlainLemmas.{linked-value, linked-fault}
+use Rattle.eo_elab.proofs.Giving.{same_context}
+use Rattle.eo_names.proofs.Outcomes.{ok_always}
+use Rattle.eo_sig.proofs.Growing.{grows_under}
 use Rattle.eo_elab.proofs.declaring.declared_literals.Goals as goal
 
 mapped-none : {A B : Type 0} (f : A → B) (o : Option A) (b : Bool) → b ≡ is_some o → b ≡ true → is_none (option_map f o) ≡ false
@@ -20,34 +21,35 @@ mapped-some : {A B : Type 0} (f : A → B) (o : Option A) (b : Bool) → b ≡ i
 mapped-some f None b e t = refl
 mapped-some f (Some x) b e t = sym t ∙ e
 
-pub returns-then-is_some-clause-fault : goal.returns-then-is_some-clause-fault
+pub returns-then-is_some-clause-gives : goal.returns-then-is_some-clause-gives
 unfolding declared_literals
-returns-then-is_some-clause-fault c = λ h.
+returns-then-is_some-clause-gives c =
     let ts = c.args.table.now.trees in
     require-no _ Redeclared _ (ap is_none (sym (c.literal_type.ensures.value ts)) ∙ mapped-none (tree_at ts) c.literal_type.result c.is_some.result c.is_some.ensures c.if-is_some.true)
 
-pub returns-clause-value : goal.returns-clause-value
+pub returns-clause-gives : goal.returns-clause-gives
 unfolding declared_literals
-returns-clause-value c =
-    let ts = c.args.table.now.trees in
-    let us = c.parameter.new.table.trees in
+returns-clause-gives c =
+    let t = c.args.table.now in
+    let us = c.parameter.new.table in
     let k = c.args.sig.now in
-    let x = context ts k in
-    let kept = keeps-grown k [] c.args.table.now c.parameter.new.table c.requires.ready c.in_ok-literal.ensures.grows in
-    let one : read_locals us c.add.new.self ≡ self x = ap (read_locals us) (c.in_ok-add.ensures.added ∙ ap (λ ls. local (codes "eo::self") c.in_ok-literal.literal false ∷ ls) c.in_ok-names.ensures) ∙ (λ i. record { name = codes "eo::self"; tree = c.in_ok-literal.ensures.tree i; list = false } ∷ []) in
-    let link = require-yes _ Redeclared _ (ap is_none (sym (c.literal_type.ensures.value ts)) ∙ mapped-some (tree_at ts) c.literal_type.result c.is_some.result c.is_some.ensures c.if-is_some.false)
-    ∙ (λ i. meaning (sym kept.context i) (sym one i) (owned c.args.ty.now)) in
-    linked-value c.term.result (declared_literals x c.args.class (owned c.args.ty.now)) _ link (tree_at c.term.new.table.trees) c.term.ensures.tree
+    let x = context_in t k in
+    let same = same_context k t us c.requires c.in_ok-literal.ensures.grows in
+    let one : read_locals us.trees c.add.new.self ≡ self x = ap (read_locals us.trees) (c.in_ok-add.ensures.added ∙ ap (λ ls. local (codes "eo::self") c.in_ok-literal.literal false ∷ ls) c.in_ok-names.ensures) ∙ (λ i. record { name = codes "eo::self"; tree = c.in_ok-literal.ensures.makes.tree i; list = false } ∷ []) in
+    let link = require-yes _ Redeclared _ (ap is_none (sym (c.literal_type.ensures.value t.trees)) ∙ mapped-some (tree_at t.trees) c.literal_type.result c.is_some.result c.is_some.ensures c.if-is_some.false)
+    ∙ (λ i. meaning (sym same i) (sym one i) c.args.ty.now) in
+    subst (GivesTree c.term.new.table c.term.result) (sym link) c.term.ensures.gives
 
-pub returns-clause-fault : goal.returns-clause-fault
-unfolding declared_literals
-returns-clause-fault c =
+pub returns-in_err-literal-clause-grows : goal.returns-in_err-literal-clause-grows
+returns-in_err-literal-clause-grows c = grows_under c.args.sig.now c.args.table.now c.parameter.new.table c.requires c.in_err-literal.ensures.grows
+
+pub returns-in_err-names-clause-grows : goal.returns-in_err-names-clause-grows
+returns-in_err-names-clause-grows c = grows_under c.args.sig.now c.args.table.now c.parameter.new.table c.requires c.in_ok-literal.ensures.grows
+
+pub returns-in_err-add-clause-grows : goal.returns-in_err-add-clause-grows
+returns-in_err-add-clause-grows c = grows_under c.args.sig.now c.args.table.now c.parameter.new.table c.requires c.in_ok-literal.ensures.grows
+
+pub returns-clause-may : goal.returns-clause-may
+returns-clause-may c =
     let ts = c.args.table.now.trees in
-    let us = c.parameter.new.table.trees in
-    let k = c.args.sig.now in
-    let x = context ts k in
-    let kept = keeps-grown k [] c.args.table.now c.parameter.new.table c.requires.ready c.in_ok-literal.ensures.grows in
-    let one : read_locals us c.add.new.self ≡ self x = ap (read_locals us) (c.in_ok-add.ensures.added ∙ ap (λ ls. local (codes "eo::self") c.in_ok-literal.literal false ∷ ls) c.in_ok-names.ensures) ∙ (λ i. record { name = codes "eo::self"; tree = c.in_ok-literal.ensures.tree i; list = false } ∷ []) in
-    let link = require-yes _ Redeclared _ (ap is_none (sym (c.literal_type.ensures.value ts)) ∙ mapped-some (tree_at ts) c.literal_type.result c.is_some.result c.is_some.ensures c.if-is_some.false)
-    ∙ (λ i. meaning (sym kept.context i) (sym one i) (owned c.args.ty.now)) in
-    linked-fault c.term.result (declared_literals x c.args.class (owned c.args.ty.now)) _ link c.term.ensures.fault
+    ok_always _ c.term.result (λ x. ap is_none (sym (c.literal_type.ensures.value ts)) ∙ mapped-some (tree_at ts) c.literal_type.result c.is_some.result c.is_some.ensures c.if-is_some.false)

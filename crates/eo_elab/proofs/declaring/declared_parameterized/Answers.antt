@@ -1,91 +1,90 @@
-use Rattle.std.proofs.Common.{◌≡◌, ◌<◌, ◌≤◌, [], length, map, false, arith, ap, sym, ◌∙◌}
-use Rattle.std.specs.Prelude.{Ok, Err}
-use Rattle.std.proofs.lemmas.Result.{err_from_is_err_and}
+use Rattle.std.proofs.Common.{◌<◌, ◌≤◌, ◌||◌, length, false, arith, ap, sym, ◌∙◌, rules}
+use Rattle.std.specs.Prelude.{Ok}
 use Rattle.eo_base.specs.declared.FaultName.TheVariants.{Redeclared}
 use Rattle.eo_base.specs.Checks.{Checked}
 use Rattle.eo_base.specs.Limits.{parameters_limit}
-use Rattle.eo_sexp.specs.Owned.{owned}
+use Rattle.eo_base.proofs.Answering.{fails}
 use Rattle.eo_shape.specs.Reading as forms
-use Rattle.eo_sig.specs.Reading.{read_parameter, read_attribute}
+use Rattle.eo_sig.specs.Reading.{read_attribute}
 use Rattle.eo_sig.specs.Signature.{Attribute, Constant}
-use Rattle.eo_term.specs.Terms.{tree_at}
+use Rattle.eo_term.specs.Growth.{tree_in}
 use Rattle.eo_term.specs.Tree.{Tree}
-use Rattle.eo_elab.specs.Declarations.{bind, unbound, declared_parameterized, constant}
-use Rattle.eo_elab.specs.Declaring.{read_bound, read_typed, typed_over}
-use Rattle.eo_elab.specs.Walk.{context}
-use Rattle.eo_elab.proofs.BoundLemmas.{keeps-grown, parameters-grown}
+use Rattle.eo_elab.specs.Declarations.{declared_parameterized, constant, is_free_name, is_reference_name}
+use Rattle.eo_elab.specs.Declaring.{read_bound, typed_over}
+use Rattle.eo_elab.specs.Worlds.{context_in}
+use Rattle.eo_elab.proofs.BoundLemmas.{parameters-grown, parameters-more}
 use Rattle.eo_elab.proofs.CheckedLemmas.{then-ok, then-err, require-no}
 use Rattle.eo_elab.proofs.DeclaringLemmas.{parameterized-many, parameterized-unbound, parameterized-over}
+use Rattle.eo_elab.proofs.Giving.{same_context}
+use Rattle.eo_sig.proofs.Growing.{grows_under}
 use Rattle.eo_elab.proofs.declaring.declared_parameterized.Goals as goal
 
-pub returns-then-not-is_free-clause-fault : goal.returns-then-not-is_free-clause-fault
+pub returns-then-not-is_free-clause-gives : goal.returns-then-not-is_free-clause-gives
 unfolding declared_parameterized
-returns-then-not-is_free-clause-fault c = λ h.
-    require-no _ Redeclared _ (sym (c.is_free.ensures c.args.table.now.trees) ∙ c.if-not-is_free.true)
+returns-then-not-is_free-clause-gives c = require-no _ Redeclared _ (sym (c.is_free.ensures c.args.table.now.trees) ∙ c.if-not-is_free.true)
 
-pub returns-then-len-gt-PARAMETERS-clause-fault : goal.returns-then-len-gt-PARAMETERS-clause-fault
-returns-then-len-gt-PARAMETERS-clause-fault c = λ h.
-    let ts = c.args.table.now.trees in
-    let k = c.args.sig.now in
-    let x = context ts k in
-    let shapes = c.args.params.now in
-    let type = owned c.args.ty.now in
-    let shape = forms.read_attribute c.args.shape.now in
-    let free = sym (c.is_free.ensures ts) ∙ c.if-not-is_free.false in
-    let many : parameters_limit < length shapes = omega (arith, c.len.ensures, c.if-len-gt-PARAMETERS.true) in
-    parameterized-many x c.args.name.now shapes type shape free many
+pub returns-then-len-gt-PARAMETERS-clause-gives : goal.returns-then-len-gt-PARAMETERS-clause-gives
+returns-then-len-gt-PARAMETERS-clause-gives c =
+    let t = c.args.table.now in
+    let many : parameters_limit < length c.args.params.now = omega (arith, c.len.ensures, c.if-len-gt-PARAMETERS.true) in
+    parameterized-many (context_in t c.args.sig.now) c.args.name.now c.args.params.now c.args.ty.now (forms.read_attribute c.args.attribute.now) (sym (c.is_free.ensures t.trees) ∙ c.if-not-is_free.false) many
 
-pub returns-in_err-bound-clause-fault : goal.returns-in_err-bound-clause-fault
-returns-in_err-bound-clause-fault c =
-    let e = err_from_is_err_and c.from_residual.result c.from_residual.ensures.1 in
-    rw (e.1, e.2) (λ h.
-    let ts = c.args.table.now.trees in
-    let k = c.args.sig.now in
-    let x = context ts k in
-    let shapes = c.args.params.now in
-    let type = owned c.args.ty.now in
-    let shape = forms.read_attribute c.args.shape.now in
-    let free = sym (c.is_free.ensures ts) ∙ c.if-not-is_free.false in
-    let few : length shapes ≤ parameters_limit = omega (arith, c.len.ensures, c.if-len-gt-PARAMETERS.false) in
-    parameterized-unbound x c.args.name.now shapes type shape _ free few (c.in_err-bound.ensures.fault h))
+pub returns-in_err-bound-clause-gives : goal.returns-in_err-bound-clause-gives
+returns-in_err-bound-clause-gives c =
+    let t = c.args.table.now in
+    let few : length c.args.params.now ≤ parameters_limit = omega (arith, c.len.ensures, c.if-len-gt-PARAMETERS.false) in
+    fails _ _ _ _ _ _ _ c.from_residual.ensures.1
+    (λ f e. parameterized-unbound (context_in t c.args.sig.now) c.args.name.now c.args.params.now c.args.ty.now (forms.read_attribute c.args.attribute.now) f (sym (c.is_free.ensures t.trees) ∙ c.if-not-is_free.false) few e) c.in_err-bound.ensures.gives
 
-pub returns-in_err-ty-clause-fault : goal.returns-in_err-ty-clause-fault
-returns-in_err-ty-clause-fault c =
-    let e = err_from_is_err_and c.from_residual-in_err-ty.result c.from_residual-in_err-ty.ensures.1 in
-    rw (e.1, e.2) (λ h.
-    let ts = c.args.table.now.trees in
-    let k = c.args.sig.now in
-    let x = context ts k in
-    let shapes = c.args.params.now in
-    let type = owned c.args.ty.now in
-    let shape = forms.read_attribute c.args.shape.now in
-    let free = sym (c.is_free.ensures ts) ∙ c.if-not-is_free.false in
-    let few : length shapes ≤ parameters_limit = omega (arith, c.len.ensures, c.if-len-gt-PARAMETERS.false) in
-    let us = c.bind.new.table.trees in
-    let kept = keeps-grown k [] c.args.table.now c.bind.new.table c.requires.ready c.in_ok-bound.ensures.grows in
-    let b = read_bound us c.in_ok-bound.bound in
+pub returns-in_err-ty-clause-gives : goal.returns-in_err-ty-clause-gives
+returns-in_err-ty-clause-gives c =
+    let t = c.args.table.now in
+    let us = c.bind.new.table in
+    let x = context_in t c.args.sig.now in
+    let shape = forms.read_attribute c.args.attribute.now in
+    let few : length c.args.params.now ≤ parameters_limit = omega (arith, c.len.ensures, c.if-len-gt-PARAMETERS.false) in
+    let b = read_bound us.trees c.in_ok-bound.bound in
+    let same = same_context c.args.sig.now t us c.requires c.in_ok-bound.ensures.grows in
     let made : Tree × Attribute → Checked Constant = λ r. Ok (constant x c.args.name.now b.parameters r.0 r.1) in
-    let parts = parameterized-over x c.args.name.now shapes type shape b free few c.in_ok-bound.ensures.bound in
-    parts ∙ then-err made (typed_over x b type shape) _ ((λ i. typed_over (sym kept.context i) b type shape) ∙ c.in_err-ty.ensures.fault h))
+    let parts = parameterized-over x c.args.name.now c.args.params.now c.args.ty.now shape b (sym (c.is_free.ensures t.trees) ∙ c.if-not-is_free.false) few c.in_ok-bound.ensures.gives.is in
+    fails _ _ _ _ _ _ _ c.from_residual-in_err-ty.ensures.1
+    (λ f e. parts ∙ then-err made (typed_over x b c.args.ty.now shape) f (ap (λ y. typed_over y b c.args.ty.now shape) (sym same) ∙ e)) c.in_err-ty.ensures.gives
 
-pub returns-clause-value : goal.returns-clause-value
-returns-clause-value c =
-    let ts = c.args.table.now.trees in
-    let k = c.args.sig.now in
-    let x = context ts k in
-    let shapes = c.args.params.now in
-    let type = owned c.args.ty.now in
-    let shape = forms.read_attribute c.args.shape.now in
-    let free = sym (c.is_free.ensures ts) ∙ c.if-not-is_free.false in
-    let few : length shapes ≤ parameters_limit = omega (arith, c.len.ensures, c.if-len-gt-PARAMETERS.false) in
-    let us = c.bind.new.table.trees in
-    let kept = keeps-grown k [] c.args.table.now c.bind.new.table c.requires.ready c.in_ok-bound.ensures.grows in
-    let b = read_bound us c.in_ok-bound.bound in
+pub returns-clause-gives : goal.returns-clause-gives
+returns-clause-gives c =
+    let t = c.args.table.now in
+    let us = c.bind.new.table in
+    let vs = c.typed_over.new.table in
+    let x = context_in t c.args.sig.now in
+    let shape = forms.read_attribute c.args.attribute.now in
+    let few : length c.args.params.now ≤ parameters_limit = omega (arith, c.len.ensures, c.if-len-gt-PARAMETERS.false) in
+    let b = read_bound us.trees c.in_ok-bound.bound in
+    let same = same_context c.args.sig.now t us c.requires c.in_ok-bound.ensures.grows in
     let made : Tree × Attribute → Checked Constant = λ r. Ok (constant x c.args.name.now b.parameters r.0 r.1) in
-    let parts = parameterized-over x c.args.name.now shapes type shape b free few c.in_ok-bound.ensures.bound in
-    let vs = c.typed_over.new.table.trees in
-    let t = tree_at vs c.in_ok-ty.ty in
-    let a = read_attribute vs c.in_ok-ty.attribute in
-    let params = parameters-grown (length us) us vs c.in_ok-bound.bound.params c.in_ok-ty.ensures.grows.tree c.in_ok-bound.ensures.below in
-    parts ∙ then-ok made (typed_over x b type shape) (t, a) ((λ i. typed_over (sym kept.context i) b type shape) ∙ c.in_ok-ty.ensures.value)
-    ∙ (λ i. Ok (record { name = sym c.in_ok-new.ensures i; parameters = sym params i; type = t; attribute = a; from_reference = false }))
+    let parts = parameterized-over x c.args.name.now c.args.params.now c.args.ty.now shape b (sym (c.is_free.ensures t.trees) ∙ c.if-not-is_free.false) few c.in_ok-bound.ensures.gives.is in
+    let type = tree_in vs c.in_ok-ty.ty in
+    let a = read_attribute vs.trees c.in_ok-ty.attribute in
+    let params = parameters-grown (length us.trees) us.trees vs.trees c.in_ok-bound.bound.params c.in_ok-ty.ensures.grows.now.tree c.in_ok-bound.ensures.gives.live.params in
+    record {
+      live = record { params = parameters-more (length us.trees) (length vs.trees) c.in_ok-bound.bound.params c.in_ok-ty.ensures.grows.now.more_trees c.in_ok-bound.ensures.gives.live.params; type = c.in_ok-ty.ensures.gives.live.type; attribute = c.in_ok-ty.ensures.gives.live.attribute };
+      is = parts ∙ then-ok made (typed_over x b c.args.ty.now shape) (type, a) (ap (λ y. typed_over y b c.args.ty.now shape) (sym same) ∙ c.in_ok-ty.ensures.gives.is)
+          ∙ (λ i. Ok (record { name = sym c.in_ok-new.ensures i; parameters = sym params i; type = type; attribute = a; from_reference = false }));
+    }
+
+pub returns-in_err-bound-clause-grows : goal.returns-in_err-bound-clause-grows
+returns-in_err-bound-clause-grows c = grows_under c.args.sig.now c.args.table.now c.bind.new.table c.requires c.in_err-bound.ensures.grows
+
+pub returns-in_err-ty-clause-grows : goal.returns-in_err-ty-clause-grows
+returns-in_err-ty-clause-grows c = grows_under c.args.sig.now c.args.table.now c.typed_over.new.table c.requires (search rules)
+
+pub returns-in_err-new-clause-grows : goal.returns-in_err-new-clause-grows
+returns-in_err-new-clause-grows c = grows_under c.args.sig.now c.args.table.now c.typed_over.new.table c.requires (search rules)
+
+pub returns-clause-named : goal.returns-clause-named
+returns-clause-named c =
+    let t = c.args.table.now in
+    let x = context_in t c.args.sig.now in
+    ap (λ b. b || is_reference_name x c.in_ok-new.field-0) (ap (is_free_name x) c.in_ok-new.ensures ∙ sym (c.is_free.ensures t.trees) ∙ c.if-not-is_free.false)
+
+pub returns-clause-grows : goal.returns-clause-grows
+returns-clause-grows c = grows_under c.args.sig.now c.args.table.now c.typed_over.new.table c.requires (search rules)

@@ -1,32 +1,27 @@
-use Rattle.std.proofs.Common.{ap, sym, ◌∙◌}
+use Rattle.std.proofs.Common.{ap, sym, subst, ◌∙◌}
 use Rattle.eo_base.specs.declared.FaultName.TheVariants.{Redeclared}
 use Rattle.eo_sig.specs.Signature.{Plain}
-use Rattle.eo_term.specs.Terms.{tree_at}
 use Rattle.eo_elab.specs.Declarations.{declared_sort, plain_constant}
-use Rattle.eo_elab.specs.Walk.{context}
+use Rattle.eo_elab.specs.Gives.{GivesConstant}
+use Rattle.eo_elab.specs.Worlds.{context_in}
 use Rattle.eo_elab.proofs.CheckedLemmas.{require-yes, require-no}
-use Rattle.eo_elab.proofs.PlainLemmas.{plain-value, plain-fault}
+use Rattle.eo_sig.proofs.Growing.{grows_under}
 use Rattle.eo_elab.proofs.declaring.declared_sort.Goals as goal
 
-pub returns-then-not-may_declare-clause-fault : goal.returns-then-not-may_declare-clause-fault
+pub returns-then-not-may_declare-clause-gives : goal.returns-then-not-may_declare-clause-gives
 unfolding declared_sort
-returns-then-not-may_declare-clause-fault c = λ h.
-    require-no _ Redeclared _ (sym (c.may_declare.ensures c.args.table.now.trees) ∙ c.if-not-may_declare.true)
+returns-then-not-may_declare-clause-gives c = require-no _ Redeclared _ (sym (c.may_declare.ensures c.args.table.now.trees) ∙ c.if-not-may_declare.true)
 
-pub returns-clause-value : goal.returns-clause-value
+pub returns-clause-gives : goal.returns-clause-gives
 unfolding declared_sort
-returns-clause-value c =
-    let ts = c.args.table.now.trees in
-    let us = c.sort_type.new.table.trees in
+returns-clause-gives c =
+    let t = c.args.table.now in
     let k = c.args.sig.now in
-    let link = require-yes _ Redeclared _ (sym (c.may_declare.ensures ts) ∙ c.if-not-may_declare.false) ∙ ap (λ t. plain_constant (context ts k) c.args.name.now t Plain) (sym (c.in_ok-ty.ensures.tree k)) in
-    plain-value c.plain_constant.result ts k c.args.name.now (tree_at us c.in_ok-ty.ty) Plain (declared_sort (context ts k) c.args.name.now c.args.arity) link us c.plain_constant.ensures.value
+    let link = require-yes _ Redeclared _ (sym (c.may_declare.ensures t.trees) ∙ c.if-not-may_declare.false) ∙ ap (λ u. plain_constant (context_in t k) c.args.name.now u Plain) (sym c.in_ok-ty.ensures.makes.tree) in
+    subst (GivesConstant c.sort_type.new.table c.plain_constant.result) (sym link) (c.plain_constant.ensures.gives t.trees k)
 
-pub returns-clause-fault : goal.returns-clause-fault
-unfolding declared_sort
-returns-clause-fault c =
-    let ts = c.args.table.now.trees in
-    let us = c.sort_type.new.table.trees in
-    let k = c.args.sig.now in
-    let link = require-yes _ Redeclared _ (sym (c.may_declare.ensures ts) ∙ c.if-not-may_declare.false) ∙ ap (λ t. plain_constant (context ts k) c.args.name.now t Plain) (sym (c.in_ok-ty.ensures.tree k)) in
-    plain-fault c.plain_constant.result ts k c.args.name.now (tree_at us c.in_ok-ty.ty) Plain (declared_sort (context ts k) c.args.name.now c.args.arity) link c.plain_constant.ensures.fault
+pub returns-in_err-ty-clause-grows : goal.returns-in_err-ty-clause-grows
+returns-in_err-ty-clause-grows c = grows_under c.args.sig.now c.args.table.now c.sort_type.new.table c.requires c.in_err-ty.ensures.grows
+
+pub returns-clause-grows : goal.returns-clause-grows
+returns-clause-grows c = grows_under c.args.sig.now c.args.table.now c.sort_type.new.table c.requires c.in_ok-ty.ensures.grows

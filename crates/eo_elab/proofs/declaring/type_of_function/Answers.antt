@@ -1,104 +1,86 @@
-use Rattle.std.proofs.Common.{◌≡◌, ℕ, ◌<◌, ◌≤◌, ◌++◌, List, [], ◌∷◌, map, length, All, subst, rules, false, arith, ap, sym, ◌∙◌}
-use Rattle.std.specs.Prelude.{Ok, Err}
+use Rattle.std.proofs.Common.{◌≡◌, ℕ, ◌≤◌, ◌<◌, ◌++◌, ◌∷◌, [], length, subst, false, ap, sym, ◌∙◌, All}
+use Rattle.std.specs.Prelude.{Ok}
 use Rattle.std.proofs.lemmas.List.{map-append}
-use Rattle.std.proofs.lemmas.List.Elements.{All-append}
-use Rattle.std.proofs.lemmas.Result.{err_from_is_err_and}
+use Rattle.std.proofs.lemmas.List.Elements.{All-append, All-cons, All-nil}
 use Rattle.eo_base.specs.Limits.{height_limit}
-use Rattle.eo_base.specs.Checks.{◌>>=◌}
-use Rattle.eo_sexp.specs.Owned.{owned}
+use Rattle.eo_base.proofs.Answering.{fails, gives_fault}
+use Rattle.eo_term.specs.Growth.{tree_in, trees_in}
+use Rattle.eo_term.specs.Tree.{is_tall}
 use Rattle.eo_term.specs.Terms.{tree_at}
-use Rattle.eo_term.specs.Tree.{Tree, is_tall}
-use Rattle.eo_elab.specs.Declarations.{meanings, function_type, not_tall}
+use Rattle.eo_elab.specs.Declarations.{function_type}
 use Rattle.eo_elab.specs.Declaring.{type_of_function}
-use Rattle.eo_elab.specs.Meaning.{arrow, meaning}
-use Rattle.eo_elab.specs.Names.{read_locals}
-use Rattle.eo_elab.specs.Refused.{is_memory, fault_of}
-use Rattle.eo_elab.specs.Walk.{context}
-use Rattle.eo_elab.proofs.BoundLemmas.{keeps-grown}
-use Rattle.eo_elab.proofs.CheckedLemmas.{then-ok, then-err}
+use Rattle.eo_names.specs.Folding.{arrow}
+use Rattle.eo_names.specs.Worlds.{World, world_of}
+use Rattle.eo_elab.specs.Worlds.{context_in, meaning_in, meanings_in}
+use Rattle.eo_names.proofs.Giving.{tall_told}
 use Rattle.eo_elab.proofs.ConstantLemmas.{trees-grown, ids-more}
-use Rattle.eo_elab.proofs.DeclaringLemmas.{low, high, low-height, arrow-onto, term-fault}
+use Rattle.eo_elab.proofs.DeclaringLemmas.{function-no-inputs, function-no-output, function-whole, arrow-onto, low, high, low-height}
+use Rattle.eo_elab.proofs.Giving.{none_ready, same_world_of, still_ready_of}
 use Rattle.eo_elab.proofs.declaring.type_of_function.Goals as goal
 
-pub returns-in_err-types-clause-fault : goal.returns-in_err-types-clause-fault
-returns-in_err-types-clause-fault c =
-    let e = err_from_is_err_and c.from_residual-in_err-types.result c.from_residual-in_err-types.ensures.1 in
-    rw (e.1, e.2) (λ h.
-    let ts = c.args.table.now.trees in
-    let us = c.meanings.new.table.trees in
-    let k = c.args.sig.now in
-    let x = context ts k in
-    let ins = map owned c.args.inputs.now in
-    let out = owned c.args.output.now in
-    then-err (λ is. meaning x [] out >>= λ t. not_tall (function_type x is t)) (meanings x [] ins) _ (sym (ap (λ ls. meanings x (read_locals ts ls) ins) c.in_ok-none.ensures) ∙ c.in_err-types.ensures.fault h))
+pub meanings-requires : goal.meanings-requires
+meanings-requires c = record { ready = none_ready c.args.sig.now _ _ c.in_ok-none.ensures c.requires }
 
-pub returns-in_err-output-clause-fault : goal.returns-in_err-output-clause-fault
-returns-in_err-output-clause-fault c =
-    let e = err_from_is_err_and c.from_residual-in_err-output.result c.from_residual-in_err-output.ensures.1 in
-    rw (e.1, e.2) (λ h.
-    let ts = c.args.table.now.trees in
-    let us = c.meanings.new.table.trees in
+pub term-requires : goal.term-requires
+term-requires c = record { ready = still_ready_of c.args.sig.now _ c.args.table.now c.meanings.new.table (none_ready c.args.sig.now _ _ c.in_ok-none.ensures c.requires) c.in_ok-types.ensures.grows }
+
+pub returns-in_err-types-clause-gives : goal.returns-in_err-types-clause-gives
+returns-in_err-types-clause-gives c =
+    let x = context_in c.args.table.now c.args.sig.now in
+    let alone : world_of c.args.table.now c.args.sig.now c.in_ok-none.none ≡ record { names = x; locals = [] } = ap (world_of c.args.table.now c.args.sig.now) c.in_ok-none.ensures in
+    fails _ _ _ _ _ _ _ c.from_residual-in_err-types.ensures.1
+    (λ f e. function-no-inputs x c.args.inputs.now c.args.output.now f (ap (λ (u : World). meanings_in u c.args.inputs.now) (sym alone) ∙ e)) c.in_err-types.ensures.gives
+
+pub returns-in_err-output-clause-gives : goal.returns-in_err-output-clause-gives
+returns-in_err-output-clause-gives c =
     let k = c.args.sig.now in
-    let x = context ts k in
-    let ins = map owned c.args.inputs.now in
-    let out = owned c.args.output.now in
-    let kept = keeps-grown k [] c.args.table.now c.meanings.new.table c.requires.ready c.in_ok-types.ensures.grows in
-    let is = map (tree_at us) c.in_ok-types.types in
-    then-ok (λ is. meaning x [] out >>= λ t. not_tall (function_type x is t)) (meanings x [] ins) is (sym (ap (λ ls. meanings x (read_locals ts ls) ins) c.in_ok-none.ensures) ∙ c.in_ok-types.ensures.value)
-    ∙ then-err (λ t. not_tall (function_type x is t)) (meaning x [] out) _
-    ((λ i. meaning (sym kept.context i) (read_locals us (sym c.in_ok-none.ensures i)) out) ∙ c.in_err-output.ensures.fault h))
+    let x = context_in c.args.table.now k in
+    let us = c.meanings.new.table in
+    let alone : world_of c.args.table.now k c.in_ok-none.none ≡ record { names = x; locals = [] } = ap (world_of c.args.table.now k) c.in_ok-none.ensures in
+    let same = same_world_of k c.in_ok-none.none c.args.table.now us (none_ready k _ _ c.in_ok-none.ensures c.requires) c.in_ok-types.ensures.grows in
+    fails _ _ _ _ _ _ _ c.from_residual-in_err-output.ensures.1
+    (λ f e. function-no-output x c.args.inputs.now c.args.output.now (trees_in us c.in_ok-types.types) (ap (λ (u : World). meanings_in u c.args.inputs.now) (sym alone) ∙ c.in_ok-types.ensures.gives.is) f (ap (λ (u : World). meaning_in u c.args.output.now) (sym (same ∙ alone)) ∙ e)) c.in_err-output.ensures.gives
 
 pub function_type-requires-clause-types : goal.function_type-requires-clause-types
 function_type-requires-clause-types c =
-    let us = c.meanings.new.table.trees in
-    let vs = c.term.new.table.trees in
-    let whole = c.as_slice.ensures ∙ c.in_ok-push.ensures.pushed in
-    subst (All (λ (i : ℕ). i < length vs)) (sym whole)
-    (All-append (λ (i : ℕ). i < length vs) c.in_ok-types.types (c.in_ok-output.output ∷ []) (ids-more (length us) (length vs) c.in_ok-types.types c.in_ok-output.ensures.grows.more_trees c.in_ok-types.ensures.live) (search rules))
+    let us = c.meanings.new.table in
+    let vs = c.term.new.table in
+    subst (All (λ i. i < length vs.trees)) (sym (c.as_slice.ensures ∙ c.in_ok-push.ensures.pushed))
+    (All-append (λ i. i < length vs.trees) c.in_ok-types.types (c.in_ok-output.output ∷ []) (ids-more (length us.trees) (length vs.trees) c.in_ok-types.types c.in_ok-output.ensures.grows.now.more_trees c.in_ok-types.ensures.gives.live) (All-cons (λ i. i < length vs.trees) c.in_ok-output.output [] c.in_ok-output.ensures.gives.live (All-nil (λ i. i < length vs.trees))))
 
-pub returns-in_err-made-clause-fault : goal.returns-in_err-made-clause-fault
-returns-in_err-made-clause-fault c =
-    let e = err_from_is_err_and c.from_residual-in_err-made.result c.from_residual-in_err-made.ensures.1 in
-    let ts = c.args.table.now.trees in
-    let us = c.meanings.new.table.trees in
+pub returns-in_err-made-clause-gives : goal.returns-in_err-made-clause-gives
+returns-in_err-made-clause-gives c =
     let k = c.args.sig.now in
-    let x = context ts k in
-    let ins = map owned c.args.inputs.now in
-    let out = owned c.args.output.now in
-    let vs = c.term.new.table.trees in
-    let kept = keeps-grown k [] c.args.table.now c.meanings.new.table c.requires.ready c.in_ok-types.ensures.grows in
-    let is = map (tree_at us) c.in_ok-types.types in
-    let t = tree_at vs c.in_ok-output.output in
-    let parts : type_of_function x ins out ≡ not_tall (function_type x is t) =
-    then-ok (λ is. meaning x [] out >>= λ t. not_tall (function_type x is t)) (meanings x [] ins) is (sym (ap (λ ls. meanings x (read_locals ts ls) ins) c.in_ok-none.ensures) ∙ c.in_ok-types.ensures.value)
-    ∙ then-ok (λ t. not_tall (function_type x is t)) (meaning x [] out) t
-    ((λ i. meaning (sym kept.context i) (read_locals us (sym c.in_ok-none.ensures i)) out) ∙ c.in_ok-output.ensures.tree) in
-    let whole : arrow (map (tree_at vs) c.as_slice.result.now) ≡ function_type x is t =
-    ap (λ js. arrow (map (tree_at vs) js)) (c.as_slice.ensures ∙ c.in_ok-push.ensures.pushed)
-    ∙ ap arrow (map-append (tree_at vs) c.in_ok-types.types (c.in_ok-output.output ∷ []) ∙ ap (λ js. js ++ t ∷ []) (trees-grown (length us) us vs c.in_ok-types.types c.in_ok-output.ensures.grows.tree c.in_ok-types.ensures.live))
-    ∙ arrow-onto x is t in
-    rw (e.1, e.2) (term-fault c.in_err-made.field-0.0 (type_of_function x ins out) (λ tall. parts ∙ high (function_type x is t) (ap is_tall (sym whole) ∙ c.in_err-made.ensures.tall tall)))
+    let x = context_in c.args.table.now k in
+    let us = c.meanings.new.table in
+    let vs = c.term.new.table in
+    let alone : world_of c.args.table.now k c.in_ok-none.none ≡ record { names = x; locals = [] } = ap (world_of c.args.table.now k) c.in_ok-none.ensures in
+    let same = same_world_of k c.in_ok-none.none c.args.table.now us (none_ready k _ _ c.in_ok-none.ensures c.requires) c.in_ok-types.ensures.grows in
+    let is = trees_in us c.in_ok-types.types in
+    let t = tree_in vs c.in_ok-output.output in
+    let parts = function-whole x c.args.inputs.now c.args.output.now is (ap (λ (u : World). meanings_in u c.args.inputs.now) (sym alone) ∙ c.in_ok-types.ensures.gives.is) t (ap (λ (u : World). meaning_in u c.args.output.now) (sym (same ∙ alone)) ∙ c.in_ok-output.ensures.gives.is) in
+    let whole : arrow (trees_in vs c.as_slice.result.now) ≡ function_type is t =
+    ap (λ js. arrow (trees_in vs js)) (c.as_slice.ensures ∙ c.in_ok-push.ensures.pushed)
+    ∙ ap arrow (map-append (tree_at vs.trees) c.in_ok-types.types (c.in_ok-output.output ∷ []) ∙ ap (λ js. js ++ t ∷ []) (trees-grown (length us.trees) us.trees vs.trees c.in_ok-types.types c.in_ok-output.ensures.grows.now.tree c.in_ok-types.ensures.gives.live))
+    ∙ arrow-onto is t in
+    gives_fault _ _ _ _ _ _ c.from_residual-in_err-made.ensures.1
+    (tall_told c.in_err-made.field-0.0 (is_tall (arrow (trees_in vs c.as_slice.result.now))) (type_of_function x c.args.inputs.now c.args.output.now) (λ tall. parts ∙ high (function_type is t) (ap is_tall (sym whole) ∙ tall)) c.in_err-made.ensures.gives)
 
-pub returns-clause-value : goal.returns-clause-value
-returns-clause-value c =
-    let ts = c.args.table.now.trees in
-    let us = c.meanings.new.table.trees in
+pub returns-clause-gives : goal.returns-clause-gives
+returns-clause-gives c =
     let k = c.args.sig.now in
-    let x = context ts k in
-    let ins = map owned c.args.inputs.now in
-    let out = owned c.args.output.now in
-    let vs = c.term.new.table.trees in
-    let kept = keeps-grown k [] c.args.table.now c.meanings.new.table c.requires.ready c.in_ok-types.ensures.grows in
-    let is = map (tree_at us) c.in_ok-types.types in
-    let t = tree_at vs c.in_ok-output.output in
-    let parts : type_of_function x ins out ≡ not_tall (function_type x is t) =
-    then-ok (λ is. meaning x [] out >>= λ t. not_tall (function_type x is t)) (meanings x [] ins) is (sym (ap (λ ls. meanings x (read_locals ts ls) ins) c.in_ok-none.ensures) ∙ c.in_ok-types.ensures.value)
-    ∙ then-ok (λ t. not_tall (function_type x is t)) (meaning x [] out) t
-    ((λ i. meaning (sym kept.context i) (read_locals us (sym c.in_ok-none.ensures i)) out) ∙ c.in_ok-output.ensures.tree) in
-    let whole : arrow (map (tree_at vs) c.as_slice.result.now) ≡ function_type x is t =
-    ap (λ js. arrow (map (tree_at vs) js)) (c.as_slice.ensures ∙ c.in_ok-push.ensures.pushed)
-    ∙ ap arrow (map-append (tree_at vs) c.in_ok-types.types (c.in_ok-output.output ∷ []) ∙ ap (λ js. js ++ t ∷ []) (trees-grown (length us) us vs c.in_ok-types.types c.in_ok-output.ensures.grows.tree c.in_ok-types.ensures.live))
-    ∙ arrow-onto x is t in
-    let made = c.in_ok-made.ensures.tree ∙ whole in
-    let short : is_tall (function_type x is t) ≡ false = ap is_tall (sym made) ∙ low-height (tree_at c.function_type.new.table.trees c.in_ok-made.made) (subst (λ n. n ≤ height_limit) c.height.ensures.height c.height.ensures.low) in
-    parts ∙ low (function_type x is t) short ∙ ap Ok (sym made)
+    let x = context_in c.args.table.now k in
+    let us = c.meanings.new.table in
+    let vs = c.term.new.table in
+    let alone : world_of c.args.table.now k c.in_ok-none.none ≡ record { names = x; locals = [] } = ap (world_of c.args.table.now k) c.in_ok-none.ensures in
+    let same = same_world_of k c.in_ok-none.none c.args.table.now us (none_ready k _ _ c.in_ok-none.ensures c.requires) c.in_ok-types.ensures.grows in
+    let is = trees_in us c.in_ok-types.types in
+    let t = tree_in vs c.in_ok-output.output in
+    let parts = function-whole x c.args.inputs.now c.args.output.now is (ap (λ (u : World). meanings_in u c.args.inputs.now) (sym alone) ∙ c.in_ok-types.ensures.gives.is) t (ap (λ (u : World). meaning_in u c.args.output.now) (sym (same ∙ alone)) ∙ c.in_ok-output.ensures.gives.is) in
+    let whole : arrow (trees_in vs c.as_slice.result.now) ≡ function_type is t =
+    ap (λ js. arrow (trees_in vs js)) (c.as_slice.ensures ∙ c.in_ok-push.ensures.pushed)
+    ∙ ap arrow (map-append (tree_at vs.trees) c.in_ok-types.types (c.in_ok-output.output ∷ []) ∙ ap (λ js. js ++ t ∷ []) (trees-grown (length us.trees) us.trees vs.trees c.in_ok-types.types c.in_ok-output.ensures.grows.now.tree c.in_ok-types.ensures.gives.live))
+    ∙ arrow-onto is t in
+    let made = c.in_ok-made.ensures.gives.tree ∙ whole in
+    let short : is_tall (function_type is t) ≡ false = ap is_tall (sym made) ∙ low-height (tree_in c.function_type.new.table c.in_ok-made.made) (subst (λ n. n ≤ height_limit) c.height.ensures.height c.height.ensures.low) in
+    record { live = c.in_ok-made.ensures.gives.live; is = parts ∙ low (function_type is t) short ∙ ap Ok (sym made) }

@@ -1,670 +1,404 @@
-use Rattle.std.proofs.Common.{◌≡◌, ◌+◌, ◌<◌, [], ◌∷◌, ◌++◌, map, drop, length, All, refl, sym, ap, subst, ◌∙◌, arith, rules}
-use Rattle.std.specs.Prelude.{Ok, Err}
-use Rattle.std.proofs.lemmas.Result.{err_from_is_err_and}
+use Rattle.std.proofs.Common.{◌≡◌, ◌<◌, [], ◌∷◌, ◌++◌, map, length, All, refl, sym, ap, subst, ◌∙◌, arith, rules}
+use Rattle.std.specs.Prelude.{Ok}
+use Rattle.std.proofs.lemmas.Grind.{common_steps}
 use Rattle.std.proofs.lemmas.List.{length-append}
 use Rattle.std.proofs.lemmas.List.Elements.{All-nil, All-cons}
-use Rattle.eo_sexp.specs.Owned.{owned, sexps_of}
-use Rattle.eo_sexp.specs.Sexp.{Sexp, Atom, Listed, Next, Span}
-use Rattle.eo_sexp.proofs.OwnedViews.{owned-List, owned-Atom}
-use Rattle.eo_term.specs.Terms.{tree_at, Grows}
-use Rattle.eo_elab.specs.declared.scope.Scope.{the_lemmas}
-use Rattle.eo_shape.specs.Words.{symbol_of}
-use Rattle.eo_elab.specs.Forms.{formed, arguments_used, parts_of, all_after, list_of}
-use Rattle.eo_elab.specs.Meaning.{go_on, with_labels, atom, application, tree_application, is_list, variable, pair_local, means, means_all, in_binder, pair_list, pairs_after}
-use Rattle.eo_elab.specs.Names.{Binding, binding_local, read_locals, read_pairs, BindingsBelow}
-use Rattle.eo_elab.specs.Refused.{fault_of}
-use Rattle.eo_elab.specs.Scopes.{bound_in}
-use Rattle.eo_elab.specs.Usage.{made_of}
-use Rattle.eo_elab.specs.Walk.{context, IsReady, Keeps}
-use Rattle.eo_term.proofs.Grown.{grows_refl}
-use Rattle.eo_elab.proofs.FoldSteps.{keeps_grown}
-use Rattle.eo_elab.proofs.JoinLemmas.{push_grown, push_live}
-use Rattle.eo_elab.proofs.Outcomes.{of_ok, of_err}
-use Rattle.eo_elab.proofs.Sizes.{size, size_of_all, size_at, none_given, dropped_at, dropped_all}
-use Rattle.eo_elab.proofs.WalkSteps.{kept, kept_inside, of_atom, of_nothing, of_list, all_end, all_next, all_fault, let_pairs_fault, let_given, let_not_two, binder_next, binder_pairs_fault, binder_list_fault, binder_none, pairs_atom, pairs_listed, pairs_end, pairs_other, pairs_twice, pairs_next, pairs_fault, named_pairs, inside_below, pushed_pairs, made_grown}
+use Rattle.eo_base.proofs.Answering.{fails, tells_on}
+use Rattle.eo_sexp.specs.Sexp.{Next, sexp_span}
+use Rattle.eo_sexp.proofs.Sizes.{size, size_of_all, size_inside}
+use Rattle.eo_term.specs.Terms.{tree_at}
+use Rattle.eo_term.specs.Growth.{tree_in, trees_in}
+use Rattle.eo_term.proofs.Growing.{grows_on_refl}
+use Rattle.eo_names.specs.declared.scope.Scope.{the_lemmas}
+use Rattle.eo_names.specs.Readers.{go_on, with_labels}
+use Rattle.eo_elab.specs.Meaning.{tree_application}
+use Rattle.eo_names.specs.Binders.{variable, pair_local}
+use Rattle.eo_names.specs.Gives.{GivesTerm}
+use Rattle.eo_elab.specs.Gives.{GivesTerms}
+use Rattle.eo_names.specs.Names.{Binding, binding_local, read_pairs, BindingsBelow}
+use Rattle.eo_names.specs.Refused.{told}
+use Rattle.eo_names.specs.Scopes.{bound_in}
+use Rattle.eo_names.specs.Usage.{made_of}
+use Rattle.eo_names.specs.Ready.{IsReady}
+use Rattle.eo_names.specs.Worlds.{World, world, made_in, bound_list_in}
+use Rattle.eo_elab.specs.Worlds.{sexps, atom_in, term_in, list_in, parts_in, application_in, form_in, headed_in, applied_in, use_in, all_in, let_in, binder_in, pairs_in, more_pairs_in}
+use Rattle.eo_elab.proofs.Giving.{adds_fault}
+use Rattle.eo_names.proofs.Giving.{labelled, same_world, still_ready}
+use Rattle.eo_names.proofs.JoinLemmas.{push_grown, push_live}
+use Rattle.eo_elab.proofs.Sizes.{is_list, none_given, one_given, two_given, size_beside}
+use Rattle.eo_elab.proofs.WalkSteps.{world_inside, of_no_list, of_nothing, of_list, all_end, all_next, all_fault, let_fault, let_next, let_not_two, binder_next, binder_pairs_fault, binder_list_fault, binder_none, pairs_no_list, pairs_listed, pairs_end, pairs_other, pairs_twice, pairs_next, pairs_fault}
+use Rattle.eo_names.proofs.BindingLemmas.{named_pairs, inside_below, pushed_pairs}
+use Rattle.eo_names.proofs.UsageLemmas.{made_grown}
 use Rattle.eo_elab.proofs.walk.+walk.Goals as goal
 
-pub mean-returns-in-Atom-clause-tree : goal.mean-returns-in-Atom-clause-tree
-mean-returns-in-Atom-clause-tree t c =
-    let ts = c.args.table.now.trees in
-    let sig = c.args.sig.now in
-    let ls = bound_in c.args.scope.now in
-    let names = context ts sig in
-    let locals = read_locals ts ls in
-    let seen : owned c.args.s.now ≡ Atom c.in-Atom.kind c.in-Atom.text (record { from = c.in-Atom.span.0; to = c.in-Atom.span.1 }) = ap owned c.in-Atom.is ∙ owned-Atom c.in-Atom.kind c.in-Atom.text c.in-Atom.span in
-    let step = ap (λ s. means names locals s []) seen ∙ of_atom names locals c.in-Atom.kind c.in-Atom.text (record { from = c.in-Atom.span.0; to = c.in-Atom.span.1 }) ∙ ap (λ w. with_labels [] (atom names locals c.in-Atom.kind w)) (sym c.as_slice.ensures) in
-    of_ok _ _ c.atom.result (λ x h. step ∙ ap (with_labels []) h) c.atom.ensures.tree
+pub mean-returns-in-None-clause-gives : goal.mean-returns-in-None-clause-gives
+mean-returns-in-None-clause-gives t c =
+    let w = world c.args.table.now c.args.sig.now c.args.scope.now in
+    let step : term_in w c.args.s.now ≡ with_labels [] (atom_in w c.kind.result c.text.result.now) =
+    of_no_list w.names w.locals c.args.s.now c.in-None.ensures ∙ (λ i. with_labels [] (atom_in w (sym c.kind.ensures i) (sym c.text.ensures i))) in
+    subst (GivesTerm c.atom.new.table c.atom.result) (sym step) (labelled c.atom.new.table c.atom.result (atom_in w c.kind.result c.text.result.now) c.atom.ensures.gives)
 
-pub mean-returns-in-Atom-clause-fault : goal.mean-returns-in-Atom-clause-fault
-mean-returns-in-Atom-clause-fault t c =
-    let ts = c.args.table.now.trees in
-    let sig = c.args.sig.now in
-    let ls = bound_in c.args.scope.now in
-    let names = context ts sig in
-    let locals = read_locals ts ls in
-    let seen : owned c.args.s.now ≡ Atom c.in-Atom.kind c.in-Atom.text (record { from = c.in-Atom.span.0; to = c.in-Atom.span.1 }) = ap owned c.in-Atom.is ∙ owned-Atom c.in-Atom.kind c.in-Atom.text c.in-Atom.span in
-    let step = ap (λ s. means names locals s []) seen ∙ of_atom names locals c.in-Atom.kind c.in-Atom.text (record { from = c.in-Atom.span.0; to = c.in-Atom.span.1 }) ∙ ap (λ w. with_labels [] (atom names locals c.in-Atom.kind w)) (sym c.as_slice.ensures) in
-    of_err _ _ c.atom.result (λ x h m. step ∙ ap (with_labels []) (h m)) c.atom.ensures.fault
+pub mean-mean_list-requires : goal.mean-mean_list-requires
+mean-mean_list-requires t c =
+    let small = size_inside c.args.s.now c.in-Some.children c.in-Some.ensures in
+    (omega (arith, small), c.requires.ready)
 
-pub mean-returns-in-List-clause-tree : goal.mean-returns-in-List-clause-tree
-mean-returns-in-List-clause-tree t c =
-    let ts = c.args.table.now.trees in
-    let sig = c.args.sig.now in
-    let ls = bound_in c.args.scope.now in
-    let names = context ts sig in
-    let locals = read_locals ts ls in
-    let seen : owned c.args.s.now ≡ Listed (sexps_of (map owned c.in-List.children.items)) (record { from = c.in-List.span.0; to = c.in-List.span.1 }) = ap owned c.in-List.is ∙ owned-List c.in-List.children c.in-List.span in
-    let step = ap (λ s. means names locals s []) seen ∙ ap (λ xs. means names locals (Listed (sexps_of (map owned xs)) (record { from = c.in-List.span.0; to = c.in-List.span.1 })) []) (sym c.as_slice-in-List.ensures.value) in
-    of_ok _ _ c.mean_list.result (λ x h. step ∙ h (record { from = c.in-List.span.0; to = c.in-List.span.1 })) c.mean_list.ensures.tree
+pub mean-returns-in-Some-clause-gives : goal.mean-returns-in-Some-clause-gives
+mean-returns-in-Some-clause-gives t c =
+    let w = world c.args.table.now c.args.sig.now c.args.scope.now in
+    let span = sexp_span c.args.s.now in
+    let step : term_in w c.args.s.now ≡ list_in w c.in-Some.children span = ap (term_in w) (is_list c.args.s.now c.in-Some.children c.in-Some.ensures) in
+    subst (GivesTerm c.mean_list.new.table c.mean_list.result) (sym step) (c.mean_list.ensures.gives span)
 
-pub mean-returns-in-List-clause-fault : goal.mean-returns-in-List-clause-fault
-mean-returns-in-List-clause-fault t c =
-    let ts = c.args.table.now.trees in
-    let sig = c.args.sig.now in
-    let ls = bound_in c.args.scope.now in
-    let names = context ts sig in
-    let locals = read_locals ts ls in
-    let seen : owned c.args.s.now ≡ Listed (sexps_of (map owned c.in-List.children.items)) (record { from = c.in-List.span.0; to = c.in-List.span.1 }) = ap owned c.in-List.is ∙ owned-List c.in-List.children c.in-List.span in
-    let step = ap (λ s. means names locals s []) seen ∙ ap (λ xs. means names locals (Listed (sexps_of (map owned xs)) (record { from = c.in-List.span.0; to = c.in-List.span.1 })) []) (sym c.as_slice-in-List.ensures.value) in
-    of_err _ _ c.mean_list.result (λ x h m. step ∙ (h m) (record { from = c.in-List.span.0; to = c.in-List.span.1 })) c.mean_list.ensures.fault
+pub mean_list-returns-in_default-clause-gives : goal.mean_list-returns-in_default-clause-gives
+mean_list-returns-in_default-clause-gives t c = λ span.
+    let w = world c.args.table.now c.args.sig.now c.args.scope.now in
+    ap (λ ss. list_in w ss span) (none_given c.args.terms.now c.in_default.ensures) ∙ of_nothing w.names w.locals span
+
+pub mean_list-returns-in_err-form_of-clause-gives : goal.mean_list-returns-in_err-form_of-clause-gives
+mean_list-returns-in_err-form_of-clause-gives t c = λ span.
+    let w = world c.args.table.now c.args.sig.now c.args.scope.now in
+    let head = c.in-Some.head in
+    let args = c.in-Some.args in
+    let parts = parts_in w head args in
+    let step : list_in w c.args.terms.now span ≡ application_in w head args parts = ap (λ xs. list_in w xs span) (one_given c.args.terms.now head args c.in-Some.ensures) ∙ of_list w.names w.locals head (sexps args) span in
+    fails _ _ _ _ _ _ _ c.from_residual.ensures.1 (λ f e. step ∙ e) (c.in_err-form_of.ensures.form parts)
+
+pub mean_list-mean_let-requires : goal.mean_list-mean_let-requires
+mean_list-mean_let-requires t c =
+    let small = ap size_of_all (one_given c.args.terms.now c.in-Some.head c.in-Some.args c.in-Some.ensures) in
+    (omega (arith, small), c.requires.ready)
+
+pub mean_list-mean_head-requires : goal.mean_list-mean_head-requires
+mean_list-mean_head-requires t c =
+    let small = ap size_of_all (one_given c.args.terms.now c.in-Some.head c.in-Some.args c.in-Some.ensures) in
+    (omega (arith, small), (c.requires.ready, c.in_ok-form_of.ensures.some))
+
+pub mean_list-returns-in-Let-clause-gives : goal.mean_list-returns-in-Let-clause-gives
+mean_list-returns-in-Let-clause-gives t c = λ span.
+    let w = world c.args.table.now c.args.sig.now c.args.scope.now in
+    let head = c.in-Some.head in
+    let args = c.in-Some.args in
+    let parts = parts_in w head args in
+    let step : list_in w c.args.terms.now span ≡ form_in w c.args.table.now args parts c.in_ok-form_of.field-0 =
+    ap (λ xs. list_in w xs span) (one_given c.args.terms.now head args c.in-Some.ensures) ∙ of_list w.names w.locals head (sexps args) span ∙ c.in_ok-form_of.ensures.form parts in
+    subst (GivesTerm c.mean_let.new.table c.mean_let.result) (sym (step ∙ ap (form_in w c.args.table.now args parts) c.in-Let.is)) c.mean_let.ensures.gives
+
+pub mean_list-returns-in-Head-clause-gives : goal.mean_list-returns-in-Head-clause-gives
+mean_list-returns-in-Head-clause-gives t c = λ span.
+    let w = world c.args.table.now c.args.sig.now c.args.scope.now in
+    let head = c.in-Some.head in
+    let args = c.in-Some.args in
+    let parts = parts_in w head args in
+    let step : list_in w c.args.terms.now span ≡ form_in w c.args.table.now args parts c.in_ok-form_of.field-0 =
+    ap (λ xs. list_in w xs span) (one_given c.args.terms.now head args c.in-Some.ensures) ∙ of_list w.names w.locals head (sexps args) span ∙ c.in_ok-form_of.ensures.form parts in
+    subst (GivesTerm c.mean_head.new.table c.mean_head.result) (sym (step ∙ ap (form_in w c.args.table.now args parts) c.in-Head.is)) c.mean_head.ensures.gives
+
+pub mean_list-returns-in-Arguments-clause-gives : goal.mean_list-returns-in-Arguments-clause-gives
+mean_list-returns-in-Arguments-clause-gives t c = λ span.
+    let w = world c.args.table.now c.args.sig.now c.args.scope.now in
+    let head = c.in-Some.head in
+    let args = c.in-Some.args in
+    let parts = parts_in w head args in
+    let step : list_in w c.args.terms.now span ≡ form_in w c.args.table.now args parts c.in_ok-form_of.field-0 =
+    ap (λ xs. list_in w xs span) (one_given c.args.terms.now head args c.in-Some.ensures) ∙ of_list w.names w.locals head (sexps args) span ∙ c.in_ok-form_of.ensures.form parts in
+    subst (GivesTerm c.mean_use.new.table c.mean_use.result) (sym (step ∙ ap (form_in w c.args.table.now args parts) c.in-Arguments.is)) (c.mean_use.ensures.gives head)
+
+pub mean_head-returns-in_err-f-clause-gives : goal.mean_head-returns-in_err-f-clause-gives
+mean_head-returns-in_err-f-clause-gives t c =
+    let w = world c.args.table.now c.args.sig.now c.args.scope.now in
+    fails _ _ _ _ _ _ _ c.from_residual.ensures.1 (λ f e. ap (go_on (tree_application w.names w.locals (sexps c.args.args.now) (parts_in w c.args.head.now c.args.args.now))) e) c.in_err-f.ensures.gives
+
+pub mean_head-returns-in_err-used-clause-gives : goal.mean_head-returns-in_err-used-clause-gives
+mean_head-returns-in_err-used-clause-gives t c =
+    let w = world c.args.table.now c.args.sig.now c.args.scope.now in
+    let v = world c.mean.new.table c.args.sig.now c.args.scope.now in
+    let same : v ≡ w = same_world c.args.sig.now c.args.scope.now c.args.table.now c.mean.new.table c.requires.ready c.mean.ensures.grows in
+    let head = c.args.head.now in
+    let args = c.args.args.now in
+    let f = tree_in c.mean.new.table c.in_ok-f.f in
+    let step : headed_in w head args ≡ applied_in w args (parts_in w head args) f = ap (go_on (tree_application w.names w.locals (sexps args) (parts_in w head args))) c.in_ok-f.ensures.gives.is in
+    let there = ap (λ (u : World). applied_in u args (parts_in u head args) f) (sym same) in
+    fails _ _ _ _ _ _ _ c.from_residual-in_err-used.ensures.1 (λ g e. step ∙ there ∙ e) (c.in_err-used.ensures.used v.locals (parts_in v head args))
+
+pub mean_head-returns-clause-gives : goal.mean_head-returns-clause-gives
+mean_head-returns-clause-gives t c =
+    let w = world c.args.table.now c.args.sig.now c.args.scope.now in
+    let v = world c.mean.new.table c.args.sig.now c.args.scope.now in
+    let same : v ≡ w = same_world c.args.sig.now c.args.scope.now c.args.table.now c.mean.new.table c.requires.ready c.mean.ensures.grows in
+    let head = c.args.head.now in
+    let args = c.args.args.now in
+    let f = tree_in c.mean.new.table c.in_ok-f.f in
+    let step : headed_in w head args ≡ applied_in w args (parts_in w head args) f = ap (go_on (tree_application w.names w.locals (sexps args) (parts_in w head args))) c.in_ok-f.ensures.gives.is in
+    let there = ap (λ (u : World). applied_in u args (parts_in u head args) f) (sym same) in
+    subst (GivesTerm c.mean_use.new.table c.mean_use.result) (sym (step ∙ there ∙ c.in_ok-used.ensures.used v.locals (parts_in v head args))) (c.mean_use.ensures.gives head)
+
+pub mean_use-returns-in_err-ids-clause-gives : goal.mean_use-returns-in_err-ids-clause-gives
+mean_use-returns-in_err-ids-clause-gives t c = λ h.
+    let w = world c.args.table.now c.args.sig.now c.args.scope.now in
+    fails _ _ _ _ _ _ _ c.from_residual.ensures.1 (λ f e. ap (go_on (made_of c.args.table.now.trees w.names w.locals c.args.used.now)) e) (c.in_err-ids.ensures.gives h)
+
+pub mean_use-returns-clause-gives : goal.mean_use-returns-clause-gives
+mean_use-returns-clause-gives t c = λ h.
+    let w = world c.args.table.now c.args.sig.now c.args.scope.now in
+    let next = c.mean_arguments.new.table in
+    let v = world next c.args.sig.now c.args.scope.now in
+    let used = c.args.used.now in
+    let same : v ≡ w = same_world c.args.sig.now c.args.scope.now c.args.table.now next c.requires.ready c.mean_arguments.ensures.grows in
+    let given = trees_in next c.in_ok-ids.ids in
+    let step : use_in w c.args.table.now h c.args.args.now used ≡ made_in w c.args.table.now used given = ap (go_on (made_of c.args.table.now.trees w.names w.locals used)) (c.in_ok-ids.ensures.gives h).is in
+    let grown : made_in w c.args.table.now used given ≡ made_in w next used given = made_grown c.args.table.now.trees next.trees (length c.args.table.now.trees) w.names w.locals used given c.requires.below c.mean_arguments.ensures.grows.now.tree in
+    let there = ap (λ (u : World). made_in u next used given) (sym same) ∙ ap (λ is. made_in v next used (trees_in next is)) (sym c.as_slice.ensures) in
+    subst (GivesTerm c.use_arguments.new.table c.use_arguments.result) (sym (step ∙ grown ∙ there)) c.use_arguments.ensures.gives
 
 pub mean_all-mean-requires : goal.mean_all-mean-requires
 mean_all-mean-requires t c =
-    let ts = c.args.table.now.trees in
-    let sig = c.args.sig.now in
-    let ls = bound_in c.args.scope.now in
-    let names = context ts sig in
-    let locals = read_locals ts ls in
-    let small = size_at c.args.terms.now c.loop-s.s-index c.s-item.result c.s-item.result c.loop-s-test.true c.s-item.is in
-    (omega (arith, small), (keeps_grown sig ls c.args.table.now c.loop-s.table c.requires.ready c.loop-s.invariant.grows).ready)
+    let whole : size_of_all c.loop-s.s-iterator ≡ size_of_all (c.in-Some.s ∷ c.next.new.self) = ap size_of_all c.in-Some.ensures.steps in
+    (omega (arith, whole, c.loop-s.invariant.smaller), still_ready c.args.sig.now c.args.scope.now c.args.table.now c.loop-s.table c.requires.ready c.loop-s.invariant.grows)
 
-pub mean_all-returns-in_err-id-clause-fault : goal.mean_all-returns-in_err-id-clause-fault
-mean_all-returns-in_err-id-clause-fault t c =
-    let ts = c.args.table.now.trees in
-    let sig = c.args.sig.now in
-    let ls = bound_in c.args.scope.now in
-    let names = context ts sig in
-    let locals = read_locals ts ls in
-    let now = c.loop-s.table.trees in
-    let terms = c.args.terms.now in
-    let before = map (tree_at ts) c.args.before in
-    let done = map (tree_at now) c.loop-s.ids in
-    let rest = sexps_of (map owned (drop (c.loop-s.s-index + 1) terms)) in
-    let g : Keeps sig ls ts now = keeps_grown sig ls c.args.table.now c.loop-s.table c.requires.ready c.loop-s.invariant.grows in
-    let at = dropped_at terms c.loop-s.s-index c.s-item.result c.loop-s-test.true c.s-item.is in
-    let step = c.loop-s.invariant.left ∙ ap (λ ss. all_after done (means_all names locals ss) []) at in
-    let e = err_from_is_err_and c.from_residual.result c.from_residual.ensures.1 in
-    rw (e.1, e.2) (λ m. step ∙ all_fault names locals (owned c.s-item.result) rest done (fault_of c.in_err-id.field-0.0) (kept sig ls ts now g (λ n l. means n l (owned c.s-item.result) [] ≡ Err (fault_of c.in_err-id.field-0.0)) (c.in_err-id.ensures.fault m)))
+pub mean_all-returns-in_err-id-clause-gives : goal.mean_all-returns-in_err-id-clause-gives
+mean_all-returns-in_err-id-clause-gives t c =
+    let w = world c.args.table.now c.args.sig.now c.args.scope.now in
+    let same = same_world c.args.sig.now c.args.scope.now c.args.table.now c.loop-s.table c.requires.ready c.loop-s.invariant.grows in
+    let done = trees_in c.loop-s.table c.loop-s.ids in
+    let s = c.in-Some.s in
+    let step = c.loop-s.invariant.left ∙ ap (all_in w done) c.in-Some.ensures.steps in
+    fails _ _ _ _ _ _ _ c.from_residual.ensures.1 (λ f e. step ∙ all_fault w.names w.locals s (sexps c.next.new.self) done f (ap (λ (u : World). term_in u s) (sym same) ∙ e)) c.in_err-id.ensures.gives
 
 pub mean_all-loop-s-preserved : goal.mean_all-loop-s-preserved
 mean_all-loop-s-preserved t c =
-    let ts = c.args.table.now.trees in
-    let sig = c.args.sig.now in
-    let ls = bound_in c.args.scope.now in
-    let names = context ts sig in
-    let locals = read_locals ts ls in
+    let w = world c.args.table.now c.args.sig.now c.args.scope.now in
+    let same = same_world c.args.sig.now c.args.scope.now c.args.table.now c.loop-s.table c.requires.ready c.loop-s.invariant.grows in
     let now = c.loop-s.table.trees in
-    let terms = c.args.terms.now in
-    let before = map (tree_at ts) c.args.before in
-    let done = map (tree_at now) c.loop-s.ids in
-    let rest = sexps_of (map owned (drop (c.loop-s.s-index + 1) terms)) in
-    let g : Keeps sig ls ts now = keeps_grown sig ls c.args.table.now c.loop-s.table c.requires.ready c.loop-s.invariant.grows in
-    let at = dropped_at terms c.loop-s.s-index c.s-item.result c.loop-s-test.true c.s-item.is in
-    let step = c.loop-s.invariant.left ∙ ap (λ ss. all_after done (means_all names locals ss) []) at in
+    let done = trees_in c.loop-s.table c.loop-s.ids in
+    let rest = c.next.new.self in
+    let s = c.in-Some.s in
+    let step = c.loop-s.invariant.left ∙ ap (all_in w done) c.in-Some.ensures.steps in
     let us = c.mean.new.table.trees in
     let id = c.in_ok-id.id in
-    let own : means names locals (owned c.s-item.result) [] ≡ Ok (tree_at us id, []) = kept sig ls ts now g (λ n l. means n l (owned c.s-item.result) [] ≡ Ok (tree_at us id, [])) c.in_ok-id.ensures.tree in
-    let more : map (tree_at us) c.push.new.self ≡ done ++ tree_at us id ∷ [] = ap (map (tree_at us)) c.in_ok-push.ensures.pushed ∙ push_grown (length now) now us c.mean.ensures.grows.tree c.loop-s.ids id (tree_at us id) c.loop-s.invariant.live refl in
+    let own : term_in w s ≡ Ok (tree_at us id, []) = ap (λ (u : World). term_in u s) (sym same) ∙ c.in_ok-id.ensures.gives.is in
+    let more : map (tree_at us) c.push.new.self ≡ done ++ tree_at us id ∷ [] = ap (map (tree_at us)) c.in_ok-push.ensures.pushed ∙ push_grown (length now) now us c.mean.ensures.grows.now.tree c.loop-s.ids id (tree_at us id) c.loop-s.invariant.live refl in
     let long = ap length c.in_ok-push.ensures.pushed ∙ length-append c.loop-s.ids (id ∷ []) in
+    let first = ap length c.in-Some.ensures.steps in
+    let whole : size_of_all c.loop-s.s-iterator ≡ size_of_all (s ∷ rest) = ap size_of_all c.in-Some.ensures.steps in
     record {
-      left = step ∙ all_next names locals (owned c.s-item.result) rest done (tree_at us id) own ∙ ap (λ made. all_after made (means_all names locals rest) []) (sym more);
-      live = subst (λ is. All (λ i. i < length us) is) (sym c.in_ok-push.ensures.pushed) (push_live (length now) (length us) id c.loop-s.ids c.mean.ensures.grows.more_trees c.in_ok-id.ensures.live c.loop-s.invariant.live);
-      count = omega (arith, long, c.loop-s.invariant.count);
-      grows = c.mean.ensures.grown c.args.table.now c.loop-s.invariant.grows;
-      grown = λ s q. c.mean.ensures.grown s (c.loop-s.invariant.grown s q);
+      left = step ∙ all_next w.names w.locals s (sexps rest) done (tree_at us id) own ∙ ap (λ made. all_in w made rest) (sym more);
+      live = subst (λ is. All (λ i. i < length us) is) (sym c.in_ok-push.ensures.pushed) (push_live (length now) (length us) id c.loop-s.ids c.mean.ensures.grows.now.more_trees c.in_ok-id.ensures.gives.live c.loop-s.invariant.live);
+      count = omega (arith, long, first, c.loop-s.invariant.count);
+      smaller = omega (arith, whole, c.loop-s.invariant.smaller);
+      grows = search rules;
     }
 
-pub mean_all-returns-clause-trees : goal.mean_all-returns-clause-trees
-mean_all-returns-clause-trees t c =
-    let ts = c.args.table.now.trees in
-    let sig = c.args.sig.now in
-    let ls = bound_in c.args.scope.now in
-    let names = context ts sig in
-    let locals = read_locals ts ls in
-    let done = map (tree_at c.loop-s.table.trees) c.loop-s.ids in
-    c.loop-s.invariant.left ∙ ap (λ ss. all_after done (means_all names locals ss) []) (dropped_all c.args.terms.now c.loop-s.s-index (omega arith)) ∙ all_end names locals done
+pub mean_all-returns-clause-gives : goal.mean_all-returns-clause-gives
+mean_all-returns-clause-gives t c =
+    let w = world c.args.table.now c.args.sig.now c.args.scope.now in
+    let done = trees_in c.loop-s.table c.loop-s.ids in
+    record { live = c.loop-s.invariant.live; is = c.loop-s.invariant.left ∙ ap (all_in w done) c.in-None.ensures.steps.0 ∙ all_end w.names w.locals done }
 
-pub mean_bound-returns-in_default-clause-fault : goal.mean_bound-returns-in_default-clause-fault
-mean_bound-returns-in_default-clause-fault t c =
-    let ts = c.args.table.now.trees in
-    let sig = c.args.sig.now in
-    let ls = bound_in c.args.scope.now in
-    let names = context ts sig in
-    let locals = read_locals ts ls in
-    λ m. ap (λ ss. in_binder names locals ss c.args.collector []) (none_given c.args.args.now c.in_default.ensures.cases) ∙ binder_none names locals c.args.collector
+pub mean_let-returns-in_default-clause-gives : goal.mean_let-returns-in_default-clause-gives
+mean_let-returns-in_default-clause-gives t c =
+    let w = world c.args.table.now c.args.sig.now c.args.scope.now in
+    let_not_two w.names w.locals c.args.args.now c.in_default.ensures
 
-pub mean_bound-returns-in_err-names-clause-fault : goal.mean_bound-returns-in_err-names-clause-fault
-mean_bound-returns-in_err-names-clause-fault t c =
-    let ts = c.args.table.now.trees in
-    let sig = c.args.sig.now in
-    let ls = bound_in c.args.scope.now in
-    let names = context ts sig in
-    let locals = read_locals ts ls in
-    let pairs = owned c.in-Some.pairs.now in
-    let rest = sexps_of (map owned c.in-Some.others.now) in
-    let step = ap (λ xs. in_binder names locals (sexps_of (map owned xs)) c.args.collector []) c.in-Some.ensures.cases.0 in
-    let e = err_from_is_err_and c.from_residual.result c.from_residual.ensures.1 in
-    rw (e.1, e.2) (λ m. step ∙ binder_pairs_fault names locals pairs rest c.args.collector (fault_of c.in_err-names.field-0.0) (c.in_err-names.ensures.fault m))
+pub mean_let-mean_pairs-requires : goal.mean_let-mean_pairs-requires
+mean_let-mean_pairs-requires t c =
+    let small = ap size_of_all (two_given c.args.args.now c.in-Some.pairs c.in-Some.body c.in-Some.ensures) in
+    (omega (arith, small), c.requires.ready)
 
-pub mean_bound-bind-requires-clause-ready : goal.mean_bound-bind-requires-clause-ready
-mean_bound-bind-requires-clause-ready t c =
-    let ts = c.args.table.now.trees in
-    let sig = c.args.sig.now in
-    let ls = bound_in c.args.scope.now in
-    let names = context ts sig in
-    let locals = read_locals ts ls in
-    (keeps_grown sig ls c.args.table.now c.mean_pairs.new.table c.requires.ready c.mean_pairs.ensures.grows).ready
-
-pub mean_bound-returns-in_err-list-clause-fault : goal.mean_bound-returns-in_err-list-clause-fault
-mean_bound-returns-in_err-list-clause-fault t c =
-    let ts = c.args.table.now.trees in
-    let sig = c.args.sig.now in
-    let ls = bound_in c.args.scope.now in
-    let names = context ts sig in
-    let locals = read_locals ts ls in
-    let pairs = owned c.in-Some.pairs.now in
-    let rest = sexps_of (map owned c.in-Some.others.now) in
-    let step = ap (λ xs. in_binder names locals (sexps_of (map owned xs)) c.args.collector []) c.in-Some.ensures.cases.0 in
-    let us = c.mean_pairs.new.table.trees in
-    let g : Keeps sig ls ts us = keeps_grown sig ls c.args.table.now c.mean_pairs.new.table c.requires.ready c.mean_pairs.ensures.grows in
-    let ps = read_pairs us c.in_ok-names.names in
-    let e = err_from_is_err_and c.from_residual-in_err-list.result c.from_residual-in_err-list.ensures.1 in
-    rw (e.1, e.2) (λ m. step ∙ binder_list_fault names locals pairs rest c.args.collector ps (fault_of c.in_err-list.field-0.0) c.in_ok-names.ensures.pairs (kept sig ls ts us g (λ n l. list_of n.signature (is_list l) c.args.collector (map variable ps) [] ≡ Err (fault_of c.in_err-list.field-0.0)) (c.in_err-list.ensures.fault m)))
-
-pub mean_bound-mean_all-requires : goal.mean_bound-mean_all-requires
-mean_bound-mean_all-requires t c =
-    let ts = c.args.table.now.trees in
-    let sig = c.args.sig.now in
-    let ls = bound_in c.args.scope.now in
-    let names = context ts sig in
-    let locals = read_locals ts ls in
-    let pairs = owned c.in-Some.pairs.now in
-    let rest = sexps_of (map owned c.in-Some.others.now) in
-    let step = ap (λ xs. in_binder names locals (sexps_of (map owned xs)) c.args.collector []) c.in-Some.ensures.cases.0 in
-    let us = c.mean_pairs.new.table.trees in
-    let g : Keeps sig ls ts us = keeps_grown sig ls c.args.table.now c.mean_pairs.new.table c.requires.ready c.mean_pairs.ensures.grows in
-    let ps = read_pairs us c.in_ok-names.names in
-    let vs = c.bind.new.table.trees in
-    let all : Grows c.args.table.now c.bind.new.table = c.bind.ensures.grown c.args.table.now c.mean_pairs.ensures.grows in
-    let g2 : Keeps sig ls ts vs = keeps_grown sig ls c.args.table.now c.bind.new.table c.requires.ready all in
-    let bs = c.bind.new.names in
-    let inner = map binding_local bs ++ ls in
-    let pushed : c.push.new.self ≡ c.in_ok-list.list ∷ [] = c.in_ok-push.ensures.pushed ∙ ap (λ is. is ++ c.in_ok-list.list ∷ []) c.in_ok-ids.ensures in
-    let ready : IsReady (length vs) sig inner = record { below = g2.ready.below; names = inside_below (length vs) ls bs c.in_ok-list.ensures.below g2.ready.names } in
-    let small = ap size_of_all c.in-Some.ensures.cases.0 in (
-      omega (arith, small),
-      (
-        subst (λ l. IsReady (length vs) sig l) (search (rules, the_lemmas)) ready,
-        subst (λ is. All (λ i. i < length vs) is) (sym pushed) (All-cons (λ i. i < length vs) c.in_ok-list.list [] c.in_ok-list.ensures.live (All-nil (λ i. i < length vs))),
-      ),
-    )
-
-pub mean_bound-returns-clause-trees : goal.mean_bound-returns-clause-trees
-mean_bound-returns-clause-trees t c =
-    let ts = c.args.table.now.trees in
-    let sig = c.args.sig.now in
-    let ls = bound_in c.args.scope.now in
-    let names = context ts sig in
-    let locals = read_locals ts ls in
-    let pairs = owned c.in-Some.pairs.now in
-    let rest = sexps_of (map owned c.in-Some.others.now) in
-    let step = ap (λ xs. in_binder names locals (sexps_of (map owned xs)) c.args.collector []) c.in-Some.ensures.cases.0 in
-    let us = c.mean_pairs.new.table.trees in
-    let g : Keeps sig ls ts us = keeps_grown sig ls c.args.table.now c.mean_pairs.new.table c.requires.ready c.mean_pairs.ensures.grows in
-    let ps = read_pairs us c.in_ok-names.names in
-    let vs = c.bind.new.table.trees in
-    let all : Grows c.args.table.now c.bind.new.table = c.bind.ensures.grown c.args.table.now c.mean_pairs.ensures.grows in
-    let g2 : Keeps sig ls ts vs = keeps_grown sig ls c.args.table.now c.bind.new.table c.requires.ready all in
-    let bs = c.bind.new.names in
-    let inner = map binding_local bs ++ ls in
-    let pushed : c.push.new.self ≡ c.in_ok-list.list ∷ [] = c.in_ok-push.ensures.pushed ∙ ap (λ is. is ++ c.in_ok-list.list ∷ []) c.in_ok-ids.ensures in
-    of_ok _ _ c.mean_all.result (λ x h. step ∙ binder_next names locals pairs rest c.args.collector ps (tree_at vs c.in_ok-list.list) c.in_ok-names.ensures.pairs (kept sig ls ts us g (λ n l. list_of n.signature (is_list l) c.args.collector (map variable ps) [] ≡ Ok (tree_at vs c.in_ok-list.list, [])) c.in_ok-list.ensures.list) ∙ ap (λ is. all_after (map (tree_at vs) is) (means_all names (map pair_local (map variable ps) ++ locals) rest) []) (sym pushed) ∙ kept_inside sig ls _ ts vs g2 bs (map variable ps) c.in_ok-list.ensures.names (search (rules, the_lemmas)) (λ n l. all_after (map (tree_at vs) c.push.new.self) (means_all n l rest) [] ≡ Ok (map (tree_at c.mean_all.new.table.trees) x, [])) h) c.mean_all.ensures.trees
-
-pub mean_bound-returns-clause-fault : goal.mean_bound-returns-clause-fault
-mean_bound-returns-clause-fault t c =
-    let ts = c.args.table.now.trees in
-    let sig = c.args.sig.now in
-    let ls = bound_in c.args.scope.now in
-    let names = context ts sig in
-    let locals = read_locals ts ls in
-    let pairs = owned c.in-Some.pairs.now in
-    let rest = sexps_of (map owned c.in-Some.others.now) in
-    let step = ap (λ xs. in_binder names locals (sexps_of (map owned xs)) c.args.collector []) c.in-Some.ensures.cases.0 in
-    let us = c.mean_pairs.new.table.trees in
-    let g : Keeps sig ls ts us = keeps_grown sig ls c.args.table.now c.mean_pairs.new.table c.requires.ready c.mean_pairs.ensures.grows in
-    let ps = read_pairs us c.in_ok-names.names in
-    let vs = c.bind.new.table.trees in
-    let all : Grows c.args.table.now c.bind.new.table = c.bind.ensures.grown c.args.table.now c.mean_pairs.ensures.grows in
-    let g2 : Keeps sig ls ts vs = keeps_grown sig ls c.args.table.now c.bind.new.table c.requires.ready all in
-    let bs = c.bind.new.names in
-    let inner = map binding_local bs ++ ls in
-    let pushed : c.push.new.self ≡ c.in_ok-list.list ∷ [] = c.in_ok-push.ensures.pushed ∙ ap (λ is. is ++ c.in_ok-list.list ∷ []) c.in_ok-ids.ensures in
-    of_err _ _ c.mean_all.result (λ x h m. step ∙ binder_next names locals pairs rest c.args.collector ps (tree_at vs c.in_ok-list.list) c.in_ok-names.ensures.pairs (kept sig ls ts us g (λ n l. list_of n.signature (is_list l) c.args.collector (map variable ps) [] ≡ Ok (tree_at vs c.in_ok-list.list, [])) c.in_ok-list.ensures.list) ∙ ap (λ is. all_after (map (tree_at vs) is) (means_all names (map pair_local (map variable ps) ++ locals) rest) []) (sym pushed) ∙ kept_inside sig ls _ ts vs g2 bs (map variable ps) c.in_ok-list.ensures.names (search (rules, the_lemmas)) (λ n l. all_after (map (tree_at vs) c.push.new.self) (means_all n l rest) [] ≡ Err (fault_of x)) (h m)) c.mean_all.ensures.fault
-
-pub mean_head-returns-in_err-used-clause-fault : goal.mean_head-returns-in_err-used-clause-fault
-mean_head-returns-in_err-used-clause-fault t c =
-    let ts = c.args.table.now.trees in
-    let sig = c.args.sig.now in
-    let ls = bound_in c.args.scope.now in
-    let names = context ts sig in
-    let locals = read_locals ts ls in
-    let head = owned c.args.head.now in
-    let args = sexps_of (map owned c.args.args.now) in
-    let us = c.mean.new.table.trees in
-    let g : Keeps sig ls ts us = keeps_grown sig ls c.args.table.now c.mean.new.table c.requires.ready c.mean.ensures.grows in
-    let f = tree_at us c.in_ok-f.f in
-    let step = ap (go_on (tree_application names locals args (parts_of names locals head args))) c.in_ok-f.ensures.tree in
-    let e = err_from_is_err_and c.from_residual-in_err-used.result c.from_residual-in_err-used.ensures.1 in
-    rw (e.1, e.2) (λ m. step ∙ kept sig ls ts us g (λ n l. tree_application n l args (parts_of n l head args) f [] ≡ Err (fault_of c.in_err-used.field-0.0)) (c.in_err-used.ensures.fault (read_locals us ls) (parts_of (context us sig) (read_locals us ls) head args)))
-
-pub mean_head-returns-clause-tree : goal.mean_head-returns-clause-tree
-mean_head-returns-clause-tree t c =
-    let ts = c.args.table.now.trees in
-    let sig = c.args.sig.now in
-    let ls = bound_in c.args.scope.now in
-    let names = context ts sig in
-    let locals = read_locals ts ls in
-    let head = owned c.args.head.now in
-    let args = sexps_of (map owned c.args.args.now) in
-    let us = c.mean.new.table.trees in
-    let g : Keeps sig ls ts us = keeps_grown sig ls c.args.table.now c.mean.new.table c.requires.ready c.mean.ensures.grows in
-    let f = tree_at us c.in_ok-f.f in
-    let step = ap (go_on (tree_application names locals args (parts_of names locals head args))) c.in_ok-f.ensures.tree in
-    of_ok _ _ c.mean_use.result (λ x h. step ∙ kept sig ls ts us g (λ n l. tree_application n l args (parts_of n l head args) f [] ≡ Ok (tree_at c.mean_use.new.table.trees x, [])) (c.in_ok-used.ensures.form (read_locals us ls) (parts_of (context us sig) (read_locals us ls) head args) ∙ h head)) c.mean_use.ensures.tree
-
-pub mean_head-returns-clause-fault : goal.mean_head-returns-clause-fault
-mean_head-returns-clause-fault t c =
-    let ts = c.args.table.now.trees in
-    let sig = c.args.sig.now in
-    let ls = bound_in c.args.scope.now in
-    let names = context ts sig in
-    let locals = read_locals ts ls in
-    let head = owned c.args.head.now in
-    let args = sexps_of (map owned c.args.args.now) in
-    let us = c.mean.new.table.trees in
-    let g : Keeps sig ls ts us = keeps_grown sig ls c.args.table.now c.mean.new.table c.requires.ready c.mean.ensures.grows in
-    let f = tree_at us c.in_ok-f.f in
-    let step = ap (go_on (tree_application names locals args (parts_of names locals head args))) c.in_ok-f.ensures.tree in
-    of_err _ _ c.mean_use.result (λ x h m. step ∙ kept sig ls ts us g (λ n l. tree_application n l args (parts_of n l head args) f [] ≡ Err (fault_of x)) (c.in_ok-used.ensures.form (read_locals us ls) (parts_of (context us sig) (read_locals us ls) head args) ∙ (h m) head)) c.mean_use.ensures.fault
-
-pub mean_let-returns-then-args-ne2-clause-fault : goal.mean_let-returns-then-args-ne2-clause-fault
-mean_let-returns-then-args-ne2-clause-fault t c =
-    let ts = c.args.table.now.trees in
-    let sig = c.args.sig.now in
-    let ls = bound_in c.args.scope.now in
-    let names = context ts sig in
-    let locals = read_locals ts ls in
-    λ m. let_not_two names locals c.args.args.now c.if-args-ne2.true
-
-pub mean_let-returns-in_err-names-clause-fault : goal.mean_let-returns-in_err-names-clause-fault
-mean_let-returns-in_err-names-clause-fault t c =
-    let ts = c.args.table.now.trees in
-    let sig = c.args.sig.now in
-    let ls = bound_in c.args.scope.now in
-    let names = context ts sig in
-    let locals = read_locals ts ls in
-    let xs = c.args.args.now in
-    let two : length xs ≡ 2 = c.if-args-ne2.false in
-    let pairs = c.index-args-0.result in
-    let e = err_from_is_err_and c.from_residual.result c.from_residual.ensures.1 in
-    rw (e.1, e.2) (λ m. let_pairs_fault names locals xs pairs two c.index-args-0.is (fault_of c.in_err-names.field-0.0) (c.in_err-names.ensures.fault m))
+pub mean_let-returns-in_err-names-clause-gives : goal.mean_let-returns-in_err-names-clause-gives
+mean_let-returns-in_err-names-clause-gives t c =
+    let w = world c.args.table.now c.args.sig.now c.args.scope.now in
+    let step = ap (let_in w) (two_given c.args.args.now c.in-Some.pairs c.in-Some.body c.in-Some.ensures) in
+    fails _ _ _ _ _ _ _ c.from_residual.ensures.1 (λ f e. step ∙ let_fault w.names w.locals c.in-Some.pairs c.in-Some.body f e) c.in_err-names.ensures.gives
 
 pub mean_let-mean-requires : goal.mean_let-mean-requires
 mean_let-mean-requires t c =
-    let ts = c.args.table.now.trees in
     let sig = c.args.sig.now in
+    let next = c.mean_pairs.new.table in
     let ls = bound_in c.args.scope.now in
-    let names = context ts sig in
-    let locals = read_locals ts ls in
-    let xs = c.args.args.now in
-    let two : length xs ≡ 2 = c.if-args-ne2.false in
-    let pairs = c.index-args-0.result in
-    let us = c.mean_pairs.new.table.trees in
-    let g : Keeps sig ls ts us = keeps_grown sig ls c.args.table.now c.mean_pairs.new.table c.requires.ready c.mean_pairs.ensures.grows in
     let bs = c.in_ok-names.names in
-    let ps = read_pairs us bs in
-    let ready : IsReady (length us) sig (map binding_local bs ++ ls) = record { below = g.ready.below; names = inside_below (length us) ls bs c.in_ok-names.ensures.live g.ready.names } in
-    let small = size_at xs 1 c.index-args-1.result c.index-args-1.result (omega arith) c.index-args-1.is in
-    (omega (arith, small), subst (λ l. IsReady (length us) sig l) (search (rules, the_lemmas)) ready)
+    let still = still_ready sig c.args.scope.now c.args.table.now next c.requires.ready c.mean_pairs.ensures.grows in
+    let ready : IsReady (length next.trees) sig (map binding_local bs ++ ls) = record { below = still.below; names = inside_below (length next.trees) ls bs c.in_ok-names.ensures.gives.live still.names } in
+    let small = ap size_of_all (two_given c.args.args.now c.in-Some.pairs c.in-Some.body c.in-Some.ensures) in
+    (omega (arith, small), subst (λ l. IsReady (length next.trees) sig l) (search (rules, the_lemmas)) ready)
 
-pub mean_let-returns-clause-tree : goal.mean_let-returns-clause-tree
-mean_let-returns-clause-tree t c =
-    let ts = c.args.table.now.trees in
-    let sig = c.args.sig.now in
-    let ls = bound_in c.args.scope.now in
-    let names = context ts sig in
-    let locals = read_locals ts ls in
-    let xs = c.args.args.now in
-    let two : length xs ≡ 2 = c.if-args-ne2.false in
-    let pairs = c.index-args-0.result in
-    let us = c.mean_pairs.new.table.trees in
-    let g : Keeps sig ls ts us = keeps_grown sig ls c.args.table.now c.mean_pairs.new.table c.requires.ready c.mean_pairs.ensures.grows in
+pub mean_let-returns-clause-gives : goal.mean_let-returns-clause-gives
+mean_let-returns-clause-gives t c =
+    let w = world c.args.table.now c.args.sig.now c.args.scope.now in
+    let next = c.mean_pairs.new.table in
+    let same = same_world c.args.sig.now c.args.scope.now c.args.table.now next c.requires.ready c.mean_pairs.ensures.grows in
     let bs = c.in_ok-names.names in
-    let ps = read_pairs us bs in
-    of_ok _ _ c.mean.result (λ x h. let_given names locals xs pairs two c.index-args-0.is c.index-args-1.result ps c.index-args-1.is c.in_ok-names.ensures.pairs ∙ kept_inside sig ls _ ts us g bs ps refl (search (rules, the_lemmas)) (λ n l. means n l (owned c.index-args-1.result) [] ≡ Ok (tree_at c.mean.new.table.trees x, [])) h) c.mean.ensures.tree
+    let ps = read_pairs next.trees bs in
+    let body = c.in-Some.body in
+    let step = ap (let_in w) (two_given c.args.args.now c.in-Some.pairs body c.in-Some.ensures) ∙ let_next w.names w.locals c.in-Some.pairs body ps c.in_ok-names.ensures.gives.is in
+    let inside = world_inside c.args.sig.now c.args.scope.now _ c.args.table.now next same bs ps refl (search (rules, the_lemmas)) in
+    subst (GivesTerm c.mean.new.table c.mean.result) (sym (step ∙ ap (λ (u : World). term_in u body) (sym inside))) c.mean.ensures.gives
 
-pub mean_let-returns-clause-fault : goal.mean_let-returns-clause-fault
-mean_let-returns-clause-fault t c =
-    let ts = c.args.table.now.trees in
+pub mean_bound-returns-in_default-clause-gives : goal.mean_bound-returns-in_default-clause-gives
+mean_bound-returns-in_default-clause-gives t c =
+    let w = world c.args.table.now c.args.sig.now c.args.scope.now in
+    ap (λ ss. binder_in w ss c.args.collector) (none_given c.args.args.now c.in_default.ensures) ∙ binder_none w.names w.locals c.args.collector
+
+pub mean_bound-mean_pairs-requires : goal.mean_bound-mean_pairs-requires
+mean_bound-mean_pairs-requires t c =
+    let small = ap size_of_all (one_given c.args.args.now c.in-Some.pairs c.in-Some.others c.in-Some.ensures) in
+    (omega (arith, small), c.requires.ready)
+
+pub mean_bound-returns-in_err-names-clause-gives : goal.mean_bound-returns-in_err-names-clause-gives
+mean_bound-returns-in_err-names-clause-gives t c =
+    let w = world c.args.table.now c.args.sig.now c.args.scope.now in
+    let step = ap (λ xs. binder_in w xs c.args.collector) (one_given c.args.args.now c.in-Some.pairs c.in-Some.others c.in-Some.ensures) in
+    fails _ _ _ _ _ _ _ c.from_residual.ensures.1 (λ f e. step ∙ binder_pairs_fault w.names w.locals c.in-Some.pairs (sexps c.in-Some.others) c.args.collector f e) c.in_err-names.ensures.gives
+
+pub mean_bound-bind-requires-clause-ready : goal.mean_bound-bind-requires-clause-ready
+mean_bound-bind-requires-clause-ready t c = still_ready c.args.sig.now c.args.scope.now c.args.table.now c.mean_pairs.new.table c.requires.ready c.mean_pairs.ensures.grows
+
+pub mean_bound-returns-in_err-list-clause-gives : goal.mean_bound-returns-in_err-list-clause-gives
+mean_bound-returns-in_err-list-clause-gives t c =
+    let w = world c.args.table.now c.args.sig.now c.args.scope.now in
+    let next = c.mean_pairs.new.table in
+    let same = same_world c.args.sig.now c.args.scope.now c.args.table.now next c.requires.ready c.mean_pairs.ensures.grows in
+    let ps = read_pairs next.trees c.in_ok-names.names in
+    let step = ap (λ xs. binder_in w xs c.args.collector) (one_given c.args.args.now c.in-Some.pairs c.in-Some.others c.in-Some.ensures) in
+    fails _ _ _ _ _ _ _ c.from_residual-in_err-list.ensures.1
+    (λ f e. step ∙ binder_list_fault w.names w.locals c.in-Some.pairs (sexps c.in-Some.others) c.args.collector ps f c.in_ok-names.ensures.gives.is (ap (λ (u : World). bound_list_in u c.args.collector ps) (sym same) ∙ e)) c.in_err-list.ensures.gives
+
+pub mean_bound-mean_all-requires : goal.mean_bound-mean_all-requires
+mean_bound-mean_all-requires t c =
     let sig = c.args.sig.now in
     let ls = bound_in c.args.scope.now in
-    let names = context ts sig in
-    let locals = read_locals ts ls in
-    let xs = c.args.args.now in
-    let two : length xs ≡ 2 = c.if-args-ne2.false in
-    let pairs = c.index-args-0.result in
-    let us = c.mean_pairs.new.table.trees in
-    let g : Keeps sig ls ts us = keeps_grown sig ls c.args.table.now c.mean_pairs.new.table c.requires.ready c.mean_pairs.ensures.grows in
-    let bs = c.in_ok-names.names in
-    let ps = read_pairs us bs in
-    of_err _ _ c.mean.result (λ x h m. let_given names locals xs pairs two c.index-args-0.is c.index-args-1.result ps c.index-args-1.is c.in_ok-names.ensures.pairs ∙ kept_inside sig ls _ ts us g bs ps refl (search (rules, the_lemmas)) (λ n l. means n l (owned c.index-args-1.result) [] ≡ Err (fault_of x)) (h m)) c.mean.ensures.fault
+    let vs = c.bind.new.table.trees in
+    let bs = c.bind.new.names in
+    let still = still_ready sig c.args.scope.now c.args.table.now c.bind.new.table c.requires.ready (search rules) in
+    let pushed : c.push.new.self ≡ c.in_ok-list.list ∷ [] = c.in_ok-push.ensures.pushed ∙ ap (λ is. is ++ c.in_ok-list.list ∷ []) c.in_ok-ids.ensures in
+    let ready : IsReady (length vs) sig (map binding_local bs ++ ls) = record { below = still.below; names = inside_below (length vs) ls bs c.in_ok-list.ensures.below still.names } in
+    let small = ap size_of_all (one_given c.args.args.now c.in-Some.pairs c.in-Some.others c.in-Some.ensures) in (
+      omega (arith, small),
+      (
+        subst (λ l. IsReady (length vs) sig l) (search (rules, the_lemmas)) ready,
+        subst (λ is. All (λ i. i < length vs) is) (sym pushed) (All-cons (λ i. i < length vs) c.in_ok-list.list [] c.in_ok-list.ensures.gives.live (All-nil (λ i. i < length vs))),
+      ),
+    )
 
-pub mean_list-returns-in_default-clause-fault : goal.mean_list-returns-in_default-clause-fault
-mean_list-returns-in_default-clause-fault t c =
-    let ts = c.args.table.now.trees in
+pub mean_bound-returns-clause-gives : goal.mean_bound-returns-clause-gives
+mean_bound-returns-clause-gives t c =
+    let w = world c.args.table.now c.args.sig.now c.args.scope.now in
     let sig = c.args.sig.now in
-    let ls = bound_in c.args.scope.now in
-    let names = context ts sig in
-    let locals = read_locals ts ls in
-    λ m span. ap (λ ss. means names locals (Listed ss span) []) (none_given c.args.terms.now c.in_default.ensures.cases) ∙ of_nothing names locals span
+    let scope = c.args.scope.now in
+    let next = c.mean_pairs.new.table in
+    let same = same_world sig scope c.args.table.now next c.requires.ready c.mean_pairs.ensures.grows in
+    let ps = read_pairs next.trees c.in_ok-names.names in
+    let last = c.bind.new.table in
+    let first = tree_in last c.in_ok-list.list in
+    let then = same_world sig scope c.args.table.now last c.requires.ready (search rules) in
+    let bs = c.bind.new.names in
+    let others = c.in-Some.others in
+    let pushed : c.push.new.self ≡ c.in_ok-list.list ∷ [] = c.in_ok-push.ensures.pushed ∙ ap (λ is. is ++ c.in_ok-list.list ∷ []) c.in_ok-ids.ensures in
+    let list : bound_list_in w c.args.collector ps ≡ Ok (first, []) = ap (λ (u : World). bound_list_in u c.args.collector ps) (sym same) ∙ c.in_ok-list.ensures.gives.is in
+    let step = ap (λ xs. binder_in w xs c.args.collector) (one_given c.args.args.now c.in-Some.pairs others c.in-Some.ensures) ∙ binder_next w.names w.locals c.in-Some.pairs (sexps others) c.args.collector ps first c.in_ok-names.ensures.gives.is list in
+    let within : World = record { names = w.names; locals = map pair_local (map variable ps) ++ w.locals } in
+    let inside = world_inside sig scope _ c.args.table.now last then bs (map variable ps) c.in_ok-list.ensures.names (search (rules, the_lemmas)) in
+    subst (GivesTerms c.mean_all.new.table c.mean_all.result) (sym (step ∙ ap (λ is. all_in within (trees_in last is) others) (sym pushed) ∙ ap (λ (u : World). all_in u (trees_in last c.push.new.self) others) (sym inside))) c.mean_all.ensures.gives
 
-pub mean_list-returns-in_err-form_of-clause-fault : goal.mean_list-returns-in_err-form_of-clause-fault
-mean_list-returns-in_err-form_of-clause-fault t c =
-    let ts = c.args.table.now.trees in
-    let sig = c.args.sig.now in
-    let ls = bound_in c.args.scope.now in
-    let names = context ts sig in
-    let locals = read_locals ts ls in
-    let head = owned c.in-Some.head.now in
-    let args = sexps_of (map owned c.in-Some.args.now) in
-    let parts = parts_of names locals head args in
-    let step : (span : Span) → means names locals (Listed (sexps_of (map owned c.args.terms.now)) span) [] ≡ application names locals args parts (symbol_of head) [] =
-    λ span. ap (λ xs. means names locals (Listed (sexps_of (map owned xs)) span) []) c.in-Some.ensures.cases.0 ∙ of_list names locals head args span in
-    let e = err_from_is_err_and c.from_residual.result c.from_residual.ensures.1 in
-    rw (e.1, e.2) (λ m span. step span ∙ c.in_err-form_of.ensures.fault parts)
+pub mean_pair-returns-in_default-clause-adds : goal.mean_pair-returns-in_default-clause-adds
+mean_pair-returns-in_default-clause-adds t c = λ rest.
+    let w = world c.args.table.now c.args.sig.now c.args.scope.now in
+    pairs_other w.names w.locals c.args.pair.now rest (read_pairs c.args.table.now.trees c.args.names.now) c.in_default.ensures
 
-pub mean_list-returns-in-Let-clause-tree : goal.mean_list-returns-in-Let-clause-tree
-mean_list-returns-in-Let-clause-tree t c =
+pub mean_pair-returns-then-contains-clause-adds : goal.mean_pair-returns-then-contains-clause-adds
+mean_pair-returns-then-contains-clause-adds t c = λ rest.
+    let w = world c.args.table.now c.args.sig.now c.args.scope.now in
     let ts = c.args.table.now.trees in
-    let sig = c.args.sig.now in
-    let ls = bound_in c.args.scope.now in
-    let names = context ts sig in
-    let locals = read_locals ts ls in
-    let head = owned c.in-Some.head.now in
-    let args = sexps_of (map owned c.in-Some.args.now) in
-    let parts = parts_of names locals head args in
-    let step : (span : Span) → means names locals (Listed (sexps_of (map owned c.args.terms.now)) span) [] ≡ application names locals args parts (symbol_of head) [] =
-    λ span. ap (λ xs. means names locals (Listed (sexps_of (map owned xs)) span) []) c.in-Some.ensures.cases.0 ∙ of_list names locals head args span in
-    of_ok _ _ c.mean_let.result (λ x h. λ span. step span ∙ c.in_ok-form_of.ensures.form parts ∙ ap (λ f. formed ts names locals args parts f []) c.in-Let.is ∙ h) c.mean_let.ensures.tree
-
-pub mean_list-returns-in-Let-clause-fault : goal.mean_list-returns-in-Let-clause-fault
-mean_list-returns-in-Let-clause-fault t c =
-    let ts = c.args.table.now.trees in
-    let sig = c.args.sig.now in
-    let ls = bound_in c.args.scope.now in
-    let names = context ts sig in
-    let locals = read_locals ts ls in
-    let head = owned c.in-Some.head.now in
-    let args = sexps_of (map owned c.in-Some.args.now) in
-    let parts = parts_of names locals head args in
-    let step : (span : Span) → means names locals (Listed (sexps_of (map owned c.args.terms.now)) span) [] ≡ application names locals args parts (symbol_of head) [] =
-    λ span. ap (λ xs. means names locals (Listed (sexps_of (map owned xs)) span) []) c.in-Some.ensures.cases.0 ∙ of_list names locals head args span in
-    of_err _ _ c.mean_let.result (λ x h m. λ span. step span ∙ c.in_ok-form_of.ensures.form parts ∙ ap (λ f. formed ts names locals args parts f []) c.in-Let.is ∙ (h m)) c.mean_let.ensures.fault
-
-pub mean_list-returns-in-Head-clause-tree : goal.mean_list-returns-in-Head-clause-tree
-mean_list-returns-in-Head-clause-tree t c =
-    let ts = c.args.table.now.trees in
-    let sig = c.args.sig.now in
-    let ls = bound_in c.args.scope.now in
-    let names = context ts sig in
-    let locals = read_locals ts ls in
-    let head = owned c.in-Some.head.now in
-    let args = sexps_of (map owned c.in-Some.args.now) in
-    let parts = parts_of names locals head args in
-    let step : (span : Span) → means names locals (Listed (sexps_of (map owned c.args.terms.now)) span) [] ≡ application names locals args parts (symbol_of head) [] =
-    λ span. ap (λ xs. means names locals (Listed (sexps_of (map owned xs)) span) []) c.in-Some.ensures.cases.0 ∙ of_list names locals head args span in
-    of_ok _ _ c.mean_head.result (λ x h. λ span. step span ∙ c.in_ok-form_of.ensures.form parts ∙ ap (λ f. formed ts names locals args parts f []) c.in-Head.is ∙ h) c.mean_head.ensures.tree
-
-pub mean_list-returns-in-Head-clause-fault : goal.mean_list-returns-in-Head-clause-fault
-mean_list-returns-in-Head-clause-fault t c =
-    let ts = c.args.table.now.trees in
-    let sig = c.args.sig.now in
-    let ls = bound_in c.args.scope.now in
-    let names = context ts sig in
-    let locals = read_locals ts ls in
-    let head = owned c.in-Some.head.now in
-    let args = sexps_of (map owned c.in-Some.args.now) in
-    let parts = parts_of names locals head args in
-    let step : (span : Span) → means names locals (Listed (sexps_of (map owned c.args.terms.now)) span) [] ≡ application names locals args parts (symbol_of head) [] =
-    λ span. ap (λ xs. means names locals (Listed (sexps_of (map owned xs)) span) []) c.in-Some.ensures.cases.0 ∙ of_list names locals head args span in
-    of_err _ _ c.mean_head.result (λ x h m. λ span. step span ∙ c.in_ok-form_of.ensures.form parts ∙ ap (λ f. formed ts names locals args parts f []) c.in-Head.is ∙ (h m)) c.mean_head.ensures.fault
-
-pub mean_list-returns-in-Arguments-clause-tree : goal.mean_list-returns-in-Arguments-clause-tree
-mean_list-returns-in-Arguments-clause-tree t c =
-    let ts = c.args.table.now.trees in
-    let sig = c.args.sig.now in
-    let ls = bound_in c.args.scope.now in
-    let names = context ts sig in
-    let locals = read_locals ts ls in
-    let head = owned c.in-Some.head.now in
-    let args = sexps_of (map owned c.in-Some.args.now) in
-    let parts = parts_of names locals head args in
-    let step : (span : Span) → means names locals (Listed (sexps_of (map owned c.args.terms.now)) span) [] ≡ application names locals args parts (symbol_of head) [] =
-    λ span. ap (λ xs. means names locals (Listed (sexps_of (map owned xs)) span) []) c.in-Some.ensures.cases.0 ∙ of_list names locals head args span in
-    of_ok _ _ c.mean_use.result (λ x h. λ span. step span ∙ c.in_ok-form_of.ensures.form parts ∙ ap (λ f. formed ts names locals args parts f []) c.in-Arguments.is ∙ h head) c.mean_use.ensures.tree
-
-pub mean_list-returns-in-Arguments-clause-fault : goal.mean_list-returns-in-Arguments-clause-fault
-mean_list-returns-in-Arguments-clause-fault t c =
-    let ts = c.args.table.now.trees in
-    let sig = c.args.sig.now in
-    let ls = bound_in c.args.scope.now in
-    let names = context ts sig in
-    let locals = read_locals ts ls in
-    let head = owned c.in-Some.head.now in
-    let args = sexps_of (map owned c.in-Some.args.now) in
-    let parts = parts_of names locals head args in
-    let step : (span : Span) → means names locals (Listed (sexps_of (map owned c.args.terms.now)) span) [] ≡ application names locals args parts (symbol_of head) [] =
-    λ span. ap (λ xs. means names locals (Listed (sexps_of (map owned xs)) span) []) c.in-Some.ensures.cases.0 ∙ of_list names locals head args span in
-    of_err _ _ c.mean_use.result (λ x h m. λ span. step span ∙ c.in_ok-form_of.ensures.form parts ∙ ap (λ f. formed ts names locals args parts f []) c.in-Arguments.is ∙ (h m) head) c.mean_use.ensures.fault
-
-pub mean_pair-returns-in_default-clause-fault : goal.mean_pair-returns-in_default-clause-fault
-mean_pair-returns-in_default-clause-fault t c =
-    let ts = c.args.table.now.trees in
-    let sig = c.args.sig.now in
-    let ls = bound_in c.args.scope.now in
-    let names = context ts sig in
-    let locals = read_locals ts ls in
-    let before = read_pairs ts c.args.names.now in
-    λ m rest. pairs_other names locals (owned c.args.pair.now) rest before c.in_default.ensures
-
-pub mean_pair-returns-then-contains-clause-fault : goal.mean_pair-returns-then-contains-clause-fault
-mean_pair-returns-then-contains-clause-fault t c =
-    let ts = c.args.table.now.trees in
-    let sig = c.args.sig.now in
-    let ls = bound_in c.args.scope.now in
-    let names = context ts sig in
-    let locals = read_locals ts ls in
-    let before = read_pairs ts c.args.names.now in
     let name = c.in-Some.name.now in
-    let beside = owned c.in-Some.beside.now in
-    λ m rest. pairs_twice names locals (owned c.args.pair.now) beside name rest before c.in-Some.ensures (named_pairs ts c.args.names.now name ∙ sym c.contains.ensures ∙ c.if-contains.true)
+    pairs_twice w.names w.locals c.args.pair.now c.in-Some.beside name rest (read_pairs ts c.args.names.now) c.in-Some.ensures (named_pairs ts c.args.names.now name ∙ sym c.contains.ensures ∙ c.if-contains.true)
 
-pub mean_pair-returns-in_err-id-clause-fault : goal.mean_pair-returns-in_err-id-clause-fault
-mean_pair-returns-in_err-id-clause-fault t c =
+pub mean_pair-mean-requires : goal.mean_pair-mean-requires
+mean_pair-mean-requires t c =
+    let small = size_beside c.args.pair.now c.in-Some.beside c.in-Some.name.now c.in-Some.ensures in
+    (omega (arith, small), c.requires.ready)
+
+pub mean_pair-returns-in_err-id-clause-adds : goal.mean_pair-returns-in_err-id-clause-adds
+mean_pair-returns-in_err-id-clause-adds t c =
+    let w = world c.args.table.now c.args.sig.now c.args.scope.now in
     let ts = c.args.table.now.trees in
-    let sig = c.args.sig.now in
-    let ls = bound_in c.args.scope.now in
-    let names = context ts sig in
-    let locals = read_locals ts ls in
-    let before = read_pairs ts c.args.names.now in
     let name = c.in-Some.name.now in
-    let beside = owned c.in-Some.beside.now in
     let new = named_pairs ts c.args.names.now name ∙ sym c.contains.ensures ∙ c.if-contains.false in
-    let e = err_from_is_err_and c.from_residual.result c.from_residual.ensures.1 in
-    rw (e.1, e.2) (λ m rest. pairs_fault names locals (owned c.args.pair.now) beside name rest before (fault_of c.in_err-id.field-0.0) c.in-Some.ensures new (c.in_err-id.ensures.fault m))
+    adds_fault _ _ _ _ _ _ _ _ c.from_residual.ensures.1 (λ rest. tells_on told _ (more_pairs_in w (Next c.args.pair.now rest) (read_pairs ts c.args.names.now)) (term_in w c.in-Some.beside) (λ f e. pairs_fault w.names w.locals c.args.pair.now c.in-Some.beside name rest (read_pairs ts c.args.names.now) f c.in-Some.ensures new e) c.in_err-id.ensures.gives)
 
-pub mean_pair-returns-clause-pairs : goal.mean_pair-returns-clause-pairs
-mean_pair-returns-clause-pairs t c =
+pub mean_pair-returns-clause-adds : goal.mean_pair-returns-clause-adds
+mean_pair-returns-clause-adds t c =
+    let w = world c.args.table.now c.args.sig.now c.args.scope.now in
     let ts = c.args.table.now.trees in
-    let sig = c.args.sig.now in
-    let ls = bound_in c.args.scope.now in
-    let names = context ts sig in
-    let locals = read_locals ts ls in
     let before = read_pairs ts c.args.names.now in
     let name = c.in-Some.name.now in
-    let beside = owned c.in-Some.beside.now in
     let new = named_pairs ts c.args.names.now name ∙ sym c.contains.ensures ∙ c.if-contains.false in
-    λ rest.
     let us = c.mean.new.table.trees in
     let more : read_pairs us c.push.new.self ≡ before ++ (name, tree_at us c.in_ok-id.id) ∷ [] =
-    ap (read_pairs us) c.in_ok-push.ensures.pushed ∙ pushed_pairs ts us (length ts) c.args.names.now name c.in_ok-id.id c.requires.names c.mean.ensures.grows.tree in
-    pairs_next names locals (owned c.args.pair.now) beside name rest before (tree_at us c.in_ok-id.id) c.in-Some.ensures new c.in_ok-id.ensures.tree
-    ∙ ap (λ ps. pairs_after names locals rest ps []) (sym more)
+    ap (read_pairs us) c.in_ok-push.ensures.pushed ∙ pushed_pairs ts us (length ts) c.args.names.now name c.in_ok-id.id c.requires.names c.mean.ensures.grows.now.tree in
+    record {
+      live = grind (arith, common_steps);
+      pairs = λ rest.
+          pairs_next w.names w.locals c.args.pair.now c.in-Some.beside name rest before (tree_at us c.in_ok-id.id) c.in-Some.ensures new c.in_ok-id.ensures.gives.is
+          ∙ ap (λ ps. more_pairs_in w rest ps) (sym more);
+    }
 
-pub mean_pairs-returns-in-Atom-clause-fault : goal.mean_pairs-returns-in-Atom-clause-fault
-mean_pairs-returns-in-Atom-clause-fault t c =
-    let ts = c.args.table.now.trees in
-    let sig = c.args.sig.now in
-    let ls = bound_in c.args.scope.now in
-    let names = context ts sig in
-    let locals = read_locals ts ls in
-    let seen = ap owned c.in-Atom.is ∙ owned-Atom _ _ _ in
-    λ m. ap (λ s. pair_list names locals s []) seen ∙ pairs_atom names locals _ _ _
+pub mean_pairs-returns-in_default-clause-gives : goal.mean_pairs-returns-in_default-clause-gives
+mean_pairs-returns-in_default-clause-gives t c =
+    let w = world c.args.table.now c.args.sig.now c.args.scope.now in
+    pairs_no_list w.names w.locals c.args.pairs.now c.in_default.ensures
 
 pub mean_pairs-loop-pair-init : goal.mean_pairs-loop-pair-init
 mean_pairs-loop-pair-init t c =
+    let w = world c.args.table.now c.args.sig.now c.args.scope.now in
     let ts = c.args.table.now.trees in
-    let sig = c.args.sig.now in
-    let ls = bound_in c.args.scope.now in
-    let names = context ts sig in
-    let locals = read_locals ts ls in
-    let seen : owned c.args.pairs.now ≡ Listed (sexps_of (map owned c.in-List.children.items)) (record { from = c.in-List.span.0; to = c.in-List.span.1 }) = ap owned c.in-List.is ∙ owned-List c.in-List.children c.in-List.span in
-    let items = c.as_slice-pair-items.result.now in
+    let all : c.into_iter-pair-iterator.result ≡ c.in-Some.children = cc in
+    let smaller = size_inside c.args.pairs.now c.in-Some.children c.in-Some.ensures in
     record {
-      left = ap (λ s. pair_list names locals s []) seen ∙ pairs_listed names locals (sexps_of (map owned c.in-List.children.items)) (record { from = c.in-List.span.0; to = c.in-List.span.1 })
-          ∙ ap (λ xs. pairs_after names locals (sexps_of (map owned xs)) [] []) (sym c.as_slice-pair-items.ensures.value)
-          ∙ ap (λ bs. pairs_after names locals (sexps_of (map owned items)) (read_pairs ts bs) []) (sym c.new-names.ensures);
+      left = ap (pairs_in w) (is_list c.args.pairs.now c.in-Some.children c.in-Some.ensures) ∙ pairs_listed w.names w.locals (sexps c.in-Some.children) (sexp_span c.args.pairs.now)
+          ∙ ap (λ bs. more_pairs_in w (sexps c.in-Some.children) (read_pairs ts bs)) (sym c.new-names.ensures)
+          ∙ ap (λ ss. more_pairs_in w (sexps ss) (read_pairs ts c.new-names.result)) (sym all);
       live = subst (BindingsBelow (length ts)) (sym c.new-names.ensures) (All-nil (λ (b : Binding). b.1 < length ts));
-      grows = grows_refl c.args.table.now;
-      grown = λ s q. q;
+      smaller = subst (λ ss. size_of_all ss < size c.args.pairs.now) (sym all) smaller;
+      grows = grows_on_refl c.args.table.now;
     }
 
 pub mean_pairs-mean_pair-requires : goal.mean_pairs-mean_pair-requires
 mean_pairs-mean_pair-requires t c =
-    let ts = c.args.table.now.trees in
-    let sig = c.args.sig.now in
-    let ls = bound_in c.args.scope.now in
-    let names = context ts sig in
-    let locals = read_locals ts ls in
-    let seen : owned c.args.pairs.now ≡ Listed (sexps_of (map owned c.in-List.children.items)) (record { from = c.in-List.span.0; to = c.in-List.span.1 }) = ap owned c.in-List.is ∙ owned-List c.in-List.children c.in-List.span in
-    let items = c.as_slice-pair-items.result.now in
-    let small = size_at items c.loop-pair.pair-index c.pair-item.result c.pair-item.result c.loop-pair-test.true c.pair-item.is in
-    let whole = ap size seen in
-    let same = ap size_of_all c.as_slice-pair-items.ensures.value in
-    (omega (arith, small, whole, same), ((keeps_grown sig ls c.args.table.now c.loop-pair.table c.requires.ready c.loop-pair.invariant.grows).ready, c.loop-pair.invariant.live))
+    let whole : size_of_all c.loop-pair.pair-iterator ≡ size_of_all (c.in-Some-pair.pair ∷ c.next.new.self) = ap size_of_all c.in-Some-pair.ensures.steps in
+    (omega (arith, whole, c.loop-pair.invariant.smaller), (still_ready c.args.sig.now c.args.scope.now c.args.table.now c.loop-pair.table c.requires.ready c.loop-pair.invariant.grows, c.loop-pair.invariant.live))
 
-pub mean_pairs-returns-in_err-mean_pair-in-List-clause-fault : goal.mean_pairs-returns-in_err-mean_pair-in-List-clause-fault
-mean_pairs-returns-in_err-mean_pair-in-List-clause-fault t c =
-    let ts = c.args.table.now.trees in
-    let sig = c.args.sig.now in
-    let ls = bound_in c.args.scope.now in
-    let names = context ts sig in
-    let locals = read_locals ts ls in
-    let now = c.loop-pair.table.trees in
-    let items = c.as_slice-pair-items.result.now in
-    let pair = owned c.pair-item.result in
-    let rest = sexps_of (map owned (drop (c.loop-pair.pair-index + 1) items)) in
-    let g : Keeps sig ls ts now = keeps_grown sig ls c.args.table.now c.loop-pair.table c.requires.ready c.loop-pair.invariant.grows in
-    let before = read_pairs now c.loop-pair.names in
-    let at = dropped_at items c.loop-pair.pair-index c.pair-item.result c.loop-pair-test.true c.pair-item.is in
-    let step = c.loop-pair.invariant.left ∙ ap (λ ss. pairs_after names locals ss before []) at in
-    let e = err_from_is_err_and c.from_residual.result c.from_residual.ensures.1 in
-    rw (e.1, e.2) (λ m. step ∙ kept sig ls ts now g (λ n l. pairs_after n l (Next pair rest) before [] ≡ Err (fault_of c.in_err-mean_pair-in-List.field-0.0)) (c.in_err-mean_pair-in-List.ensures.fault m rest))
+pub mean_pairs-returns-in_err-mean_pair-clause-gives : goal.mean_pairs-returns-in_err-mean_pair-clause-gives
+mean_pairs-returns-in_err-mean_pair-clause-gives t c =
+    let w = world c.args.table.now c.args.sig.now c.args.scope.now in
+    let same = same_world c.args.sig.now c.args.scope.now c.args.table.now c.loop-pair.table c.requires.ready c.loop-pair.invariant.grows in
+    let pair = c.in-Some-pair.pair in
+    let rest = sexps c.next.new.self in
+    let before = read_pairs c.loop-pair.table.trees c.loop-pair.names in
+    let step = c.loop-pair.invariant.left ∙ ap (λ ss. more_pairs_in w (sexps ss) before) c.in-Some-pair.ensures.steps in
+    fails _ _ _ _ _ _ _ c.from_residual.ensures.1 (λ f e. step ∙ ap (λ (u : World). more_pairs_in u (Next pair rest) before) (sym same) ∙ e) (c.in_err-mean_pair.ensures.adds rest)
 
 pub mean_pairs-loop-pair-preserved : goal.mean_pairs-loop-pair-preserved
 mean_pairs-loop-pair-preserved t c =
-    let ts = c.args.table.now.trees in
-    let sig = c.args.sig.now in
-    let ls = bound_in c.args.scope.now in
-    let names = context ts sig in
-    let locals = read_locals ts ls in
-    let now = c.loop-pair.table.trees in
-    let items = c.as_slice-pair-items.result.now in
-    let pair = owned c.pair-item.result in
-    let rest = sexps_of (map owned (drop (c.loop-pair.pair-index + 1) items)) in
-    let g : Keeps sig ls ts now = keeps_grown sig ls c.args.table.now c.loop-pair.table c.requires.ready c.loop-pair.invariant.grows in
-    let before = read_pairs now c.loop-pair.names in
-    let at = dropped_at items c.loop-pair.pair-index c.pair-item.result c.loop-pair-test.true c.pair-item.is in
-    let step = c.loop-pair.invariant.left ∙ ap (λ ss. pairs_after names locals ss before []) at in
-    let us = c.mean_pair.new.table.trees in
-    let more = read_pairs us c.mean_pair.new.names in
+    let w = world c.args.table.now c.args.sig.now c.args.scope.now in
+    let same = same_world c.args.sig.now c.args.scope.now c.args.table.now c.loop-pair.table c.requires.ready c.loop-pair.invariant.grows in
+    let pair = c.in-Some-pair.pair in
+    let rest = sexps c.next.new.self in
+    let before = read_pairs c.loop-pair.table.trees c.loop-pair.names in
+    let step = c.loop-pair.invariant.left ∙ ap (λ ss. more_pairs_in w (sexps ss) before) c.in-Some-pair.ensures.steps in
+    let more = read_pairs c.mean_pair.new.table.trees c.mean_pair.new.names in
+    let whole : size_of_all c.loop-pair.pair-iterator ≡ size_of_all (pair ∷ c.next.new.self) = ap size_of_all c.in-Some-pair.ensures.steps in
     record {
-      left = step ∙ kept sig ls ts now g (λ n l. pairs_after n l (Next pair rest) before [] ≡ pairs_after n l rest more []) (c.in_ok-mean_pair-in-List.ensures.pairs rest);
-      live = c.in_ok-mean_pair-in-List.ensures.live;
-      grows = c.mean_pair.ensures.grown c.args.table.now c.loop-pair.invariant.grows;
-      grown = λ s q. c.mean_pair.ensures.grown s (c.loop-pair.invariant.grown s q);
+      left = step ∙ ap (λ (u : World). more_pairs_in u (Next pair rest) before) (sym same) ∙ c.in_ok-mean_pair.ensures.adds.pairs rest ∙ ap (λ (u : World). more_pairs_in u rest more) same;
+      live = c.in_ok-mean_pair.ensures.adds.live;
+      smaller = omega (arith, whole, c.loop-pair.invariant.smaller);
+      grows = search rules;
     }
 
-pub mean_pairs-returns-after-loop-pair-clause-pairs : goal.mean_pairs-returns-after-loop-pair-clause-pairs
-mean_pairs-returns-after-loop-pair-clause-pairs t c =
-    let ts = c.args.table.now.trees in
-    let sig = c.args.sig.now in
-    let ls = bound_in c.args.scope.now in
-    let names = context ts sig in
-    let locals = read_locals ts ls in
-    let items = c.as_slice-pair-items.result.now in
+pub mean_pairs-returns-clause-gives : goal.mean_pairs-returns-clause-gives
+mean_pairs-returns-clause-gives t c =
+    let w = world c.args.table.now c.args.sig.now c.args.scope.now in
     let before = read_pairs c.loop-pair.table.trees c.loop-pair.names in
-    c.loop-pair.invariant.left ∙ ap (λ ss. pairs_after names locals ss before []) (dropped_all items c.loop-pair.pair-index (omega arith)) ∙ pairs_end names locals before
-
-pub mean_use-returns-in_err-ids-clause-fault : goal.mean_use-returns-in_err-ids-clause-fault
-mean_use-returns-in_err-ids-clause-fault t c =
-    let ts = c.args.table.now.trees in
-    let sig = c.args.sig.now in
-    let ls = bound_in c.args.scope.now in
-    let names = context ts sig in
-    let locals = read_locals ts ls in
-    let args = sexps_of (map owned c.args.args.now) in
-    let e = err_from_is_err_and c.from_residual.result c.from_residual.ensures.1 in
-    rw (e.1, e.2) (λ m h. ap (go_on (made_of ts names locals c.args.used.now)) (c.in_err-ids.ensures.fault m h))
-
-pub mean_use-returns-clause-tree : goal.mean_use-returns-clause-tree
-mean_use-returns-clause-tree t c =
-    let ts = c.args.table.now.trees in
-    let sig = c.args.sig.now in
-    let ls = bound_in c.args.scope.now in
-    let names = context ts sig in
-    let locals = read_locals ts ls in
-    let args = sexps_of (map owned c.args.args.now) in
-    let us = c.mean_arguments.new.table.trees in
-    let g : Keeps sig ls ts us = keeps_grown sig ls c.args.table.now c.mean_arguments.new.table c.requires.ready c.mean_arguments.ensures.grows in
-    let given = map (tree_at us) c.in_ok-ids.ids in
-    let step : (h : Sexp) → arguments_used ts names locals (parts_of names locals h args) c.args.used.now [] ≡ made_of us names locals c.args.used.now given [] =
-    λ h. ap (go_on (made_of ts names locals c.args.used.now)) (c.in_ok-ids.ensures.trees h) ∙ made_grown ts us (length ts) names locals c.args.used.now given c.requires.below c.mean_arguments.ensures.grows.tree in
-    let same : map (tree_at us) c.as_slice.result.now ≡ given = ap (map (tree_at us)) c.as_slice.ensures in
-    of_ok _ _ c.use_arguments.result (λ x h. λ head. step head ∙ ap (λ us_. made_of us names locals c.args.used.now us_ []) (sym same) ∙ kept sig ls ts us g (λ n l. made_of us n l c.args.used.now (map (tree_at us) c.as_slice.result.now) [] ≡ Ok (tree_at c.use_arguments.new.table.trees x, [])) h) c.use_arguments.ensures.tree
-
-pub mean_use-returns-clause-fault : goal.mean_use-returns-clause-fault
-mean_use-returns-clause-fault t c =
-    let ts = c.args.table.now.trees in
-    let sig = c.args.sig.now in
-    let ls = bound_in c.args.scope.now in
-    let names = context ts sig in
-    let locals = read_locals ts ls in
-    let args = sexps_of (map owned c.args.args.now) in
-    let us = c.mean_arguments.new.table.trees in
-    let g : Keeps sig ls ts us = keeps_grown sig ls c.args.table.now c.mean_arguments.new.table c.requires.ready c.mean_arguments.ensures.grows in
-    let given = map (tree_at us) c.in_ok-ids.ids in
-    let step : (h : Sexp) → arguments_used ts names locals (parts_of names locals h args) c.args.used.now [] ≡ made_of us names locals c.args.used.now given [] =
-    λ h. ap (go_on (made_of ts names locals c.args.used.now)) (c.in_ok-ids.ensures.trees h) ∙ made_grown ts us (length ts) names locals c.args.used.now given c.requires.below c.mean_arguments.ensures.grows.tree in
-    let same : map (tree_at us) c.as_slice.result.now ≡ given = ap (map (tree_at us)) c.as_slice.ensures in
-    of_err _ _ c.use_arguments.result (λ x h m. λ head. step head ∙ ap (λ us_. made_of us names locals c.args.used.now us_ []) (sym same) ∙ kept sig ls ts us g (λ n l. made_of us n l c.args.used.now (map (tree_at us) c.as_slice.result.now) [] ≡ Err (fault_of x)) (h m)) c.use_arguments.ensures.fault
+    record {
+      live = c.loop-pair.invariant.live;
+      is = c.loop-pair.invariant.left ∙ ap (λ ss. more_pairs_in w (sexps ss) before) c.in-None.ensures.steps.0 ∙ pairs_end w.names w.locals before;
+    }

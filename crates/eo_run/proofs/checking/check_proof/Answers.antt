@@ -1,4 +1,4 @@
-use Rattle.std.proofs.Common.{◌∙◌, sym}
+use Rattle.std.proofs.Common.{sym}
 use Rattle.eo_run.proofs.Files.{ends-correct, ends-refused, end-cause}
 use Rattle.eo_run.proofs.checking.check_proof.Goals as goal
 

@@ -2,7 +2,7 @@ use Rattle.std.proofs.Common.{◌≡◌, ℕ, ◌≤◌, List, length, drop, map
 use Rattle.eo_term.specs.Tree.{Tree, occurs_in}
 use Rattle.eo_sig.specs.Signature as sig
 use Rattle.eo_sig.specs.Reading.{read_parameter}
-use Rattle.eo_sig.specs.ParamSet.{has}
+use Rattle.eo_term.specs.ParamSet.{has}
 use Rattle.eo_sig.proofs.patterns.solve.Given as goal
 
 abbrev pub decreases-loop-i : goal.decreases-loop-i

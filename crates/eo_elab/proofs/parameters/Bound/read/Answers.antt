@@ -1,51 +1,57 @@
-use Rattle.std.proofs.Common.{◌≡◌, ◌<◌, List, ◌++◌, ◌∷◌, [], length, All, ap, sym, subst, ◌∙◌, rules}
-use Rattle.std.proofs.lemmas.List.Elements.{All-append}
-use Rattle.std.proofs.lemmas.Result.{err_from_is_err_and}
+use Rattle.std.proofs.Common.{◌≡◌, ◌<◌, List, ◌++◌, ◌∷◌, [], length, All, ap, sym, subst, ◌∙◌, arith, rules}
+use Rattle.std.proofs.lemmas.List.Elements.{All-append, All-cons, All-nil}
 use Rattle.eo_sig.specs.declared.records.Param.{Param}
 use Rattle.eo_shape.specs.Reading as shapes
-use Rattle.eo_term.specs.Terms.{tree_at}
+use Rattle.eo_term.specs.Growth.{tree_in}
 use Rattle.eo_term.specs.Tree.{Par}
 use Rattle.eo_elab.specs.Declarations.{with_parameter}
 use Rattle.eo_elab.specs.Declaring.{read_bound}
-use Rattle.eo_elab.specs.Names.{local}
-use Rattle.eo_elab.specs.Refused.{fault_of}
-use Rattle.eo_elab.specs.Walk.{context}
-use Rattle.eo_elab.proofs.BoundLemmas.{bind-known, bind-refused, bind-taken, bound-names, bound-grown, bound-more, parameters-more}
+use Rattle.eo_names.specs.Names.{local, AreBelow}
+use Rattle.eo_names.specs.declared.locals.LocalName.{LocalName}
+use Rattle.eo_elab.proofs.Giving.{still_ready_of}
+use Rattle.eo_elab.specs.Worlds.{context_in}
+use Rattle.eo_elab.proofs.BoundLemmas.{bind-known, bind-refused, bind-taken, bound-names, bound-grown, bound-more, parameters-more, reads_fault}
 use Rattle.eo_elab.proofs.parameters.Bound.read.Goals as goal
 
-pub returns-then-has-clause-fault : goal.returns-then-has-clause-fault
-returns-then-has-clause-fault c = λ h rest.
-    let ts = c.args.table.now.trees in
+pub returns-then-has-clause-reads : goal.returns-then-has-clause-reads
+returns-then-has-clause-reads c = λ rest.
+    let t = c.args.table.now in
     let p = shapes.read_parameter c.args.shape.now in
-    bind-known (context ts c.args.sig.now) (read_bound ts c.args.self.now) p rest (bound-names ts p.name c.args.self.now.params ∙ sym c.has.ensures ∙ c.if-has.true)
+    bind-known (context_in t c.args.sig.now) (read_bound t.trees c.args.self.now) p rest (bound-names t.trees p.name c.args.self.now.params ∙ sym c.has.ensures ∙ c.if-has.true)
 
-pub returns-in_err-ty-clause-fault : goal.returns-in_err-ty-clause-fault
-returns-in_err-ty-clause-fault c =
-    let e = err_from_is_err_and c.from_residual.result c.from_residual.ensures.1 in
-    rw (e.1, e.2) (λ h rest.
-    let ts = c.args.table.now.trees in
+pub returns-in_err-ty-clause-reads : goal.returns-in_err-ty-clause-reads
+returns-in_err-ty-clause-reads c =
+    let t = c.args.table.now in
     let p = shapes.read_parameter c.args.shape.now in
-    let new = bound-names ts p.name c.args.self.now.params ∙ sym c.has.ensures ∙ c.if-has.false in
-    bind-refused (context ts c.args.sig.now) (read_bound ts c.args.self.now) p rest (fault_of _) new (c.in_err-ty.ensures.fault h))
+    let new = bound-names t.trees p.name c.args.self.now.params ∙ sym c.has.ensures ∙ c.if-has.false in
+    reads_fault c.args.sig.now t _ p c.args.self.now _ _ _ _ c.from_residual.ensures.1 (λ rest f e. bind-refused (context_in t c.args.sig.now) (read_bound t.trees c.args.self.now) p rest f new e) c.in_err-ty.ensures.gives
 
-pub returns-clause-bound : goal.returns-clause-bound
-returns-clause-bound c = λ rest.
+pub returns-clause-reads : goal.returns-clause-reads
+returns-clause-reads c =
     let old = c.args.table.now in
     let last = c.parameter.new.table in
     let p = shapes.read_parameter c.args.shape.now in
     let b = c.args.self.now in
     let new = bound-names old.trees p.name b.params ∙ sym c.has.ensures ∙ c.if-has.false in
-    let grows = c.in_ok-id.ensures.grown old c.in_ok-ty.ensures.grows in
+    let grows = c.in_ok-id.ensures.grows.since old c.in_ok-ty.ensures.grows.now in
     let x : Param = record { name = p.name; ty = c.in_ok-ty.ty; implicit = p.implicit; list = p.list } in
-    let type = c.in_ok-id.ensures.grows.tree c.in_ok-ty.ty c.in_ok-ty.ensures.live in
+    let t = tree_in c.term.new.table c.in_ok-ty.ty in
+    let type = c.in_ok-id.ensures.grows.now.tree c.in_ok-ty.ty c.in_ok-ty.ensures.gives.live in
     let whole : c.push.new.self ≡ record { params = b.params ++ x ∷ []; locals = local p.name c.in_ok-id.id p.list ∷ b.locals } = (λ i. record { params = c.in_ok-push.ensures.params i; locals = c.in_ok-push.ensures.locals i }) in
-    bind-taken (context old.trees c.args.sig.now) (read_bound old.trees b) p rest (tree_at c.term.new.table.trees c.in_ok-ty.ty) (read_bound last.trees c.push.new.self) new c.in_ok-ty.ensures.tree
-    (ap (read_bound last.trees) whole ∙ bound-more b last.trees x c.in_ok-id.id (tree_at c.term.new.table.trees c.in_ok-ty.ty) type (c.in_ok-id.ensures.tree ∙ ap (λ (ps : List Param). Par (length ps)) c.as_slice.ensures) ∙ ap (λ z. with_parameter z (record { name = p.name; type = tree_at c.term.new.table.trees c.in_ok-ty.ty; implicit = p.implicit; list = p.list })) (bound-grown b old last c.requires.below c.requires.ready.names grows))
-
-pub returns-clause-below : goal.returns-clause-below
-returns-clause-below c =
-    let last = c.parameter.new.table in
-    let x : Param = record { name = c.args.shape.now.name.now; ty = c.in_ok-ty.ty; implicit = c.args.shape.now.implicit; list = c.args.shape.now.list } in
-    let grows = c.in_ok-id.ensures.grown c.args.table.now c.in_ok-ty.ensures.grows in
-    let old = parameters-more (length c.args.table.now.trees) (length last.trees) c.args.self.now.params grows.more_trees c.requires.below in
-    subst (All (λ (p : Param). p.ty < length last.trees)) (sym c.in_ok-push.ensures.params) (All-append (λ (p : Param). p.ty < length last.trees) c.args.self.now.params (x ∷ []) old (search rules))
+    let read : read_bound last.trees c.push.new.self ≡ with_parameter (read_bound old.trees b) (record { name = p.name; type = t; implicit = p.implicit; list = p.list }) =
+    ap (read_bound last.trees) whole
+    ∙ bound-more b last.trees x c.in_ok-id.id t type (c.in_ok-id.ensures.makes.tree ∙ ap (λ (ps : List Param). Par (length ps)) c.as_slice.ensures)
+    ∙ ap (λ z. with_parameter z (record { name = p.name; type = t; implicit = p.implicit; list = p.list })) (bound-grown b old last c.requires.bound.params c.requires.bound.ready.names grows) in
+    let still = still_ready_of c.args.sig.now b.locals old last c.requires.bound.ready (search rules) in
+    let live : x.ty < length last.trees = omega (arith, c.in_ok-ty.ensures.gives.live, c.in_ok-id.ensures.grows.now.more_trees) in
+    record {
+      live = record {
+        params = subst (All (λ (q : Param). q.ty < length last.trees)) (sym c.in_ok-push.ensures.params)
+            (All-append (λ (q : Param). q.ty < length last.trees) b.params (x ∷ []) (parameters-more (length old.trees) (length last.trees) b.params grows.more_trees c.requires.bound.params) (All-cons (λ (q : Param). q.ty < length last.trees) x [] live (All-nil (λ (q : Param). q.ty < length last.trees))));
+        ready = record {
+          below = still.below;
+          names = subst (AreBelow (length last.trees)) (sym c.in_ok-push.ensures.locals) (All-cons (λ (l : LocalName). l.id < length last.trees) (local p.name c.in_ok-id.id p.list) b.locals c.in_ok-id.ensures.makes.live still.names);
+        };
+      };
+      binds = λ rest. bind-taken (context_in old c.args.sig.now) (read_bound old.trees b) p rest t (read_bound last.trees c.push.new.self) new c.in_ok-ty.ensures.gives.is read;
+    }

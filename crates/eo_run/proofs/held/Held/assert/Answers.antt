@@ -1,5 +1,4 @@
-use Rattle.std.proofs.Common.{◌≡◌, sym, subst, ◌∙◌}
-use Rattle.eo_sexp.specs.Owned.{owned}
+use Rattle.std.proofs.Common.{◌≡◌, sym, subst}
 use Rattle.eo_base.specs.declared.FaultName.{FaultName}
 use Rattle.eo_base.specs.declared.FaultName.TheVariants.{FileAbsent}
 use Rattle.eo_base.specs.Checks.{Checked}
@@ -12,7 +11,7 @@ use Rattle.eo_run.proofs.held.Held.assert.Goals as goal
 pub returns-in_err-formula-clause-does : goal.returns-in_err-formula-clause-does
 returns-in_err-formula-clause-does c =
     let st = state_of c.args.self.now in
-    let s = owned c.args.formula.now in
+    let s = c.args.formula.now in
     let x = c.in_err-formula.field-0.0 in
     let e = c.in_err-formula.ensures.exact in
     does-fault _ c.from_residual.result c.args.self.now x (assert-fault st s x (sym e)) (subst (λ (n : FaultName). n ≡ FileAbsent → ⊥) (sym c.in_err-formula.ensures.unknown) (λ q. absurd cc)) c.from_residual.ensures.1
@@ -20,5 +19,5 @@ returns-in_err-formula-clause-does c =
 pub returns-clause-does : goal.returns-clause-does
 returns-clause-does c =
     let st = state_of c.args.self.now in
-    let s = owned c.args.formula.now in
+    let s = c.args.formula.now in
     subst (λ (m : Checked State). Does c.add_assertion.result m c.add_assertion.new.self) (sym (assert-ok st s c.in_ok-formula.formula (sym c.in_ok-formula.ensures.exact))) c.add_assertion.ensures.does

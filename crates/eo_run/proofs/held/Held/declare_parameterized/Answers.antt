@@ -1,39 +1,21 @@
-use Rattle.std.proofs.Common.{◌≡◌, Ok, true, sym, ap, subst, ◌∙◌}
-use Rattle.eo_sexp.specs.Owned.{owned}
-use Rattle.eo_sig.specs.Reading.{read_constant}
-use Rattle.eo_elab.specs.Declarations.{is_free_name}
-use Rattle.eo_elab.specs.Declaring.{read_declaration}
-use Rattle.eo_run.specs.Adding.{checked_constant}
 use Rattle.eo_run.specs.Held.{state_of}
-use Rattle.eo_run.specs.State.{context}
-use Rattle.eo_run.proofs.Adding.{free_names, read_is_constant, refused-declared, parameterized-fault, parameterized-declared, parameterized-kind, does-same}
+use Rattle.eo_run.specs.Step.{checked_constant}
+use Rattle.eo_run.proofs.Adding.{declared-refused, declared-added}
+use Rattle.eo_run.proofs.Holding.{keeps_table}
+use Rattle.eo_sig.specs.Reading.{read_constant}
 use Rattle.eo_run.proofs.held.Held.declare_parameterized.Goals as goal
 
+pub returns-in_err-d-clause-whole : goal.returns-in_err-d-clause-whole
+returns-in_err-d-clause-whole c = (keeps_table c.args.self.now c.requires c.declared_parameterized.new.table c.in_err-d.ensures.grows.stays c.in_err-d.ensures.grows.table).whole
+
 pub returns-in_err-d-clause-does : goal.returns-in_err-d-clause-does
-returns-in_err-d-clause-does c = λ m d.
-    let st = state_of c.args.self.now in
-    let s = owned c.args.s.now in
-    refused-declared st s m c.from_residual.result c.in_err-d.field-0.0 c.declared.new.self (parameterized-fault st s m d) c.from_residual.ensures.1 c.in_err-d.ensures.refused
+returns-in_err-d-clause-does c =
+    declared-refused _ checked_constant (state_of c.args.self.now) c.from_residual.result _ c.in_err-d.field-0.0 c.from_residual.ensures.1 c.in_err-d.ensures.gives
 
-pub add_constant-requires-clause-free : goal.add_constant-requires-clause-free
-add_constant-requires-clause-free c =
-    let ts = c.declared.new.self.table.trees in
-    let x = read_constant ts c.in-Const.d in
-    let told = c.in_ok-d.ensures.declared ∙ ap (λ e. Ok (read_declaration ts e)) c.in-Const.is in
-    let is = (parameterized-declared (state_of c.args.self.now) (owned c.args.s.now) c.requires.declares.0 c.requires.declares.1 x told).0 in
-    free_names ts c.declared.new.self.signature c.in-Const.d.name (subst (λ z. is_free_name (context z) c.in-Const.d.name ≡ true) (sym c.declared.ensures.same) is)
-
-pub unreachable-requires : goal.unreachable-requires
-unreachable-requires c =
-    let ts = c.declared.new.self.table.trees in
-    let kind = parameterized-kind (state_of c.args.self.now) (owned c.args.s.now) c.requires.declares.0 c.requires.declares.1 (read_declaration ts c.in_ok-d.field-0) c.in_ok-d.ensures.declared in
-    let is = read_is_constant ts c.in_ok-d.field-0 kind.0 kind.1 in
-    c.in_default.not-Const is.0 is.1
+pub add_constant-requires-clause-whole : goal.add_constant-requires-clause-whole
+add_constant-requires-clause-whole c = (keeps_table c.args.self.now c.requires c.declared_parameterized.new.table c.in_ok-d.ensures.grows.stays c.in_ok-d.ensures.grows.table).whole
 
 pub returns-clause-does : goal.returns-clause-does
-returns-clause-does c = λ m d.
-    let ts = c.declared.new.self.table.trees in
-    let x = read_constant ts c.in-Const.d in
-    let told = c.in_ok-d.ensures.declared ∙ ap (λ e. Ok (read_declaration ts e)) c.in-Const.is in
-    let is = (parameterized-declared (state_of c.args.self.now) (owned c.args.s.now) m d x told).1 ∙ ap (λ z. checked_constant z x) (sym c.declared.ensures.same) in
-    does-same m _ c.add_constant.result c.add_constant.new.self is c.add_constant.ensures.does
+returns-clause-does c =
+    let keeps = keeps_table c.args.self.now c.requires c.declared_parameterized.new.table c.in_ok-d.ensures.grows.stays c.in_ok-d.ensures.grows.table in
+    declared-added _ checked_constant (state_of c.args.self.now) c.add_constant.result c.add_constant.new.self _ (read_constant c.declared_parameterized.new.table.trees c.in_ok-d.d) keeps.same c.in_ok-d.ensures.gives.is c.add_constant.ensures.does

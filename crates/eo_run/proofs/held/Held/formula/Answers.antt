@@ -1,34 +1,48 @@
-use Rattle.std.proofs.Common.{Ok, sym, ap, ◌∙◌}
-use Rattle.eo_sexp.specs.Owned.{owned}
+use Rattle.std.proofs.Common.{Ok, arith, sym, ap, ◌∙◌}
+use Rattle.std.specs.Prelude.{Result, ℕ}
 use Rattle.eo_term.specs.Terms.{tree_at}
 use Rattle.eo_run.specs.Held.{state_of}
 use Rattle.eo_run.specs.State.{State}
-use Rattle.eo_run.specs.Step.{typed}
-use Rattle.eo_run.proofs.Sessions.{formula-value, formula-kind, formula-not_bool, formula-ok, refuses-on}
+use Rattle.eo_run.specs.Step.{typed, formula}
+use Rattle.eo_run.specs.Stepping.{GivesTerm}
+use Rattle.eo_run.specs.declared.refused.Refused.{Refused}
+use Rattle.eo_run.proofs.Exits.{at_exit}
+use Rattle.eo_run.proofs.Sessions.{formula-value, formula-kind, formula-not_bool, formula-ok, refuses_on}
 use Rattle.eo_run.proofs.held.Held.formula.Goals as goal
 
-pub returns-in_err-value-clause-refused : goal.returns-in_err-value-clause-refused
-returns-in_err-value-clause-refused c =
-    refuses-on _ _ c.from_residual.result c.in_err-value.field-0.0 c.from_residual.ensures.1 c.in_err-value.ensures.refused (formula-value (state_of c.args.self.now) (owned c.args.s.now))
+pub returns-in_err-value-clause-gives : goal.returns-in_err-value-clause-gives
+returns-in_err-value-clause-gives c =
+    let st = state_of c.args.self.now in
+    let s = c.args.s.now in
+    let x = c.in_err-value.field-0.0 in
+    at_exit (λ (r : Result ℕ Refused). GivesTerm c.value.new.self r (formula st s)) c.from_residual.result x c.from_residual.ensures.1 (refuses_on _ _ x c.in_err-value.ensures.gives (formula-value st s))
 
-pub returns-in_err-has_kind-clause-refused : goal.returns-in_err-has_kind-clause-refused
-returns-in_err-has_kind-clause-refused c =
+pub returns-in_err-has_kind-clause-gives : goal.returns-in_err-has_kind-clause-gives
+returns-in_err-has_kind-clause-gives c =
+    let st = state_of c.args.self.now in
+    let s = c.args.s.now in
     let v = tree_at c.value.new.self.table.trees c.in_ok-value.value in
-    let same = ap (λ (st : State). typed st v) (sym c.in_ok-value.ensures.same) in
-    refuses-on _ _ c.from_residual-in_err-has_kind.result c.in_err-has_kind.field-0.0 c.from_residual-in_err-has_kind.ensures.1 c.in_err-has_kind.ensures.refused
-    (λ name h. formula-kind (state_of c.args.self.now) (owned c.args.s.now) v name c.in_ok-value.ensures.value (same ∙ h))
+    let same = ap (λ (st : State). typed st v) (sym c.in_ok-value.ensures.keeps.same) in
+    let x = c.in_err-has_kind.field-0.0 in
+    at_exit (λ (r : Result ℕ Refused). GivesTerm c.has_kind.new.self r (formula st s)) c.from_residual-in_err-has_kind.result x c.from_residual-in_err-has_kind.ensures.1
+    (refuses_on _ _ x c.in_err-has_kind.ensures.gives (λ name h. formula-kind st s v name c.in_ok-value.ensures.gives.is (same ∙ h)))
 
-pub returns-then-not-branch-clause-refused : goal.returns-then-not-branch-clause-refused
-returns-then-not-branch-clause-refused c =
+pub returns-then-not-branch-clause-gives : goal.returns-then-not-branch-clause-gives
+returns-then-not-branch-clause-gives c =
     let v = tree_at c.value.new.self.table.trees c.in_ok-value.value in
-    let same = ap (λ (st : State). typed st v) (sym c.in_ok-value.ensures.same) in
-    let kind = c.in_ok-has_kind.ensures.kind in
-    (formula-not_bool (state_of c.args.self.now) (owned c.args.s.now) v kind.0 c.in_ok-value.ensures.value (same ∙ kind.1) (kind.2 ∙ c.if-not-branch.true), λ q. absurd cc)
+    let same = ap (λ (st : State). typed st v) (sym c.in_ok-value.ensures.keeps.same) in
+    let kind = c.in_ok-has_kind.ensures.gives in
+    (formula-not_bool (state_of c.args.self.now) c.args.s.now v kind.0 c.in_ok-value.ensures.gives.is (same ∙ kind.1) (kind.2 ∙ c.if-not-branch.true), λ q. absurd cc)
 
-pub returns-clause-value : goal.returns-clause-value
-returns-clause-value c =
+pub returns-clause-gives : goal.returns-clause-gives
+returns-clause-gives c =
     let v = tree_at c.value.new.self.table.trees c.in_ok-value.value in
-    let same = ap (λ (st : State). typed st v) (sym c.in_ok-value.ensures.same) in
-    let kind = c.in_ok-has_kind.ensures.kind in
-    formula-ok (state_of c.args.self.now) (owned c.args.s.now) v kind.0 c.in_ok-value.ensures.value (same ∙ kind.1) (kind.2 ∙ c.if-not-branch.false)
-    ∙ ap (λ t. Ok t) (sym (c.in_ok-has_kind.ensures.grows.tree c.in_ok-value.value c.in_ok-value.ensures.live))
+    let same = ap (λ (st : State). typed st v) (sym c.in_ok-value.ensures.keeps.same) in
+    let kind = c.in_ok-has_kind.ensures.gives in
+    let grows = c.in_ok-has_kind.ensures.keeps.grows.now in
+    record {
+      live = omega (arith, c.in_ok-value.ensures.gives.live, grows.more_trees);
+      is =
+          formula-ok (state_of c.args.self.now) c.args.s.now v kind.0 c.in_ok-value.ensures.gives.is (same ∙ kind.1) (kind.2 ∙ c.if-not-branch.false)
+          ∙ ap (λ t. Ok t) (sym (grows.tree c.in_ok-value.value c.in_ok-value.ensures.gives.live));
+    }

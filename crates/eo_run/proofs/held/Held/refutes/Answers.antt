@@ -5,5 +5,5 @@ use Rattle.eo_run.proofs.held.Held.refutes.Goals as goal
 pub returns : goal.returns
 returns c =
     let h = c.args.self.now in
-    let third = first_is h.table.trees 3 c.len.ensures.first (omega arith) in
-    c.refutes.ensures ∙ sym (false_fact h.table.trees c.len.ensures.same h.facts third.1 third.0 c.requires.facts)
+    let third = first_is h.table.trees 3 c.laws.ensures.first (omega arith) in
+    c.refutes.ensures ∙ sym (false_fact h.table.trees c.laws.ensures.same h.facts third.1 third.0 c.requires.facts)

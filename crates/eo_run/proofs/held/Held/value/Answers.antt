@@ -1,30 +1,48 @@
-use Rattle.std.proofs.Common.{◌≡◌, sym, ap, subst, ◌∙◌}
-use Rattle.std.specs.Prelude.{Ok, not}
-use Rattle.eo_sexp.specs.Owned.{owned}
+use Rattle.std.proofs.Common.{sym, ◌∙◌}
+use Rattle.std.specs.Prelude.{Result, ℕ}
 use Rattle.eo_run.specs.Held.{state_of}
-use Rattle.eo_run.proofs.Holding.{state_table, whole_table}
-use Rattle.eo_run.proofs.Sessions.{value-fault, value-stuck, value-ok, refuses-elab, no_locals}
+use Rattle.eo_run.specs.Step.{value}
+use Rattle.eo_run.specs.Stepping.{of_elab, GivesTerm}
+use Rattle.eo_run.specs.declared.refused.Refused.{Refused}
+use Rattle.eo_run.proofs.Holding.{keeps_table, stays_kept}
+use Rattle.eo_run.proofs.Exits.{at_exit}
+use Rattle.eo_run.proofs.Sessions.{value-fault, value-stuck, value-ok, refuses_elab, refuses_on, no_locals}
 use Rattle.eo_run.proofs.held.Held.value.Goals as goal
 
-pub returns-in_err-id-clause-same : goal.returns-in_err-id-clause-same
-returns-in_err-id-clause-same c = state_table c.args.self.now c.requires c.term.new.table c.in_err-id.ensures.grows
+pub returns-in_err-id-clause-gives : goal.returns-in_err-id-clause-gives
+returns-in_err-id-clause-gives c =
+    let h = c.args.self.now in
+    let st = state_of h in
+    let s = c.args.s.now in
+    let x = c.in_err-id.field-0.0 in
+    at_exit (λ (r : Result ℕ Refused). GivesTerm (record h { table = c.term.new.table }) r (value st s)) c.from_residual-in_err-id.result (of_elab x) c.from_residual-in_err-id.ensures.1
+    (refuses_on _ _ (of_elab x) (refuses_elab _ x c.in_err-id.ensures.gives) (λ name e. value-fault st s name (no_locals st s h.table.trees c.in_ok-locals.locals c.in_ok-locals.ensures _ e)))
 
-pub returns-in_err-id-clause-refused : goal.returns-in_err-id-clause-refused
-returns-in_err-id-clause-refused c =
+pub returns-in_err-id-clause-keeps : goal.returns-in_err-id-clause-keeps
+returns-in_err-id-clause-keeps c =
+    let h = c.args.self.now in
+    keeps_table h c.requires c.term.new.table (stays_kept h.signature c.in_ok-locals.locals h.table.trees c.term.new.table.trees c.in_err-id.ensures.keeps) c.in_err-id.ensures.grows
+
+pub returns-then-not-is_value-clause-gives : goal.returns-then-not-is_value-clause-gives
+returns-then-not-is_value-clause-gives c =
     let st = state_of c.args.self.now in
-    let s = owned c.args.s.now in
-    refuses-elab _ c.from_residual-in_err-id.result c.in_err-id.field-0.0 c.from_residual-in_err-id.ensures.1 (λ k. value-fault st s _ (no_locals st s c.args.self.now.table.trees c.in_ok-locals.locals c.in_ok-locals.ensures _ (c.in_err-id.ensures.fault k)))
+    let s = c.args.s.now in
+    let is = no_locals st s c.args.self.now.table.trees c.in_ok-locals.locals c.in_ok-locals.ensures _ c.in_ok-id.ensures.gives.is in
+    (value-stuck st s _ is (sym c.is_value.ensures.value ∙ c.if-not-is_value.true), λ e. absurd cc)
 
-pub returns-then-not-is_value-clause-same : goal.returns-then-not-is_value-clause-same
-returns-then-not-is_value-clause-same c = state_table c.args.self.now c.requires c.term.new.table c.in_ok-id.ensures.grows
+pub returns-then-not-is_value-clause-keeps : goal.returns-then-not-is_value-clause-keeps
+returns-then-not-is_value-clause-keeps c =
+    let h = c.args.self.now in
+    keeps_table h c.requires c.term.new.table (stays_kept h.signature c.in_ok-locals.locals h.table.trees c.term.new.table.trees c.in_ok-id.ensures.keeps) c.in_ok-id.ensures.grows
 
-pub returns-then-not-is_value-clause-refused : goal.returns-then-not-is_value-clause-refused
-returns-then-not-is_value-clause-refused c =
-    (value-stuck (state_of c.args.self.now) (owned c.args.s.now) _ (no_locals (state_of c.args.self.now) (owned c.args.s.now) c.args.self.now.table.trees c.in_ok-locals.locals c.in_ok-locals.ensures _ c.in_ok-id.ensures.tree) (sym c.is_value.ensures.value ∙ c.if-not-is_value.true), λ e. absurd cc)
+pub returns-clause-gives : goal.returns-clause-gives
+returns-clause-gives c =
+    let st = state_of c.args.self.now in
+    let s = c.args.s.now in
+    let is = no_locals st s c.args.self.now.table.trees c.in_ok-locals.locals c.in_ok-locals.ensures _ c.in_ok-id.ensures.gives.is in
+    record { live = c.in_ok-id.ensures.gives.live; is = value-ok st s _ is (sym c.is_value.ensures.value ∙ c.if-not-is_value.false) }
 
-pub returns-clause-same : goal.returns-clause-same
-returns-clause-same c = state_table c.args.self.now c.requires c.term.new.table c.in_ok-id.ensures.grows
-
-pub returns-clause-value : goal.returns-clause-value
-returns-clause-value c =
-    value-ok (state_of c.args.self.now) (owned c.args.s.now) _ (no_locals (state_of c.args.self.now) (owned c.args.s.now) c.args.self.now.table.trees c.in_ok-locals.locals c.in_ok-locals.ensures _ c.in_ok-id.ensures.tree) (sym c.is_value.ensures.value ∙ c.if-not-is_value.false)
+pub returns-clause-keeps : goal.returns-clause-keeps
+returns-clause-keeps c =
+    let h = c.args.self.now in
+    keeps_table h c.requires c.term.new.table (stays_kept h.signature c.in_ok-locals.locals h.table.trees c.term.new.table.trees c.in_ok-id.ensures.keeps) c.in_ok-id.ensures.grows

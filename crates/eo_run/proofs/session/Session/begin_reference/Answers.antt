@@ -1,4 +1,4 @@
-use Rattle.std.proofs.Common.{◌≡◌, false, refl, sym, ap, ◌∙◌}
+use Rattle.std.proofs.Common.{refl, sym, ap, ◌∙◌}
 use Rattle.eo_run.specs.Held.{state_of}
 use Rattle.eo_run.specs.State.{begin_reference}
 use Rattle.eo_run.specs.Stepping.{Standing}

@@ -1,4 +1,4 @@
-use Rattle.std.proofs.Common.{◌≡◌, sym, ap, ◌∙◌}
+use Rattle.std.proofs.Common.{sym, ap, ◌∙◌}
 use Rattle.eo_run.specs.Held.{state_of}
 use Rattle.eo_run.specs.State.{end_fault}
 use Rattle.eo_run.specs.Stepping.{Standing}

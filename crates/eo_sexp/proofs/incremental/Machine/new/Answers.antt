@@ -3,4 +3,4 @@ use Rattle.eo_sexp.proofs.MachineSteps.{placed-none}
 use Rattle.eo_sexp.proofs.incremental.Machine.new.Goals as goal
 
 pub returns-clause-sound : goal.returns-clause-sound
-returns-clause-sound c = (c.new.ensures.items, placed-none _ c.new.ensures.items refl (omega arith))
+returns-clause-sound c = (c.in_ok-new.ensures, placed-none _ c.in_ok-new.ensures refl (omega arith))

@@ -10,7 +10,7 @@ use Rattle.eo_sexp.proofs.incremental.Machine.turn_pair.Goals as goal
 pub turn_begun-requires-clause-pair : goal.turn_begun-requires-clause-pair
 turn_begun-requires-clause-pair c =
     let e = c.requires.pair ∙ ap (λ b. state.Pair b) c.if-comment.true in
-    pair-goes true (not c.is_line_end.result) (phase_of c.args.self.now.phase) c.args.self.now.begun.items c.args.x (pair-fact c.args.self.now true e c.requires.sound)
+    pair-goes true (not c.is_line_end.result) (phase_of c.args.self.now.phase) c.args.self.now.begun.bytes c.args.x (pair-fact c.args.self.now true e c.requires.sound)
     (λ n more. pass-in_comment n c.args.x more ∙ ap (λ b. pass (not b) (suc n) more) (sym c.is_line_end.ensures))
 
 pub turn_between-requires-clause-placed : goal.turn_between-requires-clause-placed
@@ -20,19 +20,19 @@ turn_between-requires-clause-placed c =
 pub turn_begun-requires-in-Space-clause-pair : goal.turn_begun-requires-in-Space-clause-pair
 turn_begun-requires-in-Space-clause-pair c =
     let e = c.requires.pair ∙ ap (λ b. state.Pair b) c.if-comment.false in
-    subst (λ s. IsPairFact s (phase_of c.args.self.now.phase) (c.args.self.now.begun.items ++ c.args.x ∷ [])) (sym e)
-    (pair-goes false false (phase_of c.args.self.now.phase) c.args.self.now.begun.items c.args.x (pair-fact c.args.self.now false e c.requires.sound) (λ n more. pass-space n c.args.x more (sym c.in-Space.ensures)))
+    subst (λ s. IsPairFact s (phase_of c.args.self.now.phase) (c.args.self.now.begun.bytes ++ c.args.x ∷ [])) (sym e)
+    (pair-goes false false (phase_of c.args.self.now.phase) c.args.self.now.begun.bytes c.args.x (pair-fact c.args.self.now false e c.requires.sound) (λ n more. pass-space n c.args.x more (sym c.in-Space.ensures)))
 
 pub turn_begun-requires-in-Comment-clause-pair : goal.turn_begun-requires-in-Comment-clause-pair
 turn_begun-requires-in-Comment-clause-pair c =
     let e = c.requires.pair ∙ ap (λ b. state.Pair b) c.if-comment.false in
-    pair-goes false true (phase_of c.args.self.now.phase) c.args.self.now.begun.items c.args.x (pair-fact c.args.self.now false e c.requires.sound) (λ n more. pass-comment n c.args.x more (sym c.in-Comment.ensures))
+    pair-goes false true (phase_of c.args.self.now.phase) c.args.self.now.begun.bytes c.args.x (pair-fact c.args.self.now false e c.requires.sound) (λ n more. pass-comment n c.args.x more (sym c.in-Comment.ensures))
 
 pub turn_begun-requires-in_default-clause-pair : goal.turn_begun-requires-in_default-clause-pair
 turn_begun-requires-in_default-clause-pair c =
     let e = c.requires.pair ∙ ap (λ b. state.Pair b) c.if-comment.false in
     let k = token-class c.classify.result c.args.x c.classify.ensures c.in_default.not-Space c.in_default.not-Comment c.in_default.not-Open c.in_default.not-Close in
-    pair-ends (phase_of c.args.self.now.phase) c.args.self.now.begun.items c.args.x (pair-fact c.args.self.now false e c.requires.sound) k.0 k.1
+    pair-ends (phase_of c.args.self.now.phase) c.args.self.now.begun.bytes c.args.x (pair-fact c.args.self.now false e c.requires.sound) k.0 k.1
 
 pub returns-in-Open : goal.returns-in-Open
 returns-in-Open c =

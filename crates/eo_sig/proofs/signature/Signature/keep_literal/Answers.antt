@@ -1,5 +1,5 @@
 use Rattle.std.proofs.Common.{◌≡◌, [], ◌∷◌, ◌++◌, None, sym, ap, ◌∙◌, subst}
-use Rattle.eo_sig.specs.declared.LiteralClass.TheVariants as class
+use Rattle.eo_lit.specs.declared.LiteralClass.TheVariants as class
 use Rattle.eo_sig.specs.declared.records.Declared.TheVariants as declared
 use Rattle.eo_sig.specs.Signature as sig
 use Rattle.eo_sig.specs.Reading.{Kept, signature}

@@ -1,7 +1,7 @@
 use Rattle.std.proofs.Common.{◌≡◌, ap, sym, ◌∙◌, subst}
 use Rattle.std.specs.Prelude.{option_map}
 use Rattle.eo_term.specs.Terms.{tree_at}
-use Rattle.eo_sig.specs.declared.LiteralClass.TheVariants as class
+use Rattle.eo_lit.specs.declared.LiteralClass.TheVariants as class
 use Rattle.eo_sig.specs.Signature as sig
 use Rattle.eo_sig.specs.Reading.{signature, IsBelow}
 use Rattle.eo_sig.proofs.Readings.{literal_read, literal_below}

@@ -8,4 +8,4 @@ pub returns-clause-characters : goal.returns-clause-characters
 returns-clause-characters c =
     let w = c.unwrap.result.now in
     let at : slice_get c.self.inside.texts.keys c.text.inside.number ≡ Some w = sym c.get_index.ensures.key ∙ ap (option_map (λ p. p.now)) c.unwrap.ensures in
-    subst AreCharacters (sym c.as_slice.ensures.value) (text_of (λ v. v.items) AreCharacters c.self.inside.texts.keys c.text.inside.number w at c.self.invariant.characters)
+    subst AreCharacters (sym c.as_slice.ensures.value) (text_of (λ v. v.items) AreCharacters c.self.inside.texts.keys c.text.inside.number w at c.self.invariant.1.characters)

@@ -1,0 +1,23 @@
+-- Tests that hold together, and tests of which one is enough.
+use Rattle.std.proofs.Common.{◌≡◌, ℕ, Bool, true, false, ◌||◌, List, refl, sym}
+use Rattle.std.specs.Str.{bytes_eq}
+use Rattle.std.proofs.lemmas.Slice.Eq.{bytes_eq-Decides}
+
+-- two tests of which each holds where the other does
+pub same_tests : (a b : Bool) → (a ≡ true → b ≡ true) → (b ≡ true → a ≡ true) → a ≡ b
+same_tests true b f g = sym (f refl)
+same_tests false true f g = g refl
+same_tests false false f g = refl
+
+pub bytes_eq-flip : (x y : List ℕ) → bytes_eq x y ≡ bytes_eq y x
+bytes_eq-flip x y =
+    same_tests (bytes_eq x y) (bytes_eq y x) (λ h. (bytes_eq-Decides y x).1 (sym ((bytes_eq-Decides x y).0 h))) (λ h. (bytes_eq-Decides x y).1 (sym ((bytes_eq-Decides y x).0 h)))
+
+-- the first, or the second
+pub or_first : (b c : Bool) → b ≡ true → (b || c) ≡ true
+or_first true c e = refl
+or_first false c e = cc
+
+pub or_second : (b c : Bool) → c ≡ true → (b || c) ≡ true
+or_second true c e = refl
+or_second false c e = e

@@ -1,6 +1,0 @@
-use Rattle.std.proofs.Common.{◌≡◌, ◌++◌, map}
-use Rattle.eo_elab.specs.Names.{Binding}
-use Rattle.eo_elab.proofs.locals.Bindings.ids.Given as goal
-
-abbrev pub invariant-loop-id : goal.invariant-loop-id
-invariant-loop-id l = l.ids ++ l.id-iterator ≡ map (λ (b : Binding). b.1) l.fn.self

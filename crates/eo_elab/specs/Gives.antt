@@ -1,0 +1,106 @@
+-- What calls answer, against what is read: the terms of a table, or the fault.
+use Rattle.std.specs.Prelude.{◌≡◌, ℕ, ◌<◌, List, [], ◌∷◌, length, map, All, Result, Ok, Err}
+use Rattle.eo_base.specs.Answers.{Gives, Tells}
+use Rattle.eo_base.specs.Checks.{Checked}
+use Rattle.eo_sexp.specs.Sexp.{Sexp, Sexps, Next}
+use Rattle.eo_sig.specs.declared.records.Attribute as code_attribute
+use Rattle.eo_sig.specs.declared.records.ConstDecl.{ConstDecl}
+use Rattle.eo_sig.specs.declared.records.Declaration as code
+use Rattle.eo_sig.specs.declared.records.MacroDecl.{MacroDecl}
+use Rattle.eo_sig.specs.Reading.{Kept, read_attribute, read_constant, read_macro, AttributeBelow, ConstBelow, MacroBelow}
+use Rattle.eo_sig.specs.Signature.{Attribute, Constant, Macro}
+use Rattle.eo_term.specs.Tree.{Tree}
+use Rattle.eo_term.specs.Terms.{Terms, tree_at}
+use Rattle.eo_elab.specs.declared.parameters.Bound as code_bound
+use Rattle.eo_elab.specs.declared.plan.Form.{Form}
+use Rattle.eo_names.specs.declared.refused.ElabRefused.{ElabRefused}
+use Rattle.eo_names.specs.declared.usage.Use.{Use}
+use Rattle.eo_shape.specs.Shapes.{ParameterShape}
+use Rattle.eo_elab.specs.Declarations.{Bound, Declaration, bind}
+use Rattle.eo_elab.specs.Declaring.{read_bound, read_declaration, read_typed, BoundBelow, DeclarationBelow, TypedBelow}
+use Rattle.eo_names.specs.Contexts.{Context, Local}
+use Rattle.eo_elab.specs.Meaning.{Parts}
+use Rattle.eo_names.specs.Names.{Binding, read_pairs, BindingsBelow}
+use Rattle.eo_names.specs.Refused.{told}
+use Rattle.eo_names.specs.Worlds.{World, Read}
+use Rattle.eo_elab.specs.Worlds.{context_in, form_in, used_in, application_in, word_in, meant_in, applied_in, more_pairs_in}
+use Rattle.eo_names.specs.declared.symbols.Meant as code_meant
+use Rattle.eo_names.specs.Symbols.{read_meant}
+use Rattle.eo_names.specs.Ready.{context}
+
+-- the ids of terms; those of trees that are read with no label, and names with ids
+abbrev pub GivesTrees : Terms → Result (List ℕ) ElabRefused → Checked (List Tree) → Type 0
+GivesTrees t r o = Gives told (All (λ i. i < length t.trees)) (map (tree_at t.trees)) r o
+
+abbrev pub GivesTerms : Terms → Result (List ℕ) ElabRefused → Read (List Tree) → Type 0
+GivesTerms t r o = Gives told (All (λ i. i < length t.trees)) (λ is. (map (tree_at t.trees) is, [])) r o
+
+abbrev pub GivesPairs : Terms → Result (List Binding) ElabRefused → Read (List (List ℕ × Tree)) → Type 0
+GivesPairs t r o = Gives told (BindingsBelow (length t.trees)) (λ bs. (read_pairs t.trees bs, [])) r o
+
+-- a pair is read into the names, and what is left is read behind it
+pub record IsAdded (w : World) (old new : Terms) (pair : Sexp) (before after : List Binding) : Type 0 where
+  pub live : BindingsBelow (length new.trees) after
+  pub pairs : (rest : Sexps) → more_pairs_in w (Next pair rest) (read_pairs old.trees before) ≡ more_pairs_in w rest (read_pairs new.trees after)
+
+abbrev pub AddsPair : World → Terms → Terms → Sexp → List Binding → List Binding → Result (Unit {0}) ElabRefused → Type 0
+AddsPair w old new pair before after (Ok x) = IsAdded w old new pair before after
+AddsPair w old new pair before after (Err e) = (rest : Sexps) → Tells told e (more_pairs_in w (Next pair rest) (read_pairs old.trees before))
+
+-- ---- what a list is, and how a head uses its arguments, whatever the readings of its parts are
+
+abbrev pub IsFormed : World → Terms → List Sexp → Result Form ElabRefused → (Parts → Read Tree) → Type 0
+IsFormed w t args (Ok f) o = (parts : Parts) → o parts ≡ form_in w t args parts f
+IsFormed w t args (Err e) o = (parts : Parts) → Tells told e (o parts)
+
+abbrev pub IsUsed : Context → List Tree → Result Use ElabRefused → (World → Parts → Read Tree) → Type 0
+IsUsed c ts (Ok u) o = (ls : List Local) (parts : Parts) → o (record { names = c; locals = ls }) parts ≡ used_in (record { names = c; locals = ls }) ts parts u
+IsUsed c ts (Err e) o = (ls : List Local) (parts : Parts) → Tells told e (o (record { names = c; locals = ls }) parts)
+
+-- the same of the list of a head and its arguments, of one whose head is this name, and of what a name or a term as a head does
+abbrev pub FormsList : World → Terms → Sexp → List Sexp → Result Form ElabRefused → Type 0
+FormsList w t head args r = IsFormed w t args r (application_in w head args)
+
+abbrev pub FormsWord : World → Terms → List ℕ → List Sexp → Result Form ElabRefused → Type 0
+FormsWord w t name args r = IsFormed w t args r (word_in w name args)
+
+abbrev pub UsesMeant : Kept → Terms → List Sexp → code_meant.Meant → Result Use ElabRefused → Type 0
+UsesMeant k t args m r = IsUsed (context_in t k) t.trees r (λ w parts. meant_in w args parts (read_meant t.trees k m))
+
+abbrev pub UsesTree : Kept → List Tree → List Sexp → Tree → Result Use ElabRefused → Type 0
+UsesTree k ts args u r = IsUsed (context ts k) ts r (λ w parts. applied_in w args parts u)
+
+-- ---- parts of declarations, and declarations
+
+-- the number of a constant
+abbrev pub GivesNumber : Result ℕ ElabRefused → Checked ℕ → Type 0
+GivesNumber r o = Gives told (λ k. Unit {0}) (λ k. k) r o
+
+abbrev pub GivesAttribute : Terms → Result code_attribute.Attribute ElabRefused → Checked Attribute → Type 0
+GivesAttribute t r o = Gives told (AttributeBelow (length t.trees)) (read_attribute t.trees) r o
+
+-- a type and an attribute
+abbrev pub GivesTyped : Terms → Result (ℕ × code_attribute.Attribute) ElabRefused → Checked (Tree × Attribute) → Type 0
+GivesTyped t r o = Gives told (TypedBelow (length t.trees)) (read_typed t.trees) r o
+
+-- parameters
+abbrev pub GivesBound : Kept → Terms → Result code_bound.Bound ElabRefused → Checked Bound → Type 0
+GivesBound k t r o = Gives told (BoundBelow (length t.trees) k) (read_bound t.trees) r o
+
+abbrev pub GivesConstant : Terms → Result ConstDecl ElabRefused → Checked Constant → Type 0
+GivesConstant t r o = Gives told (ConstBelow (length t.trees)) (read_constant t.trees) r o
+
+abbrev pub GivesMacro : Terms → Result MacroDecl ElabRefused → Checked Macro → Type 0
+GivesMacro t r o = Gives told (MacroBelow (length t.trees)) (read_macro t.trees) r o
+
+abbrev pub GivesDeclaration : Terms → Result code.Declaration ElabRefused → Checked Declaration → Type 0
+GivesDeclaration t r o = Gives told (DeclarationBelow (length t.trees)) (read_declaration t.trees) r o
+
+-- one parameter more is read into those before it, and what is left is read behind it
+pub record IsRead (k : Kept) (old new : Terms) (p : ParameterShape) (before after : code_bound.Bound) : Type 0 where
+  pub live : BoundBelow (length new.trees) k after
+  pub binds : (rest : List ParameterShape) → bind (context_in old k) (read_bound old.trees before) (p ∷ rest) ≡ bind (context_in old k) (read_bound new.trees after) rest
+
+abbrev pub ReadsParameter : Kept → Terms → Terms → ParameterShape → code_bound.Bound → code_bound.Bound → Result (Unit {0}) ElabRefused → Type 0
+ReadsParameter k old new p before after (Ok x) = IsRead k old new p before after
+ReadsParameter k old new p before after (Err e) = (rest : List ParameterShape) → Tells told e (bind (context_in old k) (read_bound old.trees before) (p ∷ rest))

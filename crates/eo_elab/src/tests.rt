@@ -1,3 +1,0 @@
-mod declarations;
-mod terms;
-mod world;

@@ -1,0 +1,73 @@
+-- One turn of a fold.
+use Rattle.std.proofs.Common.{◌≡◌, ℕ, suc, ◌<◌, ◌≤◌, Bool, true, false, true≢false, nat_lt, List, length, None, Some, refl, ap, ◌∙◌, arith}
+use Rattle.std.specs.Prelude.{Ok, Err, ◌==◌, if◌then◌else◌}
+use Rattle.std.proofs.lemmas.Bool.Decides.{nat_tests}
+use Rattle.eo_base.specs.Limits.{height_limit}
+use Rattle.eo_base.specs.declared.FaultName.TheVariants.{BadArity, TermHeight}
+use Rattle.eo_base.specs.Checks.{Checked}
+use Rattle.eo_term.specs.Tree.{Tree, Con, height, is_tall}
+use Rattle.eo_term.specs.Terms.{Terms, Grows}
+use Rattle.eo_sig.specs.Signature.{Signature, Attribute, Plain, RightNil, LeftNil, Right, Left, Chain, Pairs, Binder}
+use Rattle.eo_sig.specs.Reading.{Kept}
+use Rattle.eo_sig.proofs.Same.{signature_grown, macros_grown, below_grown}
+use Rattle.eo_names.specs.declared.locals.LocalName.{LocalName}
+use Rattle.eo_names.specs.Folding.{applied, right_nil, left_nil, right, left, links, all_pairs, least, attribute_at, by_attribute, folded_within}
+use Rattle.eo_names.specs.Grouped.{grouped, joined_items, if_low}
+use Rattle.eo_names.specs.Turns.{is_tall_turn}
+use Rattle.eo_names.proofs.FoldTall.{too_tall, three, links_more, pairs_more, folded_tall}
+use Rattle.eo_names.specs.Contexts.{InProof}
+use Rattle.eo_names.specs.Ready.{IsReady, Keeps}
+use Rattle.eo_names.proofs.FoldLemmas.{locals_grown, names_more}
+
+-- by turns
+module _ (S : Signature) (il : Tree → Bool) (k : ℕ) (us : List Tree) where
+  pub too_few : (turns : ℕ) → length us < least (attribute_at S k) → if_low (folded_within (suc turns) S il k us) ≡ Err BadArity
+  too_few turns l = ap (λ b. if_low (if b then Err BadArity else by_attribute (folded_within turns S il) il (Con k) (attribute_at S k) us)) (is_less (length us) (least (attribute_at S k)) l)
+    where
+      is_less : (m n : ℕ) → m < n → nat_lt m n ≡ true
+      is_less m n h = grind (arith, nat_tests)
+
+  pub not_too_few : (turns : ℕ) → least (attribute_at S k) ≤ length us → folded_within (suc turns) S il k us ≡ by_attribute (folded_within turns S il) il (Con k) (attribute_at S k) us
+  not_too_few turns l = ap (λ b. if b then Err BadArity else by_attribute (folded_within turns S il) il (Con k) (attribute_at S k) us) (is_least (length us) (least (attribute_at S k)) l)
+    where
+      is_least : (m n : ℕ) → n ≤ m → nat_lt m n ≡ false
+      is_least m n h = grind (arith, nat_tests)
+
+  turn_tall_by : (turns : ℕ) (f : Tree) (a : Attribute) → least a ≤ length us → is_tall_turn (grouped il f a us) (joined_items f a us) ≡ true → if_low (by_attribute (folded_within turns S il) il f a us) ≡ Err TermHeight
+  turn_tall_by turns f Plain l e = too_tall (applied f us) e
+  turn_tall_by turns f (RightNil n) l e = too_tall (right_nil il f n us) e
+  turn_tall_by turns f (LeftNil n) l e = too_tall (left_nil f n us) e
+  turn_tall_by turns f Right l e = too_tall (right f us) e
+  turn_tall_by turns f Left l e = too_tall (left f us) e
+  turn_tall_by turns f (Chain g) l e = by (length us == 2) refl e
+    where
+      by : (b : Bool) → (length us == 2) ≡ b → is_tall_turn (applied f us) (if b then None else Some (g, links f us)) ≡ true → if_low (if b then Ok (applied f us) else folded_within turns S il g (links f us)) ≡ Err TermHeight
+      by true q h = too_tall (applied f us) h
+      by false q h = folded_tall S il turns g (links f us) (links_more f us (three (length us) l q)) h
+  turn_tall_by turns f (Pairs g) l e = by (length us == 2) refl e
+    where
+      by : (b : Bool) → (length us == 2) ≡ b → is_tall_turn (applied f us) (if b then None else Some (g, all_pairs f us)) ≡ true → if_low (if b then Ok (applied f us) else folded_within turns S il g (all_pairs f us)) ≡ Err TermHeight
+      by true q h = too_tall (applied f us) h
+      by false q h = folded_tall S il turns g (all_pairs f us) (pairs_more f us (three (length us) l q)) h
+  turn_tall_by turns f (Binder c) l e = too_tall (applied f us) e
+
+  pub turn_tall : (turns : ℕ) → least (attribute_at S k) ≤ length us → is_tall_turn (grouped il (Con k) (attribute_at S k) us) (joined_items (Con k) (attribute_at S k) us) ≡ true → if_low (folded_within (suc turns) S il k us) ≡ Err TermHeight
+  turn_tall turns l e = ap if_low (not_too_few turns l) ∙ turn_tall_by turns (Con k) (attribute_at S k) l e
+
+pub low_term : (t : Tree) → height t ≤ height_limit → if_low (Ok t) ≡ Ok t
+low_term t l = by (is_tall t) (grind (arith, nat_tests))
+  where
+    by : (b : Bool) → b ≡ false → ◌≡◌ {A = Checked Tree} (if b then Err TermHeight else Ok t) (Ok t)
+    by true h = absurd (true≢false h)
+    by false h = refl
+
+-- a table that grows keeps what names stand for
+pub keeps_grown : (k : Kept) (ls : List LocalName) (old new : Terms) → IsReady (length old.trees) k ls → Grows old new → Keeps k ls old.trees new.trees
+keeps_grown k ls old new h g =
+    let s = signature_grown old new k h.below g in
+    let m = macros_grown old new k h.below g in
+    record {
+      context = λ i. record { signature = s i; macros = m i; setting = InProof };
+      names = locals_grown ls old.trees new.trees (length old.trees) h.names g.tree;
+      ready = record { below = below_grown old new k g h.below; names = names_more ls (length old.trees) (length new.trees) g.more_trees h.names };
+    }

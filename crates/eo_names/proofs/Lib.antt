@@ -1,0 +1,12 @@
+pub mod Outcomes
+pub mod Places
+pub mod FoldLemmas
+pub mod FoldTall
+pub mod FoldSteps
+pub mod Giving
+pub mod JoinLemmas
+pub mod Bound
+pub mod ScopeLemmas
+pub mod BindingLemmas
+pub mod UsageLemmas
+pub mod BinderLemmas

@@ -1,0 +1,19 @@
+use Rattle.std.proofs.Common.{◌≡◌, ◌<◌, length, map, drop}
+use Rattle.eo_term.specs.Terms.{tree_at}
+use Rattle.eo_term.specs.Growth.{GrowsOn}
+use Rattle.eo_names.specs.Folding.{right_nil}
+use Rattle.eo_names.specs.Contexts.{is_list}
+use Rattle.eo_names.specs.Names.{read_locals}
+use Rattle.eo_names.specs.Scopes.{bound_in}
+use Rattle.eo_names.proofs.fold.group_list.Given as goal
+
+abbrev pub invariant-loop-left : goal.invariant-loop-left
+invariant-loop-left l = record {
+  within : l.left < length l.args;
+  live : l.made < length l.table.trees;
+  grows : GrowsOn l.fn.table l.table;
+  tree : tree_at l.table.trees l.made ≡ right_nil (is_list (read_locals l.fn.table.trees (bound_in l.scope))) (tree_at l.fn.table.trees l.fn.f) (tree_at l.fn.table.trees l.fn.nil) (drop l.left (map (tree_at l.fn.table.trees) l.args));
+}
+
+abbrev pub decreases-loop-left : goal.decreases-loop-left
+decreases-loop-left l = l.left

@@ -1,0 +1,18 @@
+-- The names that a `let` or a binder binds, with trees.
+use Rattle.std.specs.Prelude.{ℕ, Bool, false, List, map}
+use Rattle.eo_sig.specs.Signature.{Signature}
+use Rattle.eo_term.specs.Tree.{Tree, Var}
+use Rattle.eo_names.specs.Contexts.{Local}
+use Rattle.eo_names.specs.Folding.{folded}
+use Rattle.eo_names.specs.Readers.{Reader, ◌>>=◌, read, built}
+
+abbrev pub pair_local : List ℕ × Tree → Local
+pair_local p = record { name = p.0; tree = p.1; list = false }
+
+-- a name and its type, as a variable
+abbrev pub variable : List ℕ × Tree → List ℕ × Tree
+variable p = (p.0, Var p.0 p.1)
+
+-- the list of these variables, which another constant makes
+abbrev pub list_of : Signature → (Tree → Bool) → ℕ → List (List ℕ × Tree) → Reader Tree
+list_of S is_list collector vs = read (folded S is_list collector (map (λ v. v.1) vs)) >>= built

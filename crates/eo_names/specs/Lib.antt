@@ -1,0 +1,15 @@
+pub mod Folding
+pub mod Contexts
+pub mod Readers
+pub mod Meanings
+pub mod Binders
+pub mod Refused
+pub mod Names
+pub mod Scopes
+pub mod Ready
+pub mod Symbols
+pub mod Grouped
+pub mod Turns
+pub mod Usage
+pub mod Worlds
+pub mod Gives

@@ -1,0 +1,160 @@
+//! A constant folded over its arguments.
+ghost use Rattle.std.specs.Prelude.{suc, ◌<◌, ◌≤◌, length, All};
+ghost use Rattle.eo_sig.specs.Reading.{AttributeBelow};
+ghost use Rattle.eo_names.specs.Names.{AreBelow};
+ghost use Rattle.eo_names.specs.Scopes.{bound_in};
+ghost use Rattle.eo_names.specs.Ready.{IsReady};
+ghost use Rattle.eo_term.specs.Growth.{trees_in, GrowsOn};
+ghost use Rattle.eo_names.specs.Gives.{GivesTree, GivesTurn, BuildsTurn};
+ghost use Rattle.eo_names.specs.Worlds.{world, folded_in, turned_in};
+
+use crate::ElabRefused;
+use crate::attributes::{attribute_of, group, least_count};
+use crate::fold::apply_constant;
+use crate::joins::{neighbours, pairs};
+use crate::leaves::constant;
+use crate::scope::Scope;
+use eo_sig::{Attribute, Signature};
+use eo_term::{HEIGHT_LIMIT, Id, Ids, Table, TermRefused};
+use std::alloc::Global;
+
+/// What a constant makes of its arguments.
+#[derive(Drop)]
+pub(crate) enum Turn {
+    /// The term itself.
+    Made(Id),
+    /// Terms that the constant `by` joins.
+    Joined { by: usize, items: Ids },
+}
+
+/// A constant on its arguments, as its attribute says.
+///
+/// `BadArity`: there are fewer than the attribute asks for. `Tall`: the term is too tall.
+#[tactic(auto, unfolding(crate::specs::Folding::folded))]
+pub(crate) fn fold_constant(
+    alloc: Global,
+    k: usize,
+    args: &[Id],
+    scope: &Scope<'_>,
+    sig: &Signature,
+    table: &mut Table,
+) -> Result<Id, ElabRefused>
+    requires ready { IsReady (length table.old.trees) sig.now (bound_in scope.now) }
+    requires args { All (λ a. a < length table.old.trees) args.now }
+    ensures gives { GivesTree table.new result (folded_in (world table.old sig.now scope.now) k (trees_in table.old args.now)) }
+    ensures grows { GrowsOn table.old table.new }
+{
+    fold_within(alloc, k, k, args, scope, sig, table)
+}
+
+// The same, where the constants that join what it is applied to follow one another at most so
+// often.
+#[cycle(folds)]
+fn fold_within(
+    alloc: Global,
+    turns: usize,
+    k: usize,
+    args: &[Id],
+    scope: &Scope<'_>,
+    sig: &Signature,
+    table: &mut Table,
+) -> Result<Id, ElabRefused>
+    requires ready { IsReady (length table.old.trees) sig.now (bound_in scope.now) }
+    requires args { All (λ a. a < length table.old.trees) args.now }
+    ensures gives { GivesTree table.new result (turned_in (world table.old sig.now scope.now) (suc turns) k (trees_in table.old args.now)) }
+    ensures grows { GrowsOn table.old table.new }
+{
+    let turn = turn_of(alloc, k, args, scope, sig, table)?;
+    match &turn {
+        Turn::Made(made) => {
+            prove!(table.height(*made) <= HEIGHT_LIMIT);
+            Ok(*made)
+        }
+        Turn::Joined { by, items } => {
+            join(alloc, turns, *by, items.as_slice(), scope, sig, table)
+        }
+    }
+}
+
+// What was made for a constant that is joined by another, joined by it.
+#[cycle(folds)]
+fn join(
+    alloc: Global,
+    turns: usize,
+    k: usize,
+    items: &[Id],
+    scope: &Scope<'_>,
+    sig: &Signature,
+    table: &mut Table,
+) -> Result<Id, ElabRefused>
+    requires ready { IsReady (length table.old.trees) sig.now (bound_in scope.now) }
+    requires items { All (λ a. a < length table.old.trees) items.now }
+    ensures gives { GivesTree table.new result (turned_in (world table.old sig.now scope.now) turns k (trees_in table.old items.now)) }
+    ensures grows { GrowsOn table.old table.new }
+{
+    if turns > 0 {
+        return fold_within(alloc, turns - 1, k, items, scope, sig, table);
+    }
+    let made = apply_constant(table, k, items)?;
+    prove!(table.height(made) <= HEIGHT_LIMIT);
+    Ok(made)
+}
+
+// What the constant makes of its arguments.
+fn turn_of(
+    alloc: Global,
+    k: usize,
+    args: &[Id],
+    scope: &Scope<'_>,
+    sig: &Signature,
+    table: &mut Table,
+) -> Result<Turn, ElabRefused>
+    requires ready { IsReady (length table.old.trees) sig.now (bound_in scope.now) }
+    requires args { All (λ a. a < length table.old.trees) args.now }
+    ensures gives { GivesTurn (world table.old sig.now scope.now) table.new result k (trees_in table.old args.now) }
+    ensures grows { GrowsOn table.old table.new }
+{
+    let attribute = attribute_of(sig, k);
+    if args.len() < least_count(attribute) {
+        return Err(ElabRefused::BadArity);
+    }
+    let f = constant(table, k)?;
+    Ok(turn_by(alloc, f, attribute, args, scope, table)?)
+}
+
+// What a term makes of its arguments by its attribute.
+fn turn_by(
+    alloc: Global,
+    f: Id,
+    attribute: Attribute,
+    args: &[Id],
+    scope: &Scope<'_>,
+    table: &mut Table,
+) -> Result<Turn, TermRefused>
+    requires f { f < length table.old.trees }
+    requires args { All (λ a. a < length table.old.trees) args.now }
+    requires some { 1 ≤ length args.now }
+    requires below { AttributeBelow (length table.old.trees) attribute }
+    requires names { AreBelow (length table.old.trees) (bound_in scope.now) }
+    ensures gives { BuildsTurn table.old table.new scope.now f attribute args.now result }
+    ensures grows { GrowsOn table.old table.new }
+{
+    if args.len() == 2 {
+        let made = group(table, scope, f, attribute, args)?;
+        return Ok(Turn::Made(made));
+    }
+    match attribute {
+        Attribute::Chain(by) => {
+            let items = neighbours(alloc, table, f, args)?;
+            Ok(Turn::Joined { by, items })
+        }
+        Attribute::Pairs(by) => {
+            let items = pairs(alloc, table, f, args)?;
+            Ok(Turn::Joined { by, items })
+        }
+        other => {
+            let made = group(table, scope, f, other, args)?;
+            Ok(Turn::Made(made))
+        }
+    }
+}

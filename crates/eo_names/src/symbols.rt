@@ -1,0 +1,108 @@
+//! What a symbol stands for.
+ghost use Rattle.std.specs.Prelude.{◌≡◌, ℕ, ◌<◌, List, length};
+ghost use Rattle.eo_term.specs.Tree.{Tree};
+ghost use Rattle.eo_sig.specs.Reading.{programs_of, IsBelow};
+ghost use Rattle.eo_names.specs.Meanings.{word_of, program_meant};
+ghost use Rattle.eo_names.specs.Contexts.{InProof};
+ghost use Rattle.eo_names.specs.Scopes.{bound_in};
+ghost use Rattle.eo_names.specs.Ready.{context, IsReady};
+ghost use Rattle.eo_names.specs.Symbols.{read_word, read_meant, IsLive};
+ghost use Rattle.eo_names.specs.Worlds.{meant_over, global_meant_over, macro_meant_over};
+
+use crate::scope::Scope;
+use eo_sig::{Entry, Signature};
+use eo_term::{Id, OpCode, OpName};
+
+/// A symbol that is never looked up, or a name that is.
+#[derive(Clone, Copy)]
+pub enum Word {
+    /// `_`
+    Underscore,
+    /// `->`
+    Arrow,
+    /// `let`
+    Let,
+    /// Any other symbol.
+    Name,
+}
+
+/// What a name stands for.
+#[derive(Clone, Copy)]
+pub enum Meant {
+    /// A term.
+    Term(Id),
+    /// A constant, by its number.
+    Constant(usize),
+    /// A macro with parameters, by its number.
+    Macro(usize),
+    /// An operator or a program, with how many arguments it takes.
+    Operator(OpCode, usize),
+    /// Nothing.
+    Nothing,
+}
+
+/// Which word the symbol is, in a signature or a proof.
+pub fn word_of(symbol: &[u8]) -> Word
+    ensures { read_word result ≡ word_of InProof symbol.now }
+{
+    if symbol == b"_".as_slice() {
+        return Word::Underscore;
+    }
+    if symbol == b"->".as_slice() {
+        return Word::Arrow;
+    }
+    if symbol == b"let".as_slice() {
+        return Word::Let;
+    }
+    Word::Name
+}
+
+/// What the name stands for: an operator of the language, else the innermost local name, else a
+/// constant, a macro or a program.
+pub fn name_meant(name: &[u8], scope: &Scope<'_>, sig: &Signature) -> Meant
+    ensures value { (ts : List Tree) → read_meant ts sig.now result ≡ meant_over ts sig.now scope.now name.now }
+    ensures live { (n : ℕ) → IsReady n sig.now (bound_in scope.now) → IsLive n sig.now result }
+{
+    if let Some(op) = OpName::named(name) {
+        return Meant::Operator(OpCode::Builtin(op), op.arity());
+    }
+    if let Some(id) = scope.find(name) {
+        return Meant::Term(id);
+    }
+    globally_meant(name, sig)
+}
+
+// The same, for a name that is neither an operator nor local.
+fn globally_meant(name: &[u8], sig: &Signature) -> Meant
+    ensures value { (ts : List Tree) → read_meant ts sig.now result ≡ global_meant_over ts sig.now name.now }
+    ensures live { (n : ℕ) → IsBelow n sig.now → IsLive n sig.now result }
+{
+    match sig.lookup(name) {
+        Some(Entry::Constant(n)) => Meant::Constant(n),
+        Some(Entry::Macro(n)) => macro_of(sig, n),
+        Some(Entry::Program(n)) => program_of(sig, n),
+        None => Meant::Nothing,
+    }
+}
+
+// A macro without parameters is its term.
+fn macro_of(sig: &Signature, n: usize) -> Meant
+    requires { n < length sig.now.macros }
+    ensures value { (ts : List Tree) → read_meant ts sig.now result ≡ macro_meant_over ts sig.now n }
+    ensures live { (m : ℕ) → IsBelow m sig.now → IsLive m sig.now result }
+{
+    let defined = sig.macro_of(n);
+    if defined.params.as_slice().is_empty() {
+        return Meant::Term(defined.tree);
+    }
+    Meant::Macro(n)
+}
+
+fn program_of(sig: &Signature, n: usize) -> Meant
+    requires within { n < length (programs_of sig.now) }
+    ensures value { (ts : List Tree) → read_meant ts sig.now result ≡ program_meant (context ts sig.now) n }
+    ensures live { (m : ℕ) → IsBelow m sig.now → IsLive m sig.now result }
+{
+    let program = sig.program(n);
+    Meant::Operator(OpCode::Prog(n), program.inputs.as_slice().len())
+}

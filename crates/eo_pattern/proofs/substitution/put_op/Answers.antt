@@ -1,0 +1,58 @@
+use Rattle.std.proofs.Common.{rules, ◌≡◌, Bool, true, false, refl, ◌<◌, length, take, sym, ap, ◌∙◌, subst, arith}
+use Rattle.std.proofs.lemmas.List.{length-take-le, get_or-take, get_or_default}
+use Rattle.std.proofs.lemmas.Result.{err_from_is_err_and}
+use Rattle.eo_term.specs.Tree.{Trees, Op, is_tall}
+use Rattle.eo_term.specs.Terms.{tree_at, trees_at}
+use Rattle.eo_term.specs.Arguments.{arguments_of, count_of}
+use Rattle.eo_term.proofs.Heights.{tall_argument}
+use Rattle.eo_pattern.specs.Matching.{Assignment, put, put_all}
+use Rattle.eo_pattern.specs.Slots.{held}
+use Rattle.eo_pattern.proofs.Steps.{args_put, count_put, argument_put}
+use Rattle.eo_pattern.proofs.substitution.put_op.Goals as goal
+
+pub returns-in_default-clause-step : goal.returns-in_default-clause-step
+returns-in_default-clause-step c =
+    let us = c.args.table.now.trees in
+    let σ : Assignment = held us c.args.subst.now in
+    let ts : Trees = arguments_of (tree_at us c.args.id) in
+    let within : c.loop-i.i < count_of (put_all σ ts) = omega (arith, count_put σ ts, c.requires.count) in
+    record {
+      older = c.arg-arg.ensures.older;
+      untold = search rules;
+      tall = λ h.
+          ap (λ u. is_tall (put σ u)) (sym c.requires.tree)
+          ∙ tall_argument c.args.code (put_all σ ts) c.loop-i.i within (ap is_tall (argument_put σ ts c.loop-i.i (omega (arith, c.requires.count)) ∙ ap (put σ) (sym c.arg-arg.ensures.tree)) ∙ h);
+    }
+
+pub intern_op-requires-clause-args : goal.intern_op-requires-clause-args
+intern_op-requires-clause-args c = λ k d l.
+    let m : k < c.args.count = omega (arith, l, length-take-le c.args.count c.loop-i.args (omega (arith, c.loop-i.invariant.long, c.requires.small))) in
+    subst (λ v. v < length c.args.table.now.trees) (get_or_default c.loop-i.args k 0 d (omega (arith, m, c.loop-i.invariant.long, c.requires.small)) ∙ sym (get_or-take c.args.count c.loop-i.args k d m)) (c.loop-i.invariant.done k (omega arith)).0
+
+pub returns-in_err-made-clause-tall : goal.returns-in_err-made-clause-tall
+returns-in_err-made-clause-tall c =
+    let e = err_from_is_err_and c.from_residual.result c.from_residual.ensures.1 in
+    let us = c.args.table.now.trees in
+    let σ : Assignment = held us c.args.subst.now in
+    let ts : Trees = arguments_of (tree_at us c.args.id) in
+    let same : trees_at us (take c.args.count c.loop-i.args) ≡ put_all σ ts =
+    args_put σ us c.loop-i.args ts c.args.count c.requires.count (omega (arith, c.loop-i.invariant.long, c.requires.small)) (λ k l. (c.loop-i.invariant.done k (omega arith)).1) in
+    rw (e.1, e.2) (λ h. ap is_tall (sym (ap (Op c.args.code) same ∙ ap (put σ) c.requires.tree)) ∙ c.in_err-made.ensures.tall.0 h)
+
+not_true : (b : Bool) → (b ≡ true → ⊥) → b ≡ false
+not_true true h = absurd (h refl)
+not_true false h = refl
+
+pub returns-clause-step : goal.returns-clause-step
+returns-clause-step c =
+    let us = c.args.table.now.trees in
+    let σ : Assignment = held us c.args.subst.now in
+    let ts : Trees = arguments_of (tree_at us c.args.id) in
+    let same : trees_at us (take c.args.count c.loop-i.args) ≡ put_all σ ts =
+    args_put σ us c.loop-i.args ts c.args.count c.requires.count (omega (arith, c.loop-i.invariant.long, c.requires.small)) (λ k l. (c.loop-i.invariant.done k (omega arith)).1) in
+    let whole : Op c.args.code (trees_at us (take c.args.count c.loop-i.args)) ≡ put σ (tree_at us c.args.id) = ap (Op c.args.code) same ∙ ap (put σ) c.requires.tree in
+    record {
+      live = c.in_ok-made.ensures.interned.live;
+      tree = c.in_ok-made.ensures.interned.tree ∙ whole;
+      low = ap is_tall (sym whole) ∙ not_true _ c.in_ok-made.ensures.tall.1;
+    }

@@ -1,0 +1,57 @@
+-- The s-expressions that a flat list of nodes stands for.
+use Rattle.std.specs.Prelude.{◌≡◌, ℕ, ◌+◌, ◌-◌, ◌<◌, ◌≤◌, Bool, true, false, List, [], ◌∷◌, length, take, drop}
+use Rattle.std.specs.List.{slice_range}
+use Rattle.eo_sexp.specs.Sexp.{Sexp, Atom, Listed, NoSexp}
+use Rattle.eo_sexp.specs.Sexp.{sexps_of}
+use Rattle.eo_sexp.specs.declared.lent.Node.{Node}
+use Rattle.eo_sexp.specs.declared.lent.Node.TheVariants as node
+
+-- the bytes of a token, without its delimiters
+abbrev pub token_text : List ℕ → (delimited : Bool) → (from to : ℕ) → List ℕ
+token_text bytes true from to = slice_range bytes (from + 1) (to - 1)
+token_text bytes false from to = slice_range bytes from to
+
+-- the s-expressions that the nodes are, read from the last node on
+abbrev pub trees : List ℕ → List Node → List Sexp
+trees bytes [] = []
+trees bytes (node.Atom k delimited from to ∷ ns) = Atom k (token_text bytes delimited from to) (record { from = from; to = to }) ∷ trees bytes ns
+trees bytes (node.List children inside from to ∷ ns) =
+    Listed (sexps_of (take children (trees bytes ns))) (record { from = from; to = to }) ∷ drop children (trees bytes ns)
+
+abbrev pub first_of : List Sexp → Sexp
+first_of [] = Listed NoSexp (record { from = 0; to = 0 })
+first_of (s ∷ ss) = s
+
+-- the first of them
+abbrev pub first_tree : List ℕ → List Node → Sexp
+first_tree bytes ns = first_of (trees bytes ns)
+
+-- the text of a token lies in the bytes
+abbrev pub HasText : List ℕ → (delimited : Bool) → (from to : ℕ) → Type 0
+HasText bytes true from to = (from + 2 ≤ to) × (to ≤ length bytes + 1)
+HasText bytes false from to = (from ≤ to) × (to ≤ length bytes)
+
+-- behind the nodes inside of a list stand those behind it
+pub record Holds (bytes : List ℕ) (children inside : ℕ) (ns : List Node) : Type 0 where
+  pub inner : inside ≤ length ns
+  pub many : children ≤ length (trees bytes ns)
+  pub behind : trees bytes (drop inside ns) ≡ drop children (trees bytes ns)
+
+-- a node fits those behind it
+abbrev pub Fits : List ℕ → Node → List Node → Type 0
+Fits bytes (node.Atom k delimited from to) ns = HasText bytes delimited from to
+Fits bytes (node.List children inside from to) ns = Holds bytes children inside ns
+
+abbrev pub AreLinked : List ℕ → List Node → Type 0
+AreLinked bytes [] = Unit {0}
+AreLinked bytes (n ∷ ns) = Fits bytes n ns × AreLinked bytes ns
+
+-- the first node begins an s-expression
+pub record IsSexp (bytes : List ℕ) (ns : List Node) : Type 0 where
+  pub some : 0 < length ns
+  pub linked : AreLinked bytes ns
+
+-- the nodes begin with so many s-expressions
+pub record AreSexps (bytes : List ℕ) (ns : List Node) (count : ℕ) : Type 0 where
+  pub linked : AreLinked bytes ns
+  pub many : count ≤ length (trees bytes ns)

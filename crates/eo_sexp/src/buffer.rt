@@ -1,0 +1,211 @@
+//! The bytes of a command that is begun, and its parts.
+ghost use Rattle.std.specs.Prelude.{◌≡◌, ◌<◌, ◌≤◌, ◌+◌, ◌^◌, ℕ, ◌∷◌, [], ◌++◌, length, reverse, OnOk, IfOk};
+ghost use Rattle.eo_sexp.specs.Sexp.{Atom};
+ghost use Rattle.eo_sexp.specs.Nodes.{token_text, HasText, first_of};
+ghost use Rattle.eo_sexp.specs.Built.{nothing, with_child, closed, opened, width_of};
+
+use crate::Kind;
+use crate::lent::{Node, Sexp, first};
+use std::alloc::{AllocError, Global};
+use std::marker::Model;
+
+mod counting;
+
+use counting::count_child;
+
+// The most nodes, beyond which memory is wanting. A command has fewer bytes.
+const MOST: usize = 4_000_000_000;
+
+/// A list that is open: the byte of its `(`, its node, and how many children it has so far.
+#[derive(Clone, Copy, Debug)]
+pub(crate) struct Open {
+    at: u32,
+    node: usize,
+    children: u32,
+}
+
+/// The bytes of a command that is begun, and its parts so far.
+#[derive(Drop)]
+pub(crate) struct Buffer {
+    bytes: Vec<u8>,
+    nodes: Vec<Node>,
+    // the innermost last
+    lists: Vec<Open>,
+}
+
+impl Model for Buffer {
+    ghost use Rattle.std.specs.Prelude.{reverse, vec_capacity};
+    ghost use Rattle.std.specs.Coded.{codes};
+    ghost use Rattle.eo_sexp.specs.SexpCode.{sexp_coded};
+    ghost use Rattle.eo_sexp.specs.Built.{Built};
+
+    ghost Value = { Built };
+
+    ghost coded = { Prim.hlevel (codes, sexp_coded) };
+
+    ghost use Rattle.eo_sexp.specs.Buffers.{built, IsBuffer};
+
+    ghost view = { λ a. built a.bytes.items a.nodes.items (reverse a.lists.items) };
+
+    ghost invariant = { λ a. IsBuffer a.bytes.items a.nodes.items (vec_capacity a.nodes) (reverse a.lists.items) };
+}
+
+impl Buffer {
+    /// An empty buffer.
+    pub(crate) fn new(alloc: Global) -> Result<Buffer, AllocError>
+        ensures { IfOk result (λ b. b ≡ nothing) }
+    {
+        let mut nodes = Vec::new(alloc);
+        nodes.reserve(1)?;
+        Ok(Buffer {
+            bytes: Vec::new(alloc),
+            nodes,
+            lists: Vec::new(alloc),
+        })
+    }
+
+    /// Leaves everything behind, and keeps the room.
+    pub(crate) fn clear(&mut self)
+        ensures { self.new ≡ nothing }
+    {
+        self.bytes.clear();
+        self.nodes.clear();
+        self.lists.clear();
+    }
+
+    /// The bytes so far.
+    pub(crate) fn bytes(&self) -> &[u8]
+        ensures { result.now ≡ self.now.bytes }
+    {
+        self.bytes.as_slice()
+    }
+
+    /// How many lists are open.
+    pub(crate) fn depth(&self) -> usize
+        ensures { result ≡ length self.now.open_lists }
+    {
+        self.lists.len()
+    }
+
+    /// How many children the innermost list has.
+    pub(crate) fn width(&self) -> usize
+        ensures { result ≡ width_of self.now.open_lists }
+    {
+        match self.lists.as_slice() {
+            [] => 0,
+            [.., last] => last.children as usize,
+        }
+    }
+
+    /// Keeps one byte more.
+    pub(crate) fn push(&mut self, x: u8) -> Result<(), AllocError>
+        ensures { OnOk result (self.new ≡ record self.old { bytes = self.old.bytes ++ x ∷ [] }) }
+    {
+        self.bytes.push(x)?;
+        Ok(())
+    }
+
+    /// Keeps these bytes too.
+    pub(crate) fn extend(&mut self, more: &[u8]) -> Result<(), AllocError>
+        ensures { OnOk result (self.new ≡ record self.old { bytes = self.old.bytes ++ more.now }) }
+    {
+        self.bytes.extend_from_slice(more)?;
+        Ok(())
+    }
+
+    /// Adds an atom to the innermost list.
+    pub(crate) fn add_atom(
+        &mut self,
+        kind: Kind,
+        delimited: bool,
+        from: usize,
+        to: usize,
+    ) -> Result<(), AllocError>
+        requires text { HasText self.old.bytes delimited from to }
+        requires short { to < 2 ^ 32 }
+        ensures { OnOk result (self.new ≡ with_child self.old (Atom kind (token_text self.old.bytes delimited from to) (record { from = from; to = to }))) }
+    {
+        if self.nodes.len() >= MOST {
+            return Err(AllocError);
+        }
+        self.nodes.push(Node::Atom {
+            kind,
+            delimited,
+            from: from as u32,
+            to: to as u32,
+        })?;
+        count_child(&mut self.lists, self.nodes.len());
+        Ok(())
+    }
+
+    /// Adds an atom that is the whole command. It takes no memory.
+    pub(crate) fn be_atom(&mut self, kind: Kind, delimited: bool, from: usize, to: usize)
+        requires text { HasText self.old.bytes delimited from to }
+        requires short { to < 2 ^ 32 }
+        requires none { self.old.done ≡ [] }
+        requires outside { self.old.open_lists ≡ [] }
+        ensures { self.new ≡ with_child self.old (Atom kind (token_text self.old.bytes delimited from to) (record { from = from; to = to })) }
+    {
+        self.nodes.clear();
+        self.nodes.push_reserved(Node::Atom {
+            kind,
+            delimited,
+            from: from as u32,
+            to: to as u32,
+        });
+    }
+
+    /// Opens a list.
+    pub(crate) fn open_list(&mut self, at: usize) -> Result<(), AllocError>
+        requires { at < 2 ^ 32 }
+        ensures { OnOk result (self.new ≡ opened self.old at) }
+    {
+        let node = self.nodes.len();
+        if node >= MOST {
+            return Err(AllocError);
+        }
+        self.lists.push(Open {
+            at: at as u32,
+            node,
+            children: 0,
+        })?;
+        let list = Node::List {
+            children: 0,
+            inside: 0,
+            from: at as u32,
+            to: at as u32,
+        };
+        if let Err(e) = self.nodes.push(list) {
+            self.nodes.clear();
+            self.lists.clear();
+            return Err(e.into());
+        }
+        Ok(())
+    }
+
+    /// Closes the innermost list before this byte. It takes no memory.
+    pub(crate) fn close_list(&mut self, to: usize)
+        requires some { 0 < length self.old.open_lists }
+        requires short { to < 2 ^ 32 }
+        ensures { self.new ≡ closed self.old to }
+    {
+        let Open { at, node, children } = self.lists.pop().unwrap();
+        let inside = self.nodes.len() - node - 1;
+        self.nodes[node] = Node::List {
+            children,
+            inside: inside as u32,
+            from: at,
+            to: to as u32,
+        };
+        count_child(&mut self.lists, self.nodes.len());
+    }
+
+    /// The first s-expression that is whole. It takes no memory.
+    pub(crate) fn first(&self) -> Sexp<'_>
+        requires some { 0 < length self.now.done }
+        requires whole { self.now.open_lists ≡ [] }
+        ensures { result ≡ first_of self.now.done }
+    {
+        first(self.bytes.as_slice(), self.nodes.as_slice())
+    }
+}

@@ -1,0 +1,27 @@
+use Rattle.std.proofs.Common.{◌≡◌, ℕ, List, [], ◌∷◌, ◌++◌, None, sym, ◌∙◌, subst, Vec, Global}
+use Rattle.std.specs.Map.{lookup}
+use Rattle.indexmap.proofs.CallerLemmas.{insert_entry-new}
+use Rattle.std.specs.Str.{bytes_eq}
+use Rattle.std.proofs.lemmas.Slice.Eq.{bytes_eq-Decides}
+use Rattle.eo_term.specs.Keys.{list_items, ages_of, IsNumbered, HasNumber, IsAbsent}
+use Rattle.eo_term.proofs.Numbers.{not_there, more_numbers, new_number}
+use Rattle.eo_term.proofs.nodes.number_list.Goals as goal
+
+pub returns-in_ok-insert-in-None-clause-number : goal.returns-in_ok-insert-in-None-clause-number
+returns-in_ok-insert-in-None-clause-number c =
+    let es : List (Vec ℕ Global × ℕ) = c.args.lists.now.entries in
+    let absent : IsAbsent (list_items es) c.args.args.items = subst (IsAbsent (list_items es)) c.as_slice.ensures.value c.in-None.ensures.no in
+    let none : lookup ((λ (v : Vec ℕ Global) (w : Vec ℕ Global). bytes_eq v.items w.items) c.args.args) es ≡ None = not_there (λ (v : Vec ℕ Global). v.items) c.args.args.items (λ v. bytes_eq c.args.args.items v.items) (λ v e. sym ((bytes_eq-Decides c.args.args.items v.items).0 e)) (λ v e. (bytes_eq-Decides c.args.args.items v.items).1 (sym e)) es absent in
+    let is : c.insert.new.self.entries ≡ es ++ (c.args.args, c.args.terms) ∷ [] = c.in_ok-insert-in-None.ensures.entries ∙ insert_entry-new (λ (v : Vec ℕ Global) (w : Vec ℕ Global). bytes_eq v.items w.items) c.args.lists.now c.args.args c.args.terms none in
+    let h : IsNumbered c.args.terms (list_items es) (ages_of es) = record { long = c.requires.long; apart = c.requires.apart; low = c.requires.low; rising = c.requires.rising } in
+    subst (HasNumber c.args.terms (list_items c.insert.new.self.entries) (ages_of c.insert.new.self.entries) c.args.args.items) (sym c.len-number.ensures.len)
+    (new_number (λ (v : Vec ℕ Global). v.items) c.args.terms es c.insert.new.self.entries c.args.args is h)
+
+pub returns-in_ok-insert-in-None-clause-more : goal.returns-in_ok-insert-in-None-clause-more
+returns-in_ok-insert-in-None-clause-more c =
+    let es : List (Vec ℕ Global × ℕ) = c.args.lists.now.entries in
+    let absent : IsAbsent (list_items es) c.args.args.items = subst (IsAbsent (list_items es)) c.as_slice.ensures.value c.in-None.ensures.no in
+    let none : lookup ((λ (v : Vec ℕ Global) (w : Vec ℕ Global). bytes_eq v.items w.items) c.args.args) es ≡ None = not_there (λ (v : Vec ℕ Global). v.items) c.args.args.items (λ v. bytes_eq c.args.args.items v.items) (λ v e. sym ((bytes_eq-Decides c.args.args.items v.items).0 e)) (λ v e. (bytes_eq-Decides c.args.args.items v.items).1 (sym e)) es absent in
+    let is : c.insert.new.self.entries ≡ es ++ (c.args.args, c.args.terms) ∷ [] = c.in_ok-insert-in-None.ensures.entries ∙ insert_entry-new (λ (v : Vec ℕ Global) (w : Vec ℕ Global). bytes_eq v.items w.items) c.args.lists.now c.args.args c.args.terms none in
+    let h : IsNumbered c.args.terms (list_items es) (ages_of es) = record { long = c.requires.long; apart = c.requires.apart; low = c.requires.low; rising = c.requires.rising } in
+    more_numbers (λ (v : Vec ℕ Global). v.items) c.args.terms es c.insert.new.self.entries c.args.args is h absent

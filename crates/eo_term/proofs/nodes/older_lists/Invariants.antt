@@ -1,0 +1,12 @@
+use Rattle.std.proofs.Common.{ℕ, ◌<◌, ◌≤◌, length, get_or}
+use Rattle.eo_term.specs.Keys.{ages_of}
+use Rattle.eo_term.proofs.nodes.older_lists.Given as goal
+
+abbrev pub invariant-loop-count : goal.invariant-loop-count
+invariant-loop-count l = record {
+  within : l.count ≤ length l.lists.entries;
+  newer : (i : ℕ) → l.count ≤ i → i < length (ages_of l.lists.entries) → l.terms ≤ get_or (ages_of l.lists.entries) i 0;
+}
+
+abbrev pub decreases-loop-count : goal.decreases-loop-count
+decreases-loop-count l = l.count

@@ -1,0 +1,160 @@
+-- How a table keeps the roots of its terms: each under a small key, in which a literal and a list of arguments have numbers of their own.
+use Rattle.std.specs.Prelude.{◌≡◌, ℕ, suc, pos, Vec, ◌<◌, ◌≤◌, List, [], length, map, slice_get, slice_index_or, Some}
+use Rattle.std.specs.Map.{keys_of}
+use Rattle.std.specs.Global.{Global}
+use Rattle.indexmap.specs.IndexMap.{spare}
+use Rattle.eo_term.specs.declared.OpCode.{OpCode}
+use Rattle.eo_term.specs.declared.node.Node.{Node}
+use Rattle.eo_term.specs.declared.node.Node.TheVariants as node
+use Rattle.eo_term.specs.declared.node.Literal.{Literal}
+use Rattle.eo_term.specs.declared.node.Literal.TheVariants as literal
+use Rattle.eo_term.specs.declared.node.Key.{Key}
+use Rattle.eo_term.specs.declared.node.Key.TheVariants as key
+use Rattle.eo_term.specs.declared.node.Info.{Info}
+use Rattle.eo_term.specs.declared.nodes.Nodes.{Nodes}
+use Rattle.eo_term.specs.declared.nodes.Shape.{Shape}
+use Rattle.eo_term.specs.declared.nodes.Shape.TheVariants as shape
+use Rattle.eo_term.specs.Terms.{AreApart}
+
+-- the root of a term: its node, with the arguments where it is an operator
+pub record Root : Type 0 where
+  pub node : Node
+  pub args : List ℕ
+
+abbrev pub IsRoot : Root → Node → List ℕ → Type 0
+IsRoot r d is = r ≡ record { node = d; args = is }
+
+abbrev pub literal_node : Literal → Node
+literal_node (literal.Num z) = node.Num z
+literal_node (literal.Bits w v) = node.Bits w v
+
+abbrev plain : Node → Root
+plain d = record { node = d; args = [] }
+
+abbrev pub literal_at : List Literal → ℕ → Literal
+literal_at ls l = slice_index_or ls l (literal.Num (pos 0))
+
+abbrev pub list_at : List (List ℕ) → ℕ → List ℕ
+list_at as' l = slice_index_or as' l []
+
+-- the root that a key stands for, among those literals and lists of arguments
+abbrev pub root_of : List Literal → List (List ℕ) → Key → Root
+root_of ls as' (key.Con k) = plain (node.Con k)
+root_of ls as' (key.Literal l) = plain (literal_node (literal_at ls l))
+root_of ls as' (key.Str s) = plain (node.Str s)
+root_of ls as' (key.Par i) = plain (node.Par i)
+root_of ls as' (key.Var s t) = plain (node.Var s t)
+root_of ls as' (key.App f x) = plain (node.App f x)
+root_of ls as' (key.Arr a b) = plain (node.Arr a b)
+root_of ls as' (key.Qar i t b) = plain (node.Qar i t b)
+root_of ls as' (key.Builtin o n l) = record { node = node.Op (OpCode.Builtin o) n; args = list_at as' l }
+root_of ls as' (key.Prog p n l) = record { node = node.Op (OpCode.Prog p) n; args = list_at as' l }
+
+-- P holds of the number of the key's literal, Q of that of its arguments
+abbrev pub UsesOnly : (ℕ → Type 0) → (ℕ → Type 0) → Key → Type 0
+UsesOnly P Q (key.Con k) = Unit {0}
+UsesOnly P Q (key.Literal l) = P l
+UsesOnly P Q (key.Str s) = Unit {0}
+UsesOnly P Q (key.Par i) = Unit {0}
+UsesOnly P Q (key.Var s t) = Unit {0}
+UsesOnly P Q (key.App f x) = Unit {0}
+UsesOnly P Q (key.Arr a b) = Unit {0}
+UsesOnly P Q (key.Qar i t b) = Unit {0}
+UsesOnly P Q (key.Builtin o n l) = Q l
+UsesOnly P Q (key.Prog p n l) = Q l
+
+abbrev pub ages_of : {K : Type 0} → List (K × ℕ) → List ℕ
+ages_of es = map (λ e. e.1) es
+
+-- what has the number l came when there were at most n terms
+abbrev pub IsOld : List ℕ → ℕ → ℕ → Type 0
+IsOld ages n l = (l < length ages) × (slice_index_or ages l 0 ≤ n)
+
+-- things that stand once each, and how many terms there were when each came, of now n terms
+pub record IsNumbered {X : Type 0} (n : ℕ) (xs : List X) (ages : List ℕ) : Type 0 where
+  pub long : length ages ≡ length xs
+  pub apart : AreApart xs
+  pub low : (i : ℕ) → i < length ages → slice_index_or ages i 0 ≤ n
+  pub rising : (i j : ℕ) → i ≤ j → j < length ages → slice_index_or ages i 0 ≤ slice_index_or ages j 0
+
+abbrev pub literals_of : Nodes → List Literal
+literals_of n = keys_of n.literals.entries
+
+abbrev pub list_items : List (Vec ℕ Global × ℕ) → List (List ℕ)
+list_items es = map (λ e. e.0.items) es
+
+abbrev pub lists_of : Nodes → List (List ℕ)
+lists_of n = list_items n.lists.entries
+
+-- the roots and what is known of them
+abbrev pub entries_of : Nodes → List (Root × Info)
+entries_of n = map (λ e. (root_of (literals_of n) (lists_of n) e.0, e.1)) n.keys.entries
+
+-- the literal and the arguments of a key were there before term i
+abbrev pub IsKeyed : Nodes → ℕ → Key → Type 0
+IsKeyed n i k = UsesOnly (IsOld (ages_of n.literals.entries) i) (IsOld (ages_of n.lists.entries) i) k
+
+pub record IsKept (n : Nodes) : Type 0 where
+  pub keyed : (i : ℕ) (e : Key × Info) → slice_get n.keys.entries i ≡ Some e → IsKeyed n i e.0
+  pub literals : IsNumbered (length n.keys.entries) (literals_of n) (ages_of n.literals.entries)
+  pub lists : IsNumbered (length n.keys.entries) (lists_of n) (ages_of n.lists.entries)
+
+-- the entry at a place has that information
+abbrev pub IsAt : List (Root × Info) → ℕ → Info → Type 0
+IsAt es i s = (r : Root) × (slice_get es i ≡ Some (r, s))
+
+-- no entry has that root
+abbrev pub IsNew : List (Root × Info) → Node → List ℕ → Type 0
+IsNew es d is = (i : ℕ) (e : Root × Info) → slice_get es i ≡ Some e → IsRoot e.0 d is → ⊥
+
+-- n more terms take no memory, where each takes one key and at most one literal and one list
+pub record HasRoom (n : ℕ) (t : Nodes) : Type 0 where
+  pub keys : n ≤ spare t.keys
+  pub literals : n ≤ spare t.literals
+  pub lists : n ≤ spare t.lists
+
+-- the entry at a place has that root
+abbrev pub HasRootAt : List (Root × Info) → ℕ → Node → List ℕ → Type 0
+HasRootAt es i d is = (s : Info) × (slice_get es i ≡ Some (record { node = d; args = is }, s))
+
+-- the key's numbers are used, and it stands for that root
+pub record IsKeyOf (n : Nodes) (d : Node) (is : List ℕ) (k : Key) : Type 0 where
+  pub live : UsesOnly (λ l. l < length (literals_of n)) (λ l. l < length (lists_of n)) k
+  pub root : root_of (literals_of n) (lists_of n) k ≡ record { node = d; args = is }
+
+-- what is to be numbered in the root
+abbrev pub IsShape : Node → Shape → Type 0
+IsShape d (shape.Known k) = UsesOnly (λ l. ⊥) (λ l. ⊥) k × ((ls : List Literal) (as' : List (List ℕ)) → root_of ls as' k ≡ plain d)
+IsShape d (shape.Literal l) = d ≡ literal_node l
+IsShape d (shape.Applied c n) = d ≡ node.Op c n
+
+-- the key of an operator whose arguments have the number l
+abbrev pub applied : OpCode → ℕ → ℕ → Key
+applied (OpCode.Builtin o) n l = key.Builtin o n l
+applied (OpCode.Prog p) n l = key.Prog p n l
+
+-- x has the number l, and came when there were at most n terms
+pub record HasNumber {X : Type 0} (n : ℕ) (xs : List X) (ages : List ℕ) (x : X) (l : ℕ) : Type 0 where
+  pub at : slice_get xs l ≡ Some x
+  pub old : IsOld ages n l
+
+abbrev pub IsAbsent : {X : Type 0} → List X → X → Type 0
+IsAbsent xs x = (l : ℕ) → slice_get xs l ≡ Some x → ⊥
+
+-- things that are numbered still are, and perhaps more
+pub record Numbers {X : Type 0} (n : ℕ) (xs : List X) (ages : List ℕ) (ys : List X) (bges : List ℕ) : Type 0 where
+  pub numbered : IsNumbered n ys bges
+  pub same : (l : ℕ) (x : X) → slice_get xs l ≡ Some x → slice_get ys l ≡ Some x
+  pub aged : (l m : ℕ) → IsOld ages m l → IsOld bges m l
+
+-- the first k are those that came when there were fewer than n terms
+pub record IsCut (ages : List ℕ) (n k : ℕ) : Type 0 where
+  pub within : k ≤ length ages
+  pub older : (i : ℕ) → suc i ≡ k → slice_index_or ages i 0 < n
+  pub newer : (i : ℕ) → k ≤ i → i < length ages → n ≤ slice_index_or ages i 0
+
+-- the literals and the lists of n are those of m, and perhaps more
+pub record IsMore (m n : Nodes) : Type 0 where
+  pub keys : n.keys ≡ m.keys
+  pub literals : Numbers (length m.keys.entries) (literals_of m) (ages_of m.literals.entries) (literals_of n) (ages_of n.literals.entries)
+  pub lists : Numbers (length m.keys.entries) (lists_of m) (ages_of m.lists.entries) (lists_of n) (ages_of n.lists.entries)

@@ -1,0 +1,337 @@
+//! The roots of terms, each under a small key.
+ghost use Rattle.std.specs.Prelude.{◌≡◌, ℕ, ◌+◌, ◌<◌, ◌≤◌, ◌^◌, [], ◌∷◌, ◌++◌, length, map, take, slice_get, Some, IsOk, IfOk, IfSome, IfNone, OnOk, OnErr};
+ghost use Rattle.std.specs.Map.{keys_of};
+ghost use Rattle.indexmap.specs.IndexMap.{spare};
+ghost use Rattle.eo_term.specs.Terms.{HasArguments};
+ghost use Rattle.eo_term.specs.Keys.{IsRoot, root_of, literal_node, literal_at, list_at, UsesOnly, literals_of, lists_of, list_items, ages_of, entries_of, IsKeyed, IsKept, IsMore, IsKeyOf, IsAt, HasRootAt, IsNew, HasRoom, IsNumbered, HasNumber, Numbers, IsAbsent, IsCut, IsShape, applied};
+
+use crate::node::{Info, Key, Literal};
+use crate::{Id, Node, OpCode};
+use indexmap::IndexMap;
+use std::alloc::{AllocError, Global};
+use std::hash::{BuildHasherDefault, DefaultHasher};
+
+/// Literals with their numbers. A file chooses them freely, so they are hashed by SipHash.
+type Literals = IndexMap<Literal, usize, BuildHasherDefault<DefaultHasher>>;
+
+/// The roots of terms and what is known of them, by their places. No root stands twice.
+///
+/// A literal and a list of arguments stand once each, under numbers of their own, with how many
+/// terms there were when it came. So they are dropped from the end with the terms that use them.
+#[derive(Drop)]
+pub(crate) struct Nodes {
+    pub(crate) keys: IndexMap<Key, Info>,
+    pub(crate) literals: Literals,
+    pub(crate) lists: IndexMap<Vec<Id>, usize>,
+}
+
+impl Nodes {
+    // No terms.
+    pub(crate) fn new(alloc: Global) -> Nodes
+        ensures kept { IsKept result }
+        ensures empty { entries_of result ≡ [] }
+    {
+        Nodes {
+            keys: IndexMap::new(alloc),
+            literals: IndexMap::with_hasher(alloc, BuildHasherDefault::new()),
+            lists: IndexMap::new(alloc),
+        }
+    }
+
+    pub(crate) fn len(&self) -> usize
+        ensures len { result ≡ length (entries_of self.now) }
+        ensures small { result < 2 ^ 63 }
+    {
+        self.keys.len()
+    }
+
+    // What is known of the term at a place.
+    pub(crate) fn info(&self, at: usize) -> Info
+        requires { at < length (entries_of self.now) }
+        ensures { IsAt (entries_of self.now) at result }
+    {
+        let (_, info) = self.keys.get_index(at).unwrap();
+        *info
+    }
+
+    // The root of the term at a place, and what is known of it.
+    pub(crate) fn get(&self, at: usize) -> (Node, &[Id], Info)
+        requires kept { IsKept self.now }
+        requires live { at < length (entries_of self.now) }
+        ensures { slice_get (entries_of self.now) at ≡ Some (record { node = result.0; args = result.1.now }, result.2) }
+    {
+        let (key, info) = self.keys.get_index(at).unwrap();
+        let (node, args) = self.root(key);
+        (node, args, *info)
+    }
+
+    // The term with that root, if there is one.
+    pub(crate) fn find(&self, node: &Node, args: &[Id]) -> Option<usize>
+        requires kept { IsKept self.now }
+        requires args { HasArguments node.now args.now }
+        ensures yes { IfSome result (λ i. HasRootAt (entries_of self.now) i node.now args.now) }
+        ensures no { IfNone result (IsNew (entries_of self.now) node.now args.now) }
+    {
+        let key = self.find_key(node, args)?;
+        self.keys.get_index_of(&key)
+    }
+
+    // The key of that root, if its literal or its arguments are there.
+    fn find_key(&self, node: &Node, args: &[Id]) -> Option<Key>
+        requires { HasArguments node.now args.now }
+        ensures yes { IfSome result (λ k. IsKeyOf self.now node.now args.now k) }
+        ensures no { IfNone result ((k : Key) → IsKeyOf self.now node.now args.now k → ⊥) }
+    {
+        match shape_of(node) {
+            Shape::Known(key) => Some(key),
+            Shape::Literal(literal) => {
+                let number = find_literal(&self.literals, literal)?;
+                Some(Key::Literal(number))
+            }
+            Shape::Applied { code, count } => {
+                let number = find_list(&self.lists, args)?;
+                Some(applied(code, count, number))
+            }
+        }
+    }
+
+    // Adds a term at the end, whose root is not there.
+    pub(crate) fn add(&mut self, node: Node, args: Vec<Id>, info: Info) -> Result<(), AllocError>
+        requires kept { IsKept self.old }
+        requires args { HasArguments node args.items }
+        requires absent { IsNew (entries_of self.old) node args.items }
+        ensures kept { IsKept self.new }
+        ensures ok { OnOk result (entries_of self.new ≡ entries_of self.old ++ (record { node = node; args = args.items }, info) ∷ []) }
+        ensures err { OnErr result (entries_of self.new ≡ entries_of self.old) }
+        ensures room { (n : ℕ) → HasRoom (n + 1) self.old → IsOk result × HasRoom n self.new }
+    {
+        let key = self.make_key(node, args)?;
+        self.keys.insert(key, info)?;
+        Ok(())
+    }
+
+    // The key of that root. Its literal or its arguments are added where they are not there.
+    fn make_key(&mut self, node: Node, args: Vec<Id>) -> Result<Key, AllocError>
+        requires kept { IsKept self.old }
+        requires args { HasArguments node args.items }
+        ensures more { IsMore self.old self.new }
+        ensures key { IfOk result (λ k. IsKeyOf self.new node args.items k × IsKeyed self.new (length self.new.keys.entries) k) }
+        ensures room { (n : ℕ) → HasRoom (n + 1) self.old → IsOk result × (n + 1 ≤ spare self.new.keys) × (n ≤ spare self.new.literals) × (n ≤ spare self.new.lists) }
+    {
+        let terms = self.keys.len();
+        match shape_of(&node) {
+            Shape::Known(key) => Ok(key),
+            Shape::Literal(literal) => {
+                let number = number_literal(&mut self.literals, literal, terms)?;
+                Ok(Key::Literal(number))
+            }
+            Shape::Applied { code, count } => {
+                let number = number_list(&mut self.lists, args, terms)?;
+                Ok(applied(code, count, number))
+            }
+        }
+    }
+
+    // Makes room, so that so many more terms take no memory.
+    pub(crate) fn reserve(&mut self, more: usize) -> Result<(), AllocError>
+        requires { IsKept self.old }
+        ensures kept { IsKept self.new }
+        ensures entries { entries_of self.new ≡ entries_of self.old }
+        ensures ok { OnOk result (HasRoom more self.new) }
+    {
+        self.keys.reserve(more)?;
+        self.literals.reserve(more)?;
+        self.lists.reserve(more)
+    }
+
+    // Drops the terms from a place on, and the literals and the arguments that only they have.
+    pub(crate) fn cut(&mut self, terms: usize)
+        requires kept { IsKept self.old }
+        requires within { terms ≤ length (entries_of self.old) }
+        ensures kept { IsKept self.new }
+        ensures entries { entries_of self.new ≡ take terms (entries_of self.old) }
+        ensures room { (n : ℕ) → HasRoom n self.old → HasRoom n self.new }
+    {
+        let literals = older_literals(&self.literals, terms);
+        let lists = older_lists(&self.lists, terms);
+        self.keys.truncate(terms);
+        self.literals.truncate(literals);
+        self.lists.truncate(lists);
+    }
+
+    // The root that a key stands for.
+    fn root(&self, key: &Key) -> (Node, &[Id])
+        requires { UsesOnly (λ l. l < length (literals_of self.now)) (λ l. l < length (lists_of self.now)) key.now }
+        ensures { IsRoot (root_of (literals_of self.now) (lists_of self.now) key.now) result.0 result.1.now }
+    {
+        match *key {
+            Key::Con(k) => (Node::Con(k), &[]),
+            Key::Literal(l) => (self.literal(l), &[]),
+            Key::Str(text) => (Node::Str(text), &[]),
+            Key::Par(i) => (Node::Par(i), &[]),
+            Key::Var { name, ty } => (Node::Var { name, ty }, &[]),
+            Key::App { fun, arg } => (Node::App { fun, arg }, &[]),
+            Key::Arr { from, to } => (Node::Arr { from, to }, &[]),
+            Key::Qar { par, ty, to } => (Node::Qar { par, ty, to }, &[]),
+            Key::Builtin { name, count, args } => {
+                let code = OpCode::Builtin(name);
+                (Node::Op { code, count }, self.list(args))
+            }
+            Key::Prog {
+                program,
+                count,
+                args,
+            } => {
+                let code = OpCode::Prog(program);
+                (Node::Op { code, count }, self.list(args))
+            }
+        }
+    }
+
+    fn literal(&self, number: usize) -> Node
+        requires { number < length (literals_of self.now) }
+        ensures { result ≡ literal_node (literal_at (literals_of self.now) number) }
+    {
+        let (literal, _) = self.literals.get_index(number).unwrap();
+        match *literal {
+            Literal::Num(z) => Node::Num(z),
+            Literal::Bits { width, value } => Node::Bits { width, value },
+        }
+    }
+
+    fn list(&self, number: usize) -> &[Id]
+        requires { number < length (lists_of self.now) }
+        ensures { result.now ≡ list_at (lists_of self.now) number }
+    {
+        let (list, _) = self.lists.get_index(number).unwrap();
+        list.as_slice()
+    }
+}
+
+// What is to be numbered in a root.
+enum Shape {
+    // Nothing: it is known by this key.
+    Known(Key),
+    Literal(Literal),
+    // The arguments of an operator.
+    Applied { code: OpCode, count: u8 },
+}
+
+fn shape_of(node: &Node) -> Shape
+    ensures { IsShape node.now result }
+{
+    match *node {
+        Node::Con(k) => Shape::Known(Key::Con(k)),
+        Node::Num(z) => Shape::Literal(Literal::Num(z)),
+        Node::Bits { width, value } => Shape::Literal(Literal::Bits { width, value }),
+        Node::Str(text) => Shape::Known(Key::Str(text)),
+        Node::Par(i) => Shape::Known(Key::Par(i)),
+        Node::Var { name, ty } => Shape::Known(Key::Var { name, ty }),
+        Node::App { fun, arg } => Shape::Known(Key::App { fun, arg }),
+        Node::Arr { from, to } => Shape::Known(Key::Arr { from, to }),
+        Node::Qar { par, ty, to } => Shape::Known(Key::Qar { par, ty, to }),
+        Node::Op { code, count } => Shape::Applied { code, count },
+    }
+}
+
+// The key of an operator whose arguments have that number.
+fn applied(code: OpCode, count: u8, args: usize) -> Key
+    ensures { result ≡ applied code count args }
+{
+    match code {
+        OpCode::Builtin(name) => Key::Builtin { name, count, args },
+        OpCode::Prog(program) => Key::Prog {
+            program,
+            count,
+            args,
+        },
+    }
+}
+
+fn find_literal(literals: &Literals, literal: Literal) -> Option<usize>
+    ensures yes { IfSome result (λ l. slice_get (keys_of literals.now.entries) l ≡ Some literal) }
+    ensures no { IfNone result (IsAbsent (keys_of literals.now.entries) literal) }
+{
+    literals.get_index_of(&literal)
+}
+
+fn find_list(lists: &IndexMap<Vec<Id>, usize>, args: &[Id]) -> Option<usize>
+    ensures yes { IfSome result (λ l. slice_get (list_items lists.now.entries) l ≡ Some args.now) }
+    ensures no { IfNone result (IsAbsent (list_items lists.now.entries) args.now) }
+{
+    lists.get_index_of(args)
+}
+
+// The number of a literal, which is added where it is not there.
+fn number_literal(
+    literals: &mut Literals,
+    literal: Literal,
+    terms: usize,
+) -> Result<usize, AllocError>
+    requires { IsNumbered terms (keys_of literals.old.entries) (ages_of literals.old.entries) }
+    ensures number { IfOk result (HasNumber terms (keys_of literals.new.entries) (ages_of literals.new.entries) literal) }
+    ensures more { Numbers terms (keys_of literals.old.entries) (ages_of literals.old.entries) (keys_of literals.new.entries) (ages_of literals.new.entries) }
+    ensures succeeds { 0 < spare literals.old → IsOk result }
+    ensures room { spare literals.old ≤ spare literals.new + 1 }
+{
+    match find_literal(literals, literal) {
+        Some(number) => Ok(number),
+        None => {
+            let number = literals.len();
+            literals.insert(literal, terms)?;
+            Ok(number)
+        }
+    }
+}
+
+// The number of a list of arguments, which is added where it is not there.
+fn number_list(
+    lists: &mut IndexMap<Vec<Id>, usize>,
+    args: Vec<Id>,
+    terms: usize,
+) -> Result<usize, AllocError>
+    requires { IsNumbered terms (list_items lists.old.entries) (ages_of lists.old.entries) }
+    ensures number { IfOk result (HasNumber terms (list_items lists.new.entries) (ages_of lists.new.entries) args.items) }
+    ensures more { Numbers terms (list_items lists.old.entries) (ages_of lists.old.entries) (list_items lists.new.entries) (ages_of lists.new.entries) }
+    ensures succeeds { 0 < spare lists.old → IsOk result }
+    ensures room { spare lists.old ≤ spare lists.new + 1 }
+{
+    match find_list(lists, args.as_slice()) {
+        Some(number) => Ok(number),
+        None => {
+            let number = lists.len();
+            lists.insert(args, terms)?;
+            Ok(number)
+        }
+    }
+}
+
+// How many literals came when there were fewer than so many terms.
+fn older_literals(literals: &Literals, terms: usize) -> usize
+    ensures { IsCut (ages_of literals.now.entries) terms result }
+{
+    let mut count = literals.len();
+    while count > 0 {
+        let (_, age) = literals.get_index(count - 1).unwrap();
+        if *age < terms {
+            return count;
+        }
+        count -= 1;
+    }
+    count
+}
+
+// How many lists of arguments came when there were fewer than so many terms.
+fn older_lists(lists: &IndexMap<Vec<Id>, usize>, terms: usize) -> usize
+    ensures { IsCut (ages_of lists.now.entries) terms result }
+{
+    let mut count = lists.len();
+    while count > 0 {
+        let (_, age) = lists.get_index(count - 1).unwrap();
+        if *age < terms {
+            return count;
+        }
+        count -= 1;
+    }
+    count
+}

@@ -1,5 +1,0 @@
-use Rattle.eo_sig.proofs.Same.{below_more}
-use Rattle.eo_type.proofs.tests.first.Goals as goal
-
-pub returns : goal.returns
-returns c = λ n l. below_more 4 n _ l c.in_ok-new.ensures.below

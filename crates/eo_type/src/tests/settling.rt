@@ -1,0 +1,43 @@
+//! Terms and what they are settled to.
+use super::world::World;
+use eo_term::{BOOL, FALSE, Id, OpName, TRUE};
+use std::test::Fail;
+
+#[test]
+fn each_branch_is_settled(rt: HostRuntime) -> Result<(), Fail> {
+    let mut w = World::new(rt.alloc())?;
+    assert!(rt; branches_are_settled(&mut w)?);
+    Ok(())
+}
+
+// Choices, of which one has a stuck branch that is not taken, and an operator with a parameter.
+fn branches_are_settled(w: &mut World) -> Result<bool, Fail> {
+    let zero = w.num(0)?;
+    let stuck = w.op2(OpName::Zdiv, zero, zero)?;
+    let taken = w.choice(TRUE, zero, BOOL)?;
+    let other = w.choice(FALSE, zero, BOOL)?;
+    let neither = w.choice(BOOL, zero, BOOL)?;
+    let untaken = w.choice(TRUE, zero, stuck)?;
+    let open = w.par(0)?;
+    let kept = w.op1(OpName::Neg, open)?;
+    settle_to(
+        w,
+        &[
+            (taken, Some(zero)),
+            (other, Some(BOOL)),
+            (neither, None),
+            (untaken, None),
+            (kept, Some(kept)),
+        ],
+    )
+}
+
+// Whether each term is settled to the term beside it, or not at all.
+fn settle_to(w: &mut World, rows: &[(Id, Option<Id>)]) -> Result<bool, Fail> {
+    for (id, settled) in rows {
+        if w.settled(*id)? != *settled {
+            return Ok(false);
+        }
+    }
+    Ok(true)
+}
