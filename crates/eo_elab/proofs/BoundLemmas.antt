@@ -11,7 +11,7 @@ use Rattle.eo_base.specs.Checks.{Checked, ◌>>=◌, require}
 use Rattle.eo_sig.specs.declared.records.Param.{Param}
 use Rattle.eo_sig.specs.Reading.{read_parameter, Kept}
 use Rattle.eo_shape.specs.Shapes.{ParameterShape}
-use Rattle.eo_term.specs.Terms.{Terms, tree_at, Grows}
+use Rattle.eo_term.specs.Terms.{Terms, tree_at, Since}
 use Rattle.eo_term.specs.Tree.{Tree, Par}
 use Rattle.eo_elab.specs.declared.parameters.Bound as code
 use Rattle.eo_base.specs.Answers.{Tells}
@@ -65,7 +65,7 @@ parameters-grown n ts us (p ∷ ps) same h =
 pub parameters-more : (n m : ℕ) (ps : List Param) → n ≤ m → All (λ (p : Param). p.ty < n) ps → All (λ (p : Param). p.ty < m) ps
 parameters-more n m ps l h = All-weaker (λ (x : Param). x.ty < n) (λ (x : Param). x.ty < m) (λ x q. omega arith) ps h
 
-pub bound-grown : (b : code.Bound) (old new : Terms) → All (λ (p : Param). p.ty < length old.trees) b.params → AreBelow (length old.trees) b.locals → Grows old new → read_bound new.trees b ≡ read_bound old.trees b
+pub bound-grown : (b : code.Bound) (old new : Terms) → All (λ (p : Param). p.ty < length old.trees) b.params → AreBelow (length old.trees) b.locals → Since old new → read_bound new.trees b ≡ read_bound old.trees b
 bound-grown b old new below names g =
     let ps = parameters-grown (length old.trees) old.trees new.trees b.params g.tree below in
     let ls = locals_grown b.locals old.trees new.trees (length old.trees) names g.tree in

@@ -15,7 +15,7 @@ use Rattle.eo_term.specs.Terms.{Terms}
 use Rattle.eo_term.specs.declared.table.TermRefused.{TermRefused}
 use Rattle.eo_term.specs.declared.table.TermRefused.TheVariants as term
 use Rattle.eo_term.specs.Refused.{IsTall}
-use Rattle.eo_term.specs.Growth.{GrowsOn}
+use Rattle.eo_term.specs.Growth.{Grows}
 use Rattle.eo_names.specs.declared.locals.LocalName.{LocalName}
 use Rattle.eo_names.specs.declared.refused.ElabRefused.{ElabRefused}
 use Rattle.eo_names.specs.declared.scope.Scope.{Scope}
@@ -24,7 +24,8 @@ use Rattle.eo_names.specs.declared.usage.Use.{Use}
 use Rattle.eo_names.specs.Gives.{GivesTree, GivesTerm}
 use Rattle.eo_elab.specs.Gives.{AddsPair, IsFormed, IsUsed}
 use Rattle.eo_names.specs.Contexts.{Context, Local, InProof}
-use Rattle.eo_elab.specs.Meaning.{Parts, without_labels}
+use Rattle.eo_elab.specs.Forms.{Parts}
+use Rattle.eo_elab.specs.Meaning.{without_labels}
 use Rattle.eo_names.specs.Readers.{with_labels}
 use Rattle.eo_names.specs.Names.{Binding, AreBelow, read_pairs}
 use Rattle.eo_names.specs.Refused.{told, of_term}
@@ -48,10 +49,10 @@ pub none_ready : (k : Kept) (n : ℕ) (ls : List LocalName) → ls ≡ [] → Is
 none_ready k n ls e h = record { below = h; names = subst (AreBelow n) (sym e) (All-nil (λ (l : LocalName). l.id < n)) }
 
 -- a table that grows keeps what is read
-pub same_context : (k : Kept) (old new : Terms) → IsBelow (length old.trees) k → GrowsOn old new → context_in new k ≡ context_in old k
+pub same_context : (k : Kept) (old new : Terms) → IsBelow (length old.trees) k → Grows old new → context_in new k ≡ context_in old k
 same_context k old new h g = let s = stays_grown k old new h g.now in λ i. record { signature = s.signature i; macros = s.macros i; setting = InProof }
 
-module _ (k : Kept) (ls : List LocalName) (old new : Terms) (h : IsReady (length old.trees) k ls) (g : GrowsOn old new) where
+module _ (k : Kept) (ls : List LocalName) (old new : Terms) (h : IsReady (length old.trees) k ls) (g : Grows old new) where
   pub same_world_of : world_of new k ls ≡ world_of old k ls
   same_world_of = let q = keeps_grown k ls old new h g.now in λ i. record { names = q.context i; locals = q.names i }
 

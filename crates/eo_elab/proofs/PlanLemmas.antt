@@ -1,6 +1,6 @@
 -- How a head uses its arguments.
 use Rattle.std.proofs.Common.{◌≡◌, ℕ, suc, ◌<◌, ◌≤◌, Bool, true, false, List, [], ◌∷◌, map, length, Option, Some, None, refl, sym, ap, ◌∙◌, arith, eq-eqb}
-use Rattle.std.specs.Prelude.{◌==◌, if◌then◌else◌, Err, slice_get, option_map}
+use Rattle.std.specs.Prelude.{◌==◌, if◌then◌else◌, Ok, Err, slice_get, option_map}
 use Rattle.std.proofs.lemmas.Bool.{le-leb, lt-leb}
 use Rattle.std.proofs.lemmas.List.{length-map}
 use Rattle.eo_base.specs.Checks.{Checked}
@@ -17,10 +17,11 @@ use Rattle.eo_term.specs.Tree.{Tree, Trees, Con, Op, to_trees}
 use Rattle.eo_names.specs.declared.usage.Use.TheVariants as use_
 use Rattle.eo_names.specs.declared.symbols.Meant.TheVariants as meant_
 use Rattle.eo_names.specs.Folding.{attribute_at, least, plainly, arrow}
-use Rattle.eo_elab.specs.Forms.{arguments_used, collector_of}
+use Rattle.eo_elab.specs.Forms.{Parts, application, word_application, by_head, tree_application, meant_application, formed_from, used_from, arguments_used, collector_of}
 use Rattle.eo_names.specs.Contexts.{Context, Local}
-use Rattle.eo_names.specs.Readers.{Label, Reader, built, ◌>>=◌, fail, unless}
-use Rattle.eo_elab.specs.Meaning.{Parts, word_application, application, by_head, count, begins_with_pairs, with_arguments, exactly, plain_application, binder_application, folded_application, by_attribute, tree_application, meant_application}
+use Rattle.eo_names.specs.Readers.{Label, Reader, built, read, ◌>>=◌, fail}
+use Rattle.eo_elab.specs.Meaning.{Application, Wrong, Binds, AnApplication, count, begins_with_pairs, where_many, at_least, exactly, head_form, constant_use, tree_use}
+use Rattle.eo_elab.specs.Meaning as list
 use Rattle.eo_names.specs.Meanings.{Word, Underscore, Arrow, Name, word_of, meant, Meant, AMacro, AnOperator, or_nothing}
 use Rattle.eo_names.specs.Symbols.{read_meant}
 use Rattle.eo_names.specs.Ready.{context}
@@ -35,23 +36,30 @@ module _ (c : Context) (ls : List Local) (xs : List Sexp) (parts : Parts) where
   abbrev args : Sexps
   args = sexps_of xs
 
-  pub enough : (n : ℕ) (f : List Tree → Reader Tree) → n ≤ length xs → with_arguments c ls args parts n f ≡ (parts.arguments >>= f)
-  enough n f l = ap (λ b. unless b BadArity (parts.arguments >>= f)) (le-leb n (count args) (omega (arith, counted xs)))
+  -- the arguments are read, and this is made of their meanings
+  abbrev pub read_and : (List Tree → Checked Tree) → Reader Tree
+  read_and made = parts.arguments >>= λ ts. read (made ts) >>= built
 
-  pub too_few : (n : ℕ) (f : List Tree → Reader Tree) → length xs < n → with_arguments c ls args parts n f ≡ fail BadArity
-  too_few n f l = ap (λ b. unless b BadArity (parts.arguments >>= f)) (lt-leb n (count args) (omega (arith, counted xs)))
+  abbrev counted_by : (List Tree → Checked Tree) → Bool → Reader Tree
+  counted_by made b = used_from parts (where_many b made)
 
-  pub as_many : (n : ℕ) (f : List Tree → Reader Tree) → length xs ≡ n → exactly c ls args parts n f ≡ (parts.arguments >>= f)
-  as_many n f l = ap (λ b. unless b BadArity (parts.arguments >>= f)) (eq-eqb (count args) n (counted xs ∙ l))
+  pub enough : (n : ℕ) (made : List Tree → Checked Tree) → n ≤ length xs → used_from parts (at_least args n made) ≡ read_and made
+  enough n made l = ap (counted_by made) (le-leb n (count args) (omega (arith, counted xs)))
 
-  pub not_as_many : (n : ℕ) (f : List Tree → Reader Tree) → (length xs == n) ≡ false → exactly c ls args parts n f ≡ fail BadArity
-  not_as_many n f l = ap (λ b. unless b BadArity (parts.arguments >>= f)) (ap (λ m. m == n) (counted xs) ∙ l)
+  pub too_few : (n : ℕ) (made : List Tree → Checked Tree) → length xs < n → used_from parts (at_least args n made) ≡ fail BadArity
+  too_few n made l = ap (counted_by made) (lt-leb n (count args) (omega (arith, counted xs)))
 
-  abbrev or_folded : ℕ → Option ℕ → Reader Tree
-  or_folded k (Some g) = binder_application c ls args parts k g
-  or_folded k None = folded_application c ls args parts k
+  pub as_many : (n : ℕ) (made : List Tree → Checked Tree) → length xs ≡ n → used_from parts (exactly args n made) ≡ read_and made
+  as_many n made l = ap (counted_by made) (eq-eqb (count args) n (counted xs ∙ l))
 
-  by_collector : (k : ℕ) (a : Attribute) → by_attribute c ls args parts k a ≡ or_folded k (collector_of a args)
+  pub not_as_many : (n : ℕ) (made : List Tree → Checked Tree) → (length xs == n) ≡ false → used_from parts (exactly args n made) ≡ fail BadArity
+  not_as_many n made l = ap (counted_by made) (ap (λ m. m == n) (counted xs) ∙ l)
+
+  abbrev or_folded : ℕ → Option ℕ → Application
+  or_folded k (Some g) = Binds k g
+  or_folded k None = list.folded_use c ls args k
+
+  by_collector : (k : ℕ) (a : Attribute) → constant_use c ls args k a ≡ or_folded k (collector_of a args)
   by_collector k Plain = refl
   by_collector k (RightNil n) = refl
   by_collector k (LeftNil n) = refl
@@ -61,16 +69,16 @@ module _ (c : Context) (ls : List Local) (xs : List Sexp) (parts : Parts) where
   by_collector k (Pairs g) = refl
   by_collector k (Binder g) = by (begins_with_pairs args)
     where
-      by : (b : Bool) → (if b then binder_application c ls args parts k g else folded_application c ls args parts k) ≡ or_folded k (if b then Some g else None)
+      by : (b : Bool) → (if b then Binds k g else list.folded_use c ls args k) ≡ or_folded k (if b then Some g else None)
       by true = refl
       by false = refl
 
   -- a constant, by its attribute
   pub bound_use : (ts : List Tree) (k g : ℕ) → Some g ≡ collector_of (attribute_at c.signature k) args → tree_application c ls args parts (Con k) ≡ arguments_used ts c ls parts (use_.Bind k g)
-  bound_use ts k g h = by_collector k (attribute_at c.signature k) ∙ ap (or_folded k) (sym h)
+  bound_use ts k g h = ap (used_from parts) (by_collector k (attribute_at c.signature k) ∙ ap (or_folded k) (sym h))
 
-  folded_by : (k : ℕ) → None ≡ collector_of (attribute_at c.signature k) args → tree_application c ls args parts (Con k) ≡ folded_application c ls args parts k
-  folded_by k h = by_collector k (attribute_at c.signature k) ∙ ap (or_folded k) (sym h)
+  folded_by : (k : ℕ) → None ≡ collector_of (attribute_at c.signature k) args → tree_application c ls args parts (Con k) ≡ used_from parts (list.folded_use c ls args k)
+  folded_by k h = ap (used_from parts) (by_collector k (attribute_at c.signature k) ∙ ap (or_folded k) (sym h))
 
   pub folded_use : (ts : List Tree) (k : ℕ) → None ≡ collector_of (attribute_at c.signature k) args → least (attribute_at c.signature k) ≤ length xs → tree_application c ls args parts (Con k) ≡ arguments_used ts c ls parts (use_.Fold k)
   folded_use ts k h l = folded_by k h ∙ enough (least (attribute_at c.signature k)) _ l
@@ -80,9 +88,9 @@ module _ (c : Context) (ls : List Local) (xs : List Sexp) (parts : Parts) where
 
   -- any other term
   pub plain_use : (ts : List Tree) (i : ℕ) (texts : List (List ℕ)) (n : Node) (us : Trees) → ((k : ℕ) → n ≡ node.Con k → ⊥) → tree_of ts texts n us ≡ tree_at ts i → 1 ≤ length xs → tree_application c ls args parts (tree_at ts i) ≡ arguments_used ts c ls parts (use_.Plainly i)
-  plain_use ts i texts n us h e l = ap (tree_application c ls args parts) (sym e) ∙ plain n h ∙ ap (plain_application c ls args parts) e ∙ enough 1 _ l
+  plain_use ts i texts n us h e l = ap (tree_application c ls args parts) (sym e) ∙ ap (used_from parts) (plain n h) ∙ ap (λ t. used_from parts (list.plain_use args t)) e ∙ enough 1 _ l
     where
-      plain : (n : Node) → ((k : ℕ) → n ≡ node.Con k → ⊥) → tree_application c ls args parts (tree_of ts texts n us) ≡ plain_application c ls args parts (tree_of ts texts n us)
+      plain : (n : Node) → ((k : ℕ) → n ≡ node.Con k → ⊥) → tree_use c ls args (tree_of ts texts n us) ≡ list.plain_use args (tree_of ts texts n us)
       plain (node.Con k) h = absurd (h k refl)
       plain (node.Num z) h = refl
       plain (node.Bits w v) h = refl
@@ -107,10 +115,10 @@ module _ (c : Context) (ls : List Local) (xs : List Sexp) (parts : Parts) where
   macro_arity ts k n d e l = ap (meant_application c ls args parts) (read_as ts k n d e) ∙ not_as_many (length (map (read_parameter ts) d.params)) _ (ap (λ m. length xs == m) (length_parameters ts d) ∙ l)
 
   pub operator_use : (ts : List Tree) (code : OpCode) (n : ℕ) → length xs ≡ n → meant_application c ls args parts (AnOperator code n) [] ≡ arguments_used ts c ls parts (use_.Operator code) []
-  operator_use ts code n l = λ i. as_many n (λ us. built (Op code (to_trees us))) l i []
+  operator_use ts code n l = λ i. as_many n (λ us. Ok (Op code (to_trees us))) l i []
 
   pub operator_arity : (code : OpCode) (n : ℕ) → (length xs == n) ≡ false → meant_application c ls args parts (AnOperator code n) [] ≡ Err BadArity
-  operator_arity code n l = λ i. not_as_many n (λ us. built (Op code (to_trees us))) l i []
+  operator_arity code n l = λ i. not_as_many n (λ us. Ok (Op code (to_trees us))) l i []
 
 -- words
 module _ (ts : List Tree) (k : Kept) (ls : List Local) (xs : List Sexp) (parts : Parts) (m : Meant) (w : Word) where
@@ -121,16 +129,16 @@ module _ (ts : List Tree) (k : Kept) (ls : List Local) (xs : List Sexp) (parts :
   applied_word v = word_application names ls (sexps_of xs) parts v m []
 
   pub underscore_use : Underscore ≡ w → 2 ≤ length xs → applied_word w ≡ arguments_used ts names ls parts use_.Underscore []
-  underscore_use e l = ap applied_word (sym e) ∙ (λ i. enough names ls xs parts 2 (λ us. built (plainly us)) l i [])
+  underscore_use e l = ap applied_word (sym e) ∙ (λ i. enough names ls xs parts 2 (λ us. Ok (plainly us)) l i [])
 
   pub underscore_few : Underscore ≡ w → length xs < 2 → applied_word w ≡ Err BadArity
-  underscore_few e l = ap applied_word (sym e) ∙ (λ i. too_few names ls xs parts 2 (λ us. built (plainly us)) l i [])
+  underscore_few e l = ap applied_word (sym e) ∙ (λ i. too_few names ls xs parts 2 (λ us. Ok (plainly us)) l i [])
 
   pub arrow_use : Arrow ≡ w → 2 ≤ length xs → applied_word w ≡ arguments_used ts names ls parts use_.Arrow []
-  arrow_use e l = ap applied_word (sym e) ∙ (λ i. enough names ls xs parts 2 (λ us. built (arrow us)) l i [])
+  arrow_use e l = ap applied_word (sym e) ∙ (λ i. enough names ls xs parts 2 (λ us. Ok (arrow us)) l i [])
 
   pub arrow_few : Arrow ≡ w → length xs < 2 → applied_word w ≡ Err BadArity
-  arrow_few e l = ap applied_word (sym e) ∙ (λ i. too_few names ls xs parts 2 (λ us. built (arrow us)) l i [])
+  arrow_few e l = ap applied_word (sym e) ∙ (λ i. too_few names ls xs parts 2 (λ us. Ok (arrow us)) l i [])
 
 -- a name is what it stands for
 pub named_word : (w : World) (xs : List Sexp) (parts : Parts) (name : List ℕ) → word_of w.names.setting name ≡ Name → word_in w name xs parts ≡ meant_in w xs parts (meant w.names w.locals name)
@@ -139,7 +147,7 @@ named_word w xs parts name e = ap (λ v. word_application w.names w.locals (sexp
 -- the arguments are counted first
 module _ (c : Context) (ls : List Local) (xs : List Sexp) (parts : Parts) (word : Option (List ℕ)) where
   pub some_given : (length xs ≡ 0 → ⊥) → application c ls (sexps_of xs) parts word [] ≡ by_head c ls (sexps_of xs) parts word []
-  some_given e = ap (λ b. unless b BadArity (by_head c ls (sexps_of xs) parts word) []) (le-leb 1 (count (sexps_of xs)) (omega (arith, counted xs, e)))
+  some_given e = ap (λ b. formed_from c ls (sexps_of xs) parts (if b then head_form c ls (sexps_of xs) word else AnApplication (Wrong BadArity)) []) (le-leb 1 (count (sexps_of xs)) (omega (arith, counted xs, e)))
 
   pub none_counted : length xs ≡ 0 → application c ls (sexps_of xs) parts word [] ≡ Err BadArity
-  none_counted e = ap (λ b. unless b BadArity (by_head c ls (sexps_of xs) parts word) []) (lt-leb 1 (count (sexps_of xs)) (omega (arith, counted xs, e)))
+  none_counted e = ap (λ b. formed_from c ls (sexps_of xs) parts (if b then head_form c ls (sexps_of xs) word else AnApplication (Wrong BadArity)) []) (lt-leb 1 (count (sexps_of xs)) (omega (arith, counted xs, e)))

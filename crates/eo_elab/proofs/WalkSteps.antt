@@ -20,12 +20,12 @@ use Rattle.eo_names.specs.declared.usage.Use.{Use}
 use Rattle.eo_names.specs.declared.usage.Use.TheVariants as use_
 use Rattle.eo_names.specs.Folding.{applied}
 use Rattle.eo_names.specs.Usage.{made_of, UseBelow}
-use Rattle.eo_elab.specs.Forms.{parts_of, all_after, pair_of}
+use Rattle.eo_elab.specs.Forms.{application, formed_from, parts_of, all_after, pair_of}
 use Rattle.eo_names.specs.Binders.{list_of, pair_local, variable}
 use Rattle.eo_shape.specs.Words.{symbol_of}
 use Rattle.eo_names.specs.Contexts.{Context, Local, is_list}
 use Rattle.eo_names.specs.Readers.{Label, Reader, ◌>>=◌, give, go_on, unless, built, with_labels}
-use Rattle.eo_elab.specs.Meaning.{atom, application, means, means_all, in_let, in_binder, pair_list, pairs_after}
+use Rattle.eo_elab.specs.Meaning.{ListForm, ALet, AnAnnotation, ABitString, AnApplication, ATermFirst, Wrong, list_form, counted_form, atom, means, means_list, means_all, in_let, in_binder, pair_list, pairs_after}
 use Rattle.eo_names.specs.Names.{Binding, binding_local, read_local, read_locals, read_pairs, AreBelow, BindingsBelow, names_in}
 use Rattle.eo_names.specs.Ready.{context}
 use Rattle.eo_names.specs.declared.scope.Scope.{Scope}
@@ -42,13 +42,28 @@ module _ (c : Context) (ls : List Local) where
   of_no_list (Atom k text span) e = of_atom k text span
   of_no_list (Listed ss span) e = cc
 
+  no_parts : (form : ListForm) → means_list c ls form NoSexp [] ≡ Err BadArity
+  unfolding means_list
+  no_parts form = refl
+
   pub of_nothing : (span : Span) → means c ls (Listed NoSexp span) [] ≡ Err BadArity
   unfolding means
-  of_nothing span = refl
+  of_nothing span = no_parts (AnApplication (Wrong BadArity))
+
+  by_form : (h : Sexp) (args : Sexps) (form : ListForm) → means_list c ls form (Next h args) [] ≡ formed_from c ls args (parts_of c ls h args) form []
+  unfolding means_list
+  by_form h args ALet = refl
+  by_form h args AnAnnotation = refl
+  by_form h args (ABitString t) = refl
+  by_form h args (AnApplication u) = refl
+  by_form h args ATermFirst = refl
+
+  of_counted : (h : Sexp) (args : Sexps) (span : Span) → means c ls (Listed (Next h args) span) [] ≡ means_list c ls (counted_form c ls args (symbol_of h)) (Next h args) []
+  unfolding means
+  of_counted h args span = refl
 
   pub of_list : (h : Sexp) (args : Sexps) (span : Span) → means c ls (Listed (Next h args) span) [] ≡ application c ls args (parts_of c ls h args) (symbol_of h) []
-  unfolding means
-  of_list h args span = refl
+  of_list h args span = of_counted h args span ∙ by_form h args (counted_form c ls args (symbol_of h))
 
   -- several terms
   pub all_end : (before : List Tree) → all_after before (means_all c ls NoSexp) [] ≡ Ok (before, [])

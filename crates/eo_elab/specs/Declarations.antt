@@ -23,7 +23,10 @@ pub data Declaration : Type 0 where
 -- the meanings of terms in order
 unfoldable pub meanings : Context → List Local → List Sexp → Checked (List Tree)
 meanings c locals [] = Ok []
-meanings c locals (s ∷ ss) = meaning c locals s >>= λ t. meanings c locals ss >>= λ ts. Ok (t ∷ ts)
+meanings c locals (s ∷ ss) = do
+  t ← meaning c locals s
+  ts ← meanings c locals ss
+  Ok (t ∷ ts)
 
 -- ---- names
 
@@ -95,22 +98,33 @@ module _ (c : Context) where
   -- A parameter's type may use earlier parameters.
   abbrev pub bind : Bound → List ParameterShape → Checked Bound
   bind b [] = Ok b
-  bind b (p ∷ ps) =
-      require (not (is_bound b p.name)) Redeclared >>= λ _. meaning c b.locals p.type >>= λ t.
-      bind (with_parameter b (record { name = p.name; type = t; implicit = p.implicit; list = p.list })) ps
+  bind b (p ∷ ps) = do
+    _ ← require (not (is_bound b p.name)) Redeclared
+    t ← meaning c b.locals p.type
+    bind (with_parameter b (record { name = p.name; type = t; implicit = p.implicit; list = p.list })) ps
 
   abbrev pub constant_meant : List Local → Sexp → Checked ℕ
   constant_meant locals s = meaning c locals s >>= constant_number
 
   abbrev pub attribute : List Local → AttributeShape → Checked Attribute
   attribute locals NoAttribute = Ok Plain
-  attribute locals (RightNilShape n) = meaning c locals n >>= λ t. Ok (RightNil t)
-  attribute locals (LeftNilShape n) = meaning c locals n >>= λ t. Ok (LeftNil t)
+  attribute locals (RightNilShape n) = do
+    t ← meaning c locals n
+    Ok (RightNil t)
+  attribute locals (LeftNilShape n) = do
+    t ← meaning c locals n
+    Ok (LeftNil t)
   attribute locals RightShape = Ok Right
   attribute locals LeftShape = Ok Left
-  attribute locals (ChainShape g) = constant_meant locals g >>= λ k. Ok (Chain k)
-  attribute locals (PairsShape g) = constant_meant locals g >>= λ k. Ok (Pairs k)
-  attribute locals (BinderShape b) = constant_meant locals b >>= λ k. Ok (Binder k)
+  attribute locals (ChainShape g) = do
+    k ← constant_meant locals g
+    Ok (Chain k)
+  attribute locals (PairsShape g) = do
+    k ← constant_meant locals g
+    Ok (Pairs k)
+  attribute locals (BinderShape b) = do
+    k ← constant_meant locals b
+    Ok (Binder k)
 
   -- ---- constants
 
@@ -120,30 +134,43 @@ module _ (c : Context) where
 
   -- a constant whose terminator is a value and whose type holds what it may
   abbrev pub plain_constant : List ℕ → Tree → Attribute → Checked Constant
-  plain_constant name type a = let d = constant name [] type a in no_fault (constant_fault d) >>= λ _. Ok d
+  plain_constant name type a = do
+    _ ← no_fault (constant_fault (constant name [] type a))
+    Ok (constant name [] type a)
 
   -- (declare-const S T attr)
   unfoldable pub declared_const : List ℕ → Sexp → AttributeShape → Checked Constant
-  declared_const name type shape =
-      require (is_free_or_reference c name) Redeclared >>= λ _. meaning c [] type >>= λ t.
-      attribute [] shape >>= λ a. plain_constant name t a
+  declared_const name type shape = do
+    _ ← require (is_free_or_reference c name) Redeclared
+    t ← meaning c [] type
+    a ← attribute [] shape
+    plain_constant name t a
 
   -- (declare-fun S (T ..) T)
   unfoldable pub declared_fun : List ℕ → List Sexp → Sexp → Checked Constant
-  declared_fun name inputs output =
-      require (is_free_or_reference c name) Redeclared >>= λ _. meanings c [] inputs >>= λ ts. meaning c [] output >>= λ t.
-      not_tall (function_type ts t) >>= λ type. plain_constant name type Plain
+  declared_fun name inputs output = do
+    _ ← require (is_free_or_reference c name) Redeclared
+    ts ← meanings c [] inputs
+    t ← meaning c [] output
+    type ← not_tall (function_type ts t)
+    plain_constant name type Plain
 
   -- (declare-sort S n)
   unfoldable pub declared_sort : List ℕ → ℕ → Checked Constant
-  declared_sort name arity = require (is_free_or_reference c name) Redeclared >>= λ _. plain_constant name (sort_type arity) Plain
+  declared_sort name arity = do
+    _ ← require (is_free_or_reference c name) Redeclared
+    plain_constant name (sort_type arity) Plain
 
   -- (declare-parameterized-const S (p ..) T attr)
   unfoldable pub declared_parameterized : List ℕ → List ParameterShape → Sexp → AttributeShape → Checked Constant
-  declared_parameterized name shapes type shape =
-      require (is_free_name c name) Redeclared >>= λ _. few (length shapes) >>= λ _. bind unbound shapes >>= λ b.
-      meaning c b.locals type >>= λ t. not_tall (bound_type 0 b.parameters t) >>= λ whole.
-      attribute b.locals shape >>= λ a. Ok (constant name b.parameters whole a)
+  declared_parameterized name shapes type shape = do
+    _ ← require (is_free_name c name) Redeclared
+    _ ← few (length shapes)
+    b ← bind unbound shapes
+    t ← meaning c b.locals type
+    whole ← not_tall (bound_type 0 b.parameters t)
+    a ← attribute b.locals shape
+    Ok (constant name b.parameters whole a)
 
   -- ---- types of literals
 
@@ -152,7 +179,9 @@ module _ (c : Context) where
 
   -- (declare-consts C T)
   unfoldable pub declared_literals : LiteralClass → Sexp → Checked Tree
-  declared_literals class type = require (is_none (literal_type c.signature class)) Redeclared >>= λ _. meaning c self type
+  declared_literals class type = do
+    _ ← require (is_none (literal_type c.signature class)) Redeclared
+    meaning c self type
 
   -- ---- macros
 
@@ -162,9 +191,12 @@ module _ (c : Context) where
 
   -- (define S (p ..) t)
   unfoldable pub defined : List ℕ → List ParameterShape → Sexp → Checked Macro
-  defined name shapes body =
-      require (is_free_or_reference c name) Redeclared >>= λ _. few (length shapes) >>= λ _. bind unbound shapes >>= λ b.
-      meaning c b.locals body >>= λ t. Ok (macro name b.parameters t)
+  defined name shapes body = do
+    _ ← require (is_free_or_reference c name) Redeclared
+    _ ← few (length shapes)
+    b ← bind unbound shapes
+    t ← meaning c b.locals body
+    Ok (macro name b.parameters t)
 
 -- ---- each declaring command
 

@@ -12,6 +12,7 @@ use Rattle.eo_sig.specs.declared.records.Declaration as code
 use Rattle.eo_sig.specs.declared.records.Declaration.TheVariants as variant
 use Rattle.eo_shape.specs.Shapes.{AttributeShape, ParameterShape, Command, command_of}
 use Rattle.eo_shape.specs.declared.AttributeShape as code_shape
+use Rattle.eo_shape.specs.declared.ParameterShape as code_param
 use Rattle.eo_shape.specs.Reading.{read_attribute as read_shape}
 use Rattle.eo_term.specs.Tree.{Tree}
 use Rattle.eo_term.specs.Terms.{Terms, tree_at}
@@ -45,6 +46,10 @@ pub record BoundBelow (n : ℕ) (k : Kept) (b : code_bound.Bound) : Type 0 where
   pub params : All (λ p. p.ty < n) b.params
   pub ready : IsReady n k b.locals
 
+-- the parameter of a shape, by the id of its type
+abbrev pub param_of : code_param.ParameterShape → ℕ → Param
+param_of shape ty = record { name = shape.name.now; ty = ty; implicit = shape.implicit; list = shape.list }
+
 -- a type and an attribute
 pub record TypedBelow (n : ℕ) (r : ℕ × code_attribute.Attribute) : Type 0 where
   pub type : r.0 < n
@@ -61,7 +66,9 @@ or_bad (Some d) = d
 or_bad None = Err BadCommand
 
 abbrev pub declared : Context → Sexp → Checked Declaration
-declared c s = command_of false s >>= λ k. or_bad (declaration c k)
+declared c s = do
+  k ← command_of false s
+  or_bad (declaration c k)
 
 -- a command, or one of a wrong shape; no unknown word
 abbrev pub IsKnown : Checked Command → Type 0
@@ -74,27 +81,36 @@ IsCommand s = IsKnown (command_of false s)
 -- ---- parts of declarations
 
 abbrev pub typed : Context → List Local → Sexp → AttributeShape → Checked (Tree × Attribute)
-typed c locals type shape = meaning c locals type >>= λ t. attribute c locals shape >>= λ a. Ok (t, a)
+typed c locals type shape = do
+  t ← meaning c locals type
+  a ← attribute c locals shape
+  Ok (t, a)
 
 -- a type over parameters
 abbrev pub typed_over : Context → Bound → Sexp → AttributeShape → Checked (Tree × Attribute)
-typed_over c b type shape =
-    meaning c b.locals type >>= λ t. not_tall (bound_type 0 b.parameters t) >>= λ whole. attribute c b.locals shape >>= λ a. Ok (whole, a)
+typed_over c b type shape = do
+  t ← meaning c b.locals type
+  whole ← not_tall (bound_type 0 b.parameters t)
+  a ← attribute c b.locals shape
+  Ok (whole, a)
 
 abbrev pub type_of_function : Context → List Sexp → Sexp → Checked Tree
-type_of_function c inputs output =
-    meanings c [] inputs >>= λ ts. meaning c [] output >>= λ t. not_tall (function_type ts t)
+type_of_function c inputs output = do
+  ts ← meanings c [] inputs
+  t ← meaning c [] output
+  not_tall (function_type ts t)
 
 -- the definitions at an attribute as the program has it
 module _ (c : Context) where
   abbrev pub const_by : List ℕ → Sexp → code_shape.AttributeShape → Checked Constant
   const_by name type shape = declared_const c name type (read_shape shape)
 
-  abbrev pub parameterized_by : List ℕ → List ParameterShape → Sexp → code_shape.AttributeShape → Checked Constant
-  parameterized_by name params type shape = declared_parameterized c name params type (read_shape shape)
+-- the same over a table and a signature
+abbrev pub parameterized_in : Terms → Kept → List ℕ → List ParameterShape → Sexp → code_shape.AttributeShape → Checked Constant
+parameterized_in t k name params type shape = declared_parameterized (context t.trees k) name params type (read_shape shape)
 
-  abbrev pub typed_over_by : Bound → Sexp → code_shape.AttributeShape → Checked (Tree × Attribute)
-  typed_over_by b type shape = typed_over c b type (read_shape shape)
+abbrev pub typed_over_in : Terms → Kept → code_bound.Bound → Sexp → code_shape.AttributeShape → Checked (Tree × Attribute)
+typed_over_in t k b type shape = typed_over (context t.trees k) (read_bound t.trees b) type (read_shape shape)
 
 -- the type over parameters of which the first has this number
 abbrev pub bound_type_in : Terms → ℕ → List Param → ℕ → Tree

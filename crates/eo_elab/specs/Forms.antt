@@ -9,10 +9,18 @@ use Rattle.eo_elab.specs.declared.plan.Form.{Form}
 use Rattle.eo_elab.specs.declared.plan.Form.TheVariants as form
 use Rattle.eo_names.specs.Contexts.{Context, Local}
 use Rattle.eo_names.specs.Readers.{Reader, ◌>>=◌, give}
-use Rattle.eo_elab.specs.Meaning.{Parts, tree_application, begins_with_pairs, means, means_all, in_let, in_binder, annotated}
+use Rattle.eo_elab.specs.Meaning.{Application, ListForm, ALet, AnAnnotation, ABitString, AnApplication, ATermFirst, tree_use, meant_use, word_form, head_form, counted_form, used, begins_with_pairs, means, means_all, in_let, in_binder, annotated}
+use Rattle.eo_names.specs.Meanings.{Meant, Word}
 use Rattle.eo_names.specs.Usage.{made_of, UseBelow, Suits}
 
--- the readings of a head and its arguments
+-- the readings of a head and its arguments, of which the form of the list says which are used
+pub record Parts : Type 0 where
+  pub head : Reader Tree
+  pub arguments : Reader (List Tree)
+  pub in_let : Reader Tree
+  pub in_binder : ℕ → Reader (List Tree)
+  pub annotated : Reader Tree
+
 abbrev pub parts_of : Context → List Local → Sexp → Sexps → Parts
 parts_of c locals h args = record {
   head = means c locals h;
@@ -36,10 +44,40 @@ arguments_for parts (use_.Operator code) = parts.arguments
 abbrev pub arguments_used : List Tree → Context → List Local → Parts → Use → Reader Tree
 arguments_used ts c locals parts u = arguments_for parts u >>= made_of ts c locals u
 
--- the head is read, and then what it is tells of the arguments
-abbrev pub headed : Context → List Local → Sexps → Parts → Reader Tree
-headed c locals args parts = parts.head >>= tree_application c locals args parts
+-- ---- a list by its form, over these readings
 
+abbrev pub used_from : Parts → Application → Reader Tree
+used_from parts u = used u parts.arguments parts.in_binder
+
+module _ (c : Context) (locals : List Local) (args : Sexps) (parts : Parts) where
+  -- what a head that is a term makes, or what a name stands for
+  abbrev pub tree_application : Tree → Reader Tree
+  tree_application f = used_from parts (tree_use c locals args f)
+
+  abbrev pub meant_application : Meant → Reader Tree
+  meant_application m = used_from parts (meant_use c locals args m)
+
+  -- the head is read, and then what it is tells of the arguments
+  abbrev pub headed : Reader Tree
+  headed = parts.head >>= tree_application
+
+  abbrev pub formed_from : ListForm → Reader Tree
+  formed_from ALet = parts.in_let
+  formed_from AnAnnotation = parts.annotated
+  formed_from (ABitString t) = give t
+  formed_from (AnApplication u) = used_from parts u
+  formed_from ATermFirst = headed
+
+  abbrev pub word_application : Word → Meant → Reader Tree
+  word_application w m = formed_from (word_form c locals args w m)
+
+  abbrev pub by_head : Option (List ℕ) → Reader Tree
+  by_head word = formed_from (head_form c locals args word)
+
+  abbrev pub application : Option (List ℕ) → Reader Tree
+  application word = formed_from (counted_form c locals args word)
+
+-- the same by the form that the program has
 abbrev pub formed : List Tree → Context → List Local → Sexps → Parts → Form → Reader Tree
 formed ts c locals args parts form.Let = parts.in_let
 formed ts c locals args parts form.Head = headed c locals args parts

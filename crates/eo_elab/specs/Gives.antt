@@ -19,7 +19,7 @@ use Rattle.eo_shape.specs.Shapes.{ParameterShape}
 use Rattle.eo_elab.specs.Declarations.{Bound, Declaration, bind}
 use Rattle.eo_elab.specs.Declaring.{read_bound, read_declaration, read_typed, BoundBelow, DeclarationBelow, TypedBelow}
 use Rattle.eo_names.specs.Contexts.{Context, Local}
-use Rattle.eo_elab.specs.Meaning.{Parts}
+use Rattle.eo_elab.specs.Forms.{Parts}
 use Rattle.eo_names.specs.Names.{Binding, read_pairs, BindingsBelow}
 use Rattle.eo_names.specs.Refused.{told}
 use Rattle.eo_names.specs.Worlds.{World, Read}

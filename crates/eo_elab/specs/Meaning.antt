@@ -1,6 +1,7 @@
 -- The meaning of a term: a tree, or the first fault. Parts are read from left to right.
-use Rattle.std.specs.Prelude.{ℕ, ◌%◌, ◌^◌, Bool, true, false, not, ◌&&◌, ◌||◌, ◌==◌, nat_le, if◌then◌else◌, List, [], ◌∷◌, ◌++◌, map, length, drop, Option, Some, None, is_some, option_map, option_and_then, unwrap_or, slice_get, bytes_eq, codes, Ok, Err}
+use Rattle.std.specs.Prelude.{ℕ, ◌%◌, ◌^◌, Bool, true, false, not, ◌&&◌, ◌||◌, ◌==◌, nat_le, if◌then◌else◌, List, [], ◌∷◌, ◌++◌, map, length, drop, Option, Some, None, is_some, option_map, unwrap_or, slice_get, bytes_eq, codes, Ok, Err}
 use Rattle.std.specs.List.{list_any, starts_with}
+use Rattle.eo_base.specs.declared.FaultName.{FaultName}
 use Rattle.eo_base.specs.declared.FaultName.TheVariants.{BadLiteral, BadCommand, Redeclared, UnknownSymbol, BadArity}
 use Rattle.eo_base.specs.Checks.{Checked, value_or}
 use Rattle.eo_lit.specs.Literals.{Literal, Number, BitString, literal_value, string_value, numeral}
@@ -12,7 +13,7 @@ use Rattle.eo_shape.specs.Words.{symbol_of, keyword_of, numeral_of, is_some_word
 use Rattle.eo_sig.specs.Signature.{Attribute, Binder, is_free}
 use Rattle.eo_term.specs.declared.OpCode.{OpCode}
 use Rattle.eo_term.specs.Tree.{Tree, Con, Num, Bits, Str, Op, to_trees}
-use Rattle.eo_names.specs.Binders.{pair_local, variable}
+use Rattle.eo_names.specs.Binders.{pair_local, variable, list_of}
 use Rattle.eo_names.specs.Contexts.{Setting, InProof, InReference, InAssert, Context, Local, is_reference, is_assert, is_list}
 use Rattle.eo_names.specs.Meanings.{Meant, ATree, AMacro, AnOperator, Nothing, meant, Word, Underscore, Arrow, Let, Annotation, Name, word_of}
 use Rattle.eo_names.specs.Readers.{Label, Reader, go_on, ◌>>=◌, give, fail, with_labels, read, unless, built}
@@ -50,13 +51,13 @@ abbrev pub is_pair : Sexp → Bool
 is_pair (Listed (Next (Atom kind.Symbol name at) (Next t NoSexp)) span) = true
 is_pair s = false
 
-abbrev pub all_pairs : Sexps → Bool
-all_pairs NoSexp = true
-all_pairs (Next s rest) = is_pair s && all_pairs rest
+abbrev pub are_pairs : Sexps → Bool
+are_pairs NoSexp = true
+are_pairs (Next s rest) = is_pair s && are_pairs rest
 
 -- a list of such pairs, not empty
 abbrev pub is_pair_list : Sexp → Bool
-is_pair_list (Listed (Next s rest) span) = is_pair s && all_pairs rest
+is_pair_list (Listed (Next s rest) span) = is_pair s && are_pairs rest
 is_pair_list s = false
 
 -- pairs, and a body
@@ -74,11 +75,16 @@ are_attributes may_be NoSexp = true
 are_attributes may_be (Next s rest) =
     if is_some (keyword_of s) then are_attributes true rest else may_be && are_attributes false rest
 
+-- a name before others, where each is there
+abbrev pub name_before : Option (List ℕ) → Option (List (List ℕ)) → Option (List (List ℕ))
+name_before (Some name) (Some names) = Some (name ∷ names)
+name_before name names = None
+
 -- the names that `:named` gives; none where one is missing or is no symbol
 abbrev pub names_given : (named : Bool) → Sexps → Option (List (List ℕ))
 names_given true NoSexp = None
 names_given false NoSexp = Some []
-names_given true (Next s rest) = option_and_then (λ name. option_map (λ names. name ∷ names) (names_given false rest)) (symbol_of s)
+names_given true (Next s rest) = name_before (symbol_of s) (names_given false rest)
 names_given false (Next s rest) = names_given (is_some_word (codes ":named") (keyword_of s)) rest
 
 -- a term and one or more attributes
@@ -96,68 +102,102 @@ indexed_bits width name =
     then option_map (λ v. Bits width (v % 2 ^ width)) (numeral (drop 2 name))
     else None
 
+-- the same, where both are there
+abbrev pub bits_of : Option (List ℕ) → Option ℕ → Option Tree
+bits_of (Some name) (Some width) = indexed_bits width name
+bits_of name width = None
+
 -- bvN and w: the bit string of width w with the value N (SMT-LIB 2.6, theory of fixed size bit vectors)
 abbrev pub bit_vector : Sexps → Option Tree
-bit_vector (Next n (Next w NoSexp)) = option_and_then (λ width. option_and_then (indexed_bits width) (symbol_of n)) (numeral_of w)
+bit_vector (Next n (Next w NoSexp)) = bits_of (symbol_of n) (numeral_of w)
 bit_vector args = None
 
--- the meanings that an application may use, one for each form
-pub record Parts : Type 0 where
-  pub head : Reader Tree
-  pub arguments : Reader (List Tree)
-  pub in_let : Reader Tree
-  pub in_binder : ℕ → Reader (List Tree)
-  pub annotated : Reader Tree
+-- What a head makes of its arguments.
+pub data Application : Type 0 where
+  -- a fault, before they are read
+  Wrong : (fault : FaultName) → Application
+  -- a constant that binds variables, on their list, which another one makes, and on the other arguments
+  Binds : (binder collector : ℕ) → Application
+  -- this of their meanings
+  Uses : (made : List Tree → Checked Tree) → Application
 
-module _ (c : Context) (locals : List Local) (args : Sexps) (parts : Parts) where
-  abbrev pub with_arguments : (least : ℕ) → (List Tree → Reader Tree) → Reader Tree
-  with_arguments least f = unless (nat_le least (count args)) BadArity (parts.arguments >>= f)
+-- What a list is.
+pub data ListForm : Type 0 where
+  ALet : ListForm
+  -- a term and its attributes
+  AnAnnotation : ListForm
+  ABitString : (tree : Tree) → ListForm
+  AnApplication : (application : Application) → ListForm
+  -- a head that is a term of its own, which is read before the arguments
+  ATermFirst : ListForm
 
-  abbrev pub plain_application : Tree → Reader Tree
-  plain_application f = with_arguments 1 (λ ts. built (applied f ts))
+-- what is made of as many arguments as are wanted; of others, `BadArity`
+abbrev pub where_many : (are_many : Bool) → (List Tree → Checked Tree) → Application
+where_many true made = Uses made
+where_many false made = Wrong BadArity
 
-  abbrev pub binder_application : ℕ → ℕ → Reader Tree
-  binder_application f collector = parts.in_binder collector >>= λ ts. built (applied (Con f) ts)
+module _ (args : Sexps) where
+  abbrev pub at_least : ℕ → (List Tree → Checked Tree) → Application
+  at_least n made = where_many (nat_le n (count args)) made
 
-  abbrev pub folded_application : ℕ → Reader Tree
-  folded_application f =
-      with_arguments (least (attribute_at c.signature f)) (λ ts. read (folded c.signature (is_list locals) f ts) >>= built)
+  abbrev pub exactly : ℕ → (List Tree → Checked Tree) → Application
+  exactly n made = where_many (count args == n) made
 
-  abbrev pub by_attribute : ℕ → Attribute → Reader Tree
-  by_attribute f (Binder collector) = if begins_with_pairs args then binder_application f collector else folded_application f
-  by_attribute f a = folded_application f
+  abbrev pub plain_use : Tree → Application
+  plain_use f = at_least 1 (λ ts. Ok (applied f ts))
+
+module _ (c : Context) (locals : List Local) (args : Sexps) where
+  abbrev pub folded_use : ℕ → Application
+  folded_use f = at_least args (least (attribute_at c.signature f)) (folded c.signature (is_list locals) f)
+
+  abbrev pub constant_use : ℕ → Attribute → Application
+  constant_use f (Binder collector) = if begins_with_pairs args then Binds f collector else folded_use f
+  constant_use f a = folded_use f
 
   -- a constant goes by its attribute, any other head is applied plainly
-  abbrev pub tree_application : Tree → Reader Tree
-  tree_application (Con f) = by_attribute f (attribute_at c.signature f)
-  tree_application f = plain_application f
+  abbrev pub tree_use : Tree → Application
+  tree_use (Con f) = constant_use f (attribute_at c.signature f)
+  tree_use f = plain_use args f
 
-  abbrev pub exactly : ℕ → (List Tree → Reader Tree) → Reader Tree
-  exactly arity f = unless (count args == arity) BadArity (parts.arguments >>= f)
+  abbrev pub meant_use : Meant → Application
+  meant_use (ATree t) = tree_use t
+  meant_use (AMacro m) = exactly args (length m.parameters) (λ ts. Ok (put (slice_get ts) m.tree))
+  meant_use (AnOperator code arity) = exactly args arity (λ ts. Ok (Op code (to_trees ts)))
+  meant_use Nothing = Wrong UnknownSymbol
 
-  abbrev pub meant_application : Meant → Reader Tree
-  meant_application (ATree t) = tree_application t
-  meant_application (AMacro m) = exactly (length m.parameters) (λ ts. built (put (slice_get ts) m.tree))
-  meant_application (AnOperator code arity) = exactly arity (λ ts. built (Op code (to_trees ts)))
-  meant_application Nothing = fail UnknownSymbol
+  abbrev pub underscore_form : Option Tree → ListForm
+  underscore_form (Some t) = ABitString t
+  underscore_form None = AnApplication (at_least args 2 (λ ts. Ok (plainly ts)))
 
-  abbrev pub underscore : Option Tree → Reader Tree
-  underscore (Some t) = give t
-  underscore None = with_arguments 2 (λ ts. built (plainly ts))
+  abbrev pub word_form : Word → Meant → ListForm
+  word_form Underscore m = underscore_form (if is_reference c.setting then bit_vector args else None)
+  word_form Arrow m = AnApplication (at_least args 2 (λ ts. Ok (arrow ts)))
+  word_form Let m = if is_let args then ALet else AnApplication (Wrong BadCommand)
+  word_form Annotation m = if is_annotated c.setting args then AnAnnotation else AnApplication (Wrong BadCommand)
+  word_form Name m = AnApplication (meant_use m)
 
-  abbrev pub word_application : Word → Meant → Reader Tree
-  word_application Underscore m = underscore (if is_reference c.setting then bit_vector args else None)
-  word_application Arrow m = with_arguments 2 (λ ts. built (arrow ts))
-  word_application Let m = unless (is_let args) BadCommand parts.in_let
-  word_application Annotation m = unless (is_annotated c.setting args) BadCommand parts.annotated
-  word_application Name m = meant_application m
+  abbrev pub head_form : (word : Option (List ℕ)) → ListForm
+  head_form None = ATermFirst
+  head_form (Some name) = word_form (word_of c.setting name) (meant c locals name)
 
-  abbrev pub by_head : Option (List ℕ) → Reader Tree
-  by_head None = parts.head >>= tree_application
-  by_head (Some name) = word_application (word_of c.setting name) (meant c locals name)
+  -- what a list is whose head is this symbol, or none
+  abbrev pub counted_form : (word : Option (List ℕ)) → ListForm
+  counted_form word = if nat_le 1 (count args) then head_form word else AnApplication (Wrong BadArity)
 
-  abbrev pub application : Option (List ℕ) → Reader Tree
-  application word = unless (nat_le 1 (count args)) BadArity (by_head word)
+abbrev pub list_form : Context → List Local → Sexps → ListForm
+list_form c locals NoSexp = AnApplication (Wrong BadArity)
+list_form c locals (Next h args) = counted_form c locals args (symbol_of h)
+
+-- an application, by the readings of all its arguments, and of those behind the variables that it binds
+abbrev pub used : Application → Reader (List Tree) → (ℕ → Reader (List Tree)) → Reader Tree
+used (Wrong fault) arguments in_binder = fail fault
+used (Binds f collector) arguments in_binder = do
+  ts ← in_binder collector
+  built (applied (Con f) ts)
+used (Uses made) arguments in_binder = do
+  ts ← arguments
+  t ← read (made ts)
+  built t
 
 -- ---- names given by `:named`
 
@@ -179,27 +219,43 @@ labels_of s attributes = []
 unfoldable mutual
   pub means : Context → List Local → Sexp → Reader Tree
   means c locals (Atom k text span) labels = with_labels labels (atom c locals k text)
-  means c locals (Listed NoSexp span) labels = Err BadArity
-  means c locals (Listed (Next h args) span) labels =
-      application c locals args
-      (record { head = means c locals h; arguments = means_all c locals args; in_let = in_let c locals args; in_binder = in_binder c locals args; annotated = annotated c locals args })
-      (symbol_of h) labels
+  means c locals (Listed ss span) labels = means_list c locals (list_form c locals ss) ss labels
+
+  pub means_list : Context → List Local → ListForm → Sexps → Reader Tree
+  means_list c locals form NoSexp labels = Err BadArity
+  means_list c locals ALet (Next h args) labels = in_let c locals args labels
+  means_list c locals AnAnnotation (Next h args) labels = annotated c locals args labels
+  means_list c locals (ABitString t) (Next h args) labels = Ok (t, labels)
+  means_list c locals (AnApplication u) (Next h args) labels = used u (means_all c locals args) (in_binder c locals args) labels
+  means_list c locals ATermFirst (Next h args) labels = (do
+    f ← means c locals h
+    used (tree_use c locals args f) (means_all c locals args) (in_binder c locals args)
+    ) labels
 
   pub means_all : Context → List Local → Sexps → Reader (List Tree)
   means_all c locals NoSexp labels = Ok ([], labels)
-  means_all c locals (Next s rest) labels = (means c locals s >>= λ t. means_all c locals rest >>= λ ts. give (t ∷ ts)) labels
+  means_all c locals (Next s rest) labels = (do
+    t ← means c locals s
+    ts ← means_all c locals rest
+    give (t ∷ ts)
+    ) labels
 
   -- the body with the names of the pairs; they are given their trees at once
   pub in_let : Context → List Local → Sexps → Reader Tree
-  in_let c locals (Next pairs (Next body NoSexp)) labels = (pair_list c locals pairs >>= λ ps. means c (map pair_local ps ++ locals) body) labels
+  in_let c locals (Next pairs (Next body NoSexp)) labels = (do
+    ps ← pair_list c locals pairs
+    means c (map pair_local ps ++ locals) body
+    ) labels
   in_let c locals args labels = Err BadCommand
 
   -- the list of the variables, and the other arguments with their names
   pub in_binder : Context → List Local → Sexps → ℕ → Reader (List Tree)
-  in_binder c locals (Next pairs rest) collector labels =
-      (pair_list c locals pairs >>= λ ps. let vs = map variable ps in
-      read (folded c.signature (is_list locals) collector (map (λ v. v.1) vs)) >>= built >>= λ first.
-      means_all c (map pair_local vs ++ locals) rest >>= λ others. give (first ∷ others)) labels
+  in_binder c locals (Next pairs rest) collector labels = (do
+    ps ← pair_list c locals pairs
+    first ← list_of c.signature (is_list locals) collector (map variable ps)
+    others ← means_all c (map pair_local (map variable ps) ++ locals) rest
+    give (first ∷ others)
+    ) labels
   in_binder c locals NoSexp collector labels = Err BadCommand
 
   -- the names of a `let` or a binder with the meanings beside them, no name twice
@@ -211,11 +267,17 @@ unfoldable mutual
   pairs_after c locals NoSexp before labels = Ok (before, labels)
   pairs_after c locals (Next (Listed (Next (Atom k name at) (Next t NoSexp)) span) rest) before labels =
       unless (not (list_any (λ p. bytes_eq p.0 name) before)) Redeclared
-      (means c locals t >>= λ tree. pairs_after c locals rest (before ++ (name, tree) ∷ [])) labels
+      (do
+        tree ← means c locals t
+        pairs_after c locals rest (before ++ (name, tree) ∷ [])
+      ) labels
   pairs_after c locals pairs before labels = Err BadCommand
 
   pub annotated : Context → List Local → Sexps → Reader Tree
-  annotated c locals (Next t attributes) labels = (means c locals t >>= λ tree. label c tree (labels_of c.setting attributes)) labels
+  annotated c locals (Next t attributes) labels = (do
+    tree ← means c locals t
+    label c tree (labels_of c.setting attributes)
+    ) labels
   annotated c locals NoSexp labels = Err BadCommand
 
 abbrev pub without_labels : {A : Type 0} → Checked (A × List Label) → Checked A

@@ -12,11 +12,11 @@ use Rattle.eo_names.specs.declared.scope.Scope.{Scope}
 use Rattle.eo_names.specs.declared.usage.Use.{Use}
 use Rattle.eo_names.specs.Folding.{folded}
 use Rattle.eo_names.specs.Grouped.{if_low}
-use Rattle.eo_elab.specs.Forms.{parts_of, headed, formed, arguments_used, arguments_for, all_after}
+use Rattle.eo_elab.specs.Forms.{Parts, parts_of, application, tree_application, meant_application, word_application, headed, formed, arguments_used, arguments_for, all_after}
 use Rattle.eo_names.specs.Binders.{list_of, variable}
 use Rattle.eo_names.specs.Contexts.{Context, Local, is_list}
 use Rattle.eo_names.specs.Readers.{Label}
-use Rattle.eo_elab.specs.Meaning.{Parts, application, tree_application, meant_application, word_application, atom, meaning, means, means_all, in_let, in_binder, pair_list, pairs_after}
+use Rattle.eo_elab.specs.Meaning.{atom, meaning, means, means_all, in_let, in_binder, pair_list, pairs_after}
 use Rattle.eo_names.specs.Meanings.{Meant, word_of, meant}
 use Rattle.eo_names.specs.Names.{read_locals}
 use Rattle.eo_names.specs.Usage.{made_of}

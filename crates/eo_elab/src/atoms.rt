@@ -4,7 +4,7 @@ ghost use Rattle.eo_base.specs.Checks.{value_or};
 ghost use Rattle.eo_base.specs.declared.FaultName.TheVariants.{BadLiteral};
 ghost use Rattle.eo_lit.specs.Literals.{literal_value, string_value};
 ghost use Rattle.eo_term.specs.Tree.{Str};
-ghost use Rattle.eo_term.specs.Growth.{GrowsOn};
+ghost use Rattle.eo_term.specs.Growth.{Grows};
 ghost use Rattle.eo_elab.specs.Meaning.{tree_alone, literal_tree};
 ghost use Rattle.eo_sexp.specs.declared.Kind.TheVariants as kinds;
 ghost use Rattle.eo_names.specs.Symbols.{read_meant, IsLive};
@@ -16,7 +16,7 @@ ghost use Rattle.eo_elab.specs.Worlds.{atom_in};
 
 use crate::ElabRefused;
 use eo_lit::{LitRead, StringRefused, read_literal, read_string};
-use eo_names::{Meant, Scope, Word, constant, leaf, name_meant, word_of};
+use eo_names::{Meant, Scope, Word, name_meant, word_of};
 use eo_sexp::Kind;
 use eo_sig::Signature;
 use eo_term::{Id, Node, Table};
@@ -39,7 +39,7 @@ pub(crate) fn atom(
 ) -> Result<Id, ElabRefused>
     requires { IsReady (length table.old.trees) sig.now (bound_in scope.now) }
     ensures gives { GivesTree table.new result (atom_in (world table.old sig.now scope.now) kind text.now) }
-    ensures grows { GrowsOn table.old table.new }
+    ensures grows { Grows table.old table.new }
 {
     match kind {
         Kind::Symbol => symbol(text, scope, sig, table),
@@ -60,7 +60,7 @@ fn symbol(
 ) -> Result<Id, ElabRefused>
     requires { IsReady (length table.old.trees) sig.now (bound_in scope.now) }
     ensures gives { GivesTree table.new result (atom_in (world table.old sig.now scope.now) kinds.Symbol name.now) }
-    ensures grows { GrowsOn table.old table.new }
+    ensures grows { Grows table.old table.new }
 {
     match word_of(name) {
         Word::Name => term_of(sig, name_meant(name, scope, sig), table),
@@ -74,11 +74,11 @@ fn symbol(
 fn term_of(sig: &Signature, meant: Meant, table: &mut Table) -> Result<Id, ElabRefused>
     requires { IsLive (length table.old.trees) sig.now meant }
     ensures gives { GivesTree table.new result (tree_alone (read_meant table.old.trees sig.now meant)) }
-    ensures grows { GrowsOn table.old table.new }
+    ensures grows { Grows table.old table.new }
 {
     match meant {
         Meant::Term(id) => Ok(id),
-        Meant::Constant(k) => Ok(constant(table, k)?),
+        Meant::Constant(k) => Ok(table.constant(k)?),
         Meant::Macro(_) => Err(ElabRefused::BadArity),
         Meant::Operator(_, _) => Err(ElabRefused::BadArity),
         Meant::Nothing => Err(ElabRefused::UnknownSymbol),
@@ -89,21 +89,21 @@ fn term_of(sig: &Signature, meant: Meant, table: &mut Table) -> Result<Id, ElabR
 #[tactic(auto, unfolding(eo_base::specs::Checks::value_or))]
 fn literal(word: &[u8], table: &mut Table) -> Result<Id, ElabRefused>
     ensures gives { GivesTree table.new result (value_or BadLiteral (option_map literal_tree (literal_value word.now))) }
-    ensures grows { GrowsOn table.old table.new }
+    ensures grows { Grows table.old table.new }
 {
     let node = match read_literal(word) {
         Ok(LitRead::Num(value)) => Node::Num(value),
         Ok(LitRead::Bits { width, value }) => Node::Bits { width, value },
         Err(_) => return Err(ElabRefused::BadLiteral),
     };
-    Ok(leaf(table, node)?)
+    Ok(table.intern_low(node)?)
 }
 
 // The value of a string literal, from the bytes between its quotes.
 #[tactic(auto, unfolding(eo_base::specs::Checks::value_or))]
 fn string(alloc: Global, body: &[u8], table: &mut Table) -> Result<Id, ElabRefused>
     ensures gives { GivesTree table.new result (value_or BadLiteral (option_map Str (string_value body.now))) }
-    ensures grows { GrowsOn table.old table.new }
+    ensures grows { Grows table.old table.new }
 {
     let characters = match read_string(alloc, body) {
         Ok(characters) => characters,
@@ -111,5 +111,5 @@ fn string(alloc: Global, body: &[u8], table: &mut Table) -> Result<Id, ElabRefus
         Err(StringRefused::Memory(e)) => return Err(ElabRefused::Memory(e)),
     };
     let text = table.text(characters.as_slice())?;
-    Ok(leaf(table, Node::Str(text))?)
+    Ok(table.intern_low(Node::Str(text))?)
 }

@@ -1,7 +1,7 @@
 //! The parts of a declared constant.
 ghost use Rattle.std.specs.Prelude.{◌≡◌, ◌<◌, ◌≤◌, ◌+◌, List, None, length, map, true, All, IfOk};
 ghost use Rattle.eo_base.specs.Limits.{parameters_limit, height_limit};
-ghost use Rattle.eo_term.specs.Growth.{tree_in, GrowsOn, Makes};
+ghost use Rattle.eo_term.specs.Growth.{tree_in, Grows, Makes};
 ghost use Rattle.eo_term.specs.Refused.{IsTall};
 ghost use Rattle.eo_term.specs.Tree.{Tree, Arr, type_tree, height, is_tall};
 ghost use Rattle.eo_sig.specs.Reading.{Kept, read_constant, AttributeBelow};
@@ -15,7 +15,6 @@ ghost use Rattle.eo_elab.specs.Worlds.{meanings_in, attribute_in, constant_in};
 
 use crate::{ElabRefused, Locals, term};
 use eo_base::Name;
-use eo_names::leaf;
 use eo_sexp::{Children, Sexp};
 use eo_shape::AttributeShape;
 use eo_sig::{Attribute, ConstDecl, Entry, Param, Params, Signature};
@@ -51,9 +50,9 @@ pub(crate) fn meanings(
 ) -> Result<Ids, ElabRefused>
     requires ready { IsReady (length table.old.trees) sig.now locals.now }
     ensures gives { GivesTrees table.new result (meanings_in (world_of table.old sig.now locals.now) terms.now) }
-    ensures grows { GrowsOn table.old table.new }
+    ensures grows { Grows table.old table.new }
 {
-    let mut ids = Ids::new(alloc)?;
+    let mut ids = Ids::new(alloc);
     for s in terms.again() {
         let id = term(alloc, &s, locals, sig, table)?;
         ids.push(id)?;
@@ -71,7 +70,7 @@ pub(crate) fn attribute_meant(
 ) -> Result<Attribute, ElabRefused>
     requires ready { IsReady (length table.old.trees) sig.now locals.now }
     ensures gives { GivesAttribute table.new result (attribute_in (world_of table.old sig.now locals.now) shape.now) }
-    ensures grows { GrowsOn table.old table.new }
+    ensures grows { Grows table.old table.new }
 {
     match shape {
         AttributeShape::None => Ok(Attribute::Plain),
@@ -101,7 +100,7 @@ fn constant_meant(
 ) -> Result<usize, ElabRefused>
     requires ready { IsReady (length table.old.trees) sig.now locals.now }
     ensures gives { GivesNumber result (constant_in (world_of table.old sig.now locals.now) s.now) }
-    ensures grows { GrowsOn table.old table.new }
+    ensures grows { Grows table.old table.new }
 {
     let id = term(alloc, s, locals, sig, table)?;
     match table.node(id) {
@@ -113,9 +112,9 @@ fn constant_meant(
 /// The type of a sort with so many arguments.
 pub(crate) fn sort_type(table: &mut Table, arity: u8) -> Result<Id, AllocError>
     ensures makes { Makes table.new result (declarations.sort_type arity) }
-    ensures grows { GrowsOn table.old table.new }
+    ensures grows { Grows table.old table.new }
 {
-    prove!(table.len() > 0);
+    table.laws();
     let mut made = TYPE;
     for _ in 0..arity {
         made = sort_over(table, made)?;
@@ -128,10 +127,10 @@ fn sort_over(table: &mut Table, to: Id) -> Result<Id, AllocError>
     requires live { to < length table.old.trees }
     requires low { height (tree_in table.old to) < height_limit }
     ensures makes { Makes table.new result (Arr type_tree (tree_in table.old to)) }
-    ensures grows { GrowsOn table.old table.new }
+    ensures grows { Grows table.old table.new }
 {
-    prove!(table.len() > 0);
-    leaf(table, Node::Arr { from: TYPE, to })
+    table.laws();
+    table.intern_low(Node::Arr { from: TYPE, to })
 }
 
 /// The type over these parameters, of which the first has this number: a function type that binds
@@ -147,7 +146,7 @@ pub(crate) fn bound_type(
     requires few { first + length params.now ≤ parameters_limit }
     ensures makes { Makes table.new result (bound_type_in table.old first params.now ty) }
     ensures tall { IsTall result → is_tall (bound_type_in table.old first params.now ty) ≡ true }
-    ensures grows { GrowsOn table.old table.new }
+    ensures grows { Grows table.old table.new }
 {
     let Some((p, rest)) = params.split_first() else {
         return Ok(ty);
@@ -180,7 +179,7 @@ pub(crate) fn plain_constant(
 {
     let d = ConstDecl {
         name: Name::new(alloc, name)?,
-        params: Params::new(alloc)?,
+        params: Params::new(alloc),
         ty,
         attribute,
         from_reference: false,

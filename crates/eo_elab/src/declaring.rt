@@ -1,12 +1,14 @@
 //! What a declaring command declares.
 ghost use Rattle.std.specs.Prelude.{◌≡◌, true, ◌<◌, ◌≤◌, [], length, All, IfOk, OnOk};
 ghost use Rattle.eo_base.specs.Limits.{parameters_limit};
-ghost use Rattle.eo_term.specs.Growth.{GrowsOn};
+ghost use Rattle.eo_term.specs.Growth.{Grows};
 ghost use Rattle.eo_sig.specs.Growth.{GrowsUnder};
 ghost use Rattle.eo_sig.specs.Reading.{read_constant, read_macro, IsBelow, IsFree};
 ghost use Rattle.eo_shape.specs.Reading.{read_attribute, read_command};
 ghost use Rattle.eo_elab.specs.Declarations.{declared_fun, declared_sort, declared_literals, declaration, defined, is_free_or_reference};
-ghost use Rattle.eo_elab.specs.Declaring.{read_bound, read_declaration, declared, or_bad, typed, type_of_function, const_by, parameterized_by, typed_over_by, IsCommand, BoundBelow, MayRepeat, MayBeMacro, MayBeLiterals, MayBeDeclared};
+ghost use Rattle.eo_elab.specs.Declaring.{read_bound, read_declaration, declared, or_bad, typed, type_of_function};
+ghost use Rattle.eo_elab.specs.Declaring.{const_by, parameterized_in, typed_over_in, IsCommand, BoundBelow};
+ghost use Rattle.eo_elab.specs.Declaring.{MayRepeat, MayBeMacro, MayBeLiterals, MayBeDeclared};
 ghost use Rattle.eo_names.specs.Gives.{GivesTree};
 ghost use Rattle.eo_elab.specs.Gives.{GivesTyped, GivesConstant, GivesMacro, GivesDeclaration};
 ghost use Rattle.eo_elab.specs.Worlds.{context_in};
@@ -130,7 +132,6 @@ fn declared_by(
 ///   where it is no constant).
 /// - `BadPattern`: the type holds what no declared type may, or the terminator is no value.
 /// - `Memory`: want of memory.
-#[tactic(auto, using(eo_sig::proofs::Growing::grows_under))]
 pub fn declared_const(
     alloc: Global,
     name: &[u8],
@@ -144,6 +145,7 @@ pub fn declared_const(
     ensures may { IfOk result (λ d. MayRepeat (context_in table.old sig.now) (read_constant table.new.trees d)) }
     ensures grows { GrowsUnder sig.now table.old table.new }
 {
+    sig.laws();
     if !may_declare(sig, name) {
         return Err(ElabRefused::Redeclared);
     }
@@ -161,7 +163,7 @@ fn typed(
 ) -> Result<(Id, Attribute), ElabRefused>
     requires { IsBelow (length table.old.trees) sig.now }
     ensures gives { GivesTyped table.new result (typed (context_in table.old sig.now) [] ty.now (read_attribute attribute.now)) }
-    ensures grows { GrowsOn table.old table.new }
+    ensures grows { Grows table.old table.new }
 {
     let none = Locals::new(alloc)?;
     let ty = term(alloc, ty, &none, sig, table)?;
@@ -178,7 +180,6 @@ fn typed(
 /// - `Tall`: the function type is taller than the limit.
 /// - `BadPattern`: the type holds what no declared type may.
 /// - `Memory`: want of memory.
-#[tactic(auto, using(eo_sig::proofs::Growing::grows_under))]
 pub fn declared_fun(
     alloc: Global,
     name: &[u8],
@@ -192,6 +193,7 @@ pub fn declared_fun(
     ensures may { IfOk result (λ d. MayRepeat (context_in table.old sig.now) (read_constant table.new.trees d)) }
     ensures grows { GrowsUnder sig.now table.old table.new }
 {
+    sig.laws();
     if !may_declare(sig, name) {
         return Err(ElabRefused::Redeclared);
     }
@@ -209,7 +211,7 @@ fn type_of_function(
 ) -> Result<Id, ElabRefused>
     requires { IsBelow (length table.old.trees) sig.now }
     ensures gives { GivesTree table.new result (type_of_function (context_in table.old sig.now) inputs.now output.now) }
-    ensures grows { GrowsOn table.old table.new }
+    ensures grows { Grows table.old table.new }
 {
     let none = Locals::new(alloc)?;
     let mut types = meanings(alloc, inputs, &none, sig, table)?;
@@ -224,7 +226,6 @@ fn type_of_function(
 ///
 /// `Redeclared`: the name may not be declared, and is none that the reference file declared.
 /// `Memory`: want of memory.
-#[tactic(auto, using(eo_sig::proofs::Growing::grows_under))]
 pub fn declared_sort(
     alloc: Global,
     name: &[u8],
@@ -237,6 +238,7 @@ pub fn declared_sort(
     ensures may { IfOk result (λ d. MayRepeat (context_in table.old sig.now) (read_constant table.new.trees d)) }
     ensures grows { GrowsUnder sig.now table.old table.new }
 {
+    sig.laws();
     if !may_declare(sig, name) {
         return Err(ElabRefused::Redeclared);
     }
@@ -255,7 +257,6 @@ pub fn declared_sort(
 /// - `Tall`: the type with its parameters is taller than the limit.
 /// - a fault of the terminator or what joins (`UnknownSymbol`, where it is no constant).
 /// - `Memory`: want of memory.
-#[tactic(auto, using(eo_sig::proofs::Growing::grows_under))]
 pub fn declared_parameterized(
     alloc: Global,
     name: &[u8],
@@ -266,11 +267,12 @@ pub fn declared_parameterized(
     table: &mut Table,
 ) -> Result<ConstDecl, ElabRefused>
     requires { IsBelow (length table.old.trees) sig.now }
-    ensures gives { GivesConstant table.new result (parameterized_by (context_in table.old sig.now) name.now params.now ty.now attribute.now) }
+    ensures gives { GivesConstant table.new result (parameterized_in table.old sig.now name.now params.now ty.now attribute.now) }
     ensures free { IfOk result (λ d. IsFree sig.now d.name) }
     ensures named { IfOk result (λ d. is_free_or_reference (context_in table.old sig.now) d.name ≡ true) }
     ensures grows { GrowsUnder sig.now table.old table.new }
 {
+    sig.laws();
     if !sig.is_free(name) {
         return Err(ElabRefused::Redeclared);
     }
@@ -300,8 +302,8 @@ fn typed_over(
 ) -> Result<(Id, Attribute), ElabRefused>
     requires bound { BoundBelow (length table.old.trees) sig.now bound.now }
     requires few { length bound.now.params ≤ parameters_limit }
-    ensures gives { GivesTyped table.new result (typed_over_by (context_in table.old sig.now) (read_bound table.old.trees bound.now) ty.now attribute.now) }
-    ensures grows { GrowsOn table.old table.new }
+    ensures gives { GivesTyped table.new result (typed_over_in table.old sig.now bound.now ty.now attribute.now) }
+    ensures grows { Grows table.old table.new }
 {
     let result = term(alloc, ty, &bound.locals, sig, table)?;
     let whole = bound_type(table, 0, bound.params.as_slice(), result)?;
@@ -315,7 +317,6 @@ fn typed_over(
 ///
 /// A refusal is `Redeclared`, where the class has a type; else the first fault of the term; or
 /// `Memory`: want of memory.
-#[tactic(auto, using(eo_sig::proofs::Growing::grows_under))]
 pub fn declared_literals(
     alloc: Global,
     class: LiteralClass,
@@ -328,6 +329,7 @@ pub fn declared_literals(
     ensures may { OnOk result (MayBeLiterals (context_in table.old sig.now) class) }
     ensures grows { GrowsUnder sig.now table.old table.new }
 {
+    sig.laws();
     if sig.literal_type(class).is_some() {
         return Err(ElabRefused::Redeclared);
     }
@@ -346,7 +348,6 @@ pub fn declared_literals(
 /// - a fault of a term: of the parameters' types in order, where a name that an earlier parameter
 ///   has is `Redeclared`, and of the body.
 /// - `Memory`: want of memory.
-#[tactic(auto, using(eo_sig::proofs::Growing::grows_under))]
 pub fn defined(
     alloc: Global,
     name: &[u8],
@@ -360,6 +361,7 @@ pub fn defined(
     ensures may { IfOk result (λ d. MayBeMacro (context_in table.old sig.now) (read_macro table.new.trees d)) }
     ensures grows { GrowsUnder sig.now table.old table.new }
 {
+    sig.laws();
     if !may_declare(sig, name) {
         return Err(ElabRefused::Redeclared);
     }

@@ -9,6 +9,8 @@ mod parameters;
 mod plan;
 mod shapes;
 mod terms;
+#[cfg(test)]
+mod tests;
 mod walk;
 
 pub use declaring::{

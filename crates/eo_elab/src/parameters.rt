@@ -3,18 +3,17 @@ ghost use Rattle.std.specs.Prelude.{◌≡◌, ◌<◌, ◌≤◌, suc, [], ◌�
 ghost use Rattle.std.specs.List.{list_any};
 ghost use Rattle.eo_base.specs.Limits.{parameters_limit};
 ghost use Rattle.eo_sig.specs.Reading.{IsBelow};
-ghost use Rattle.eo_term.specs.Growth.{GrowsOn, Makes};
+ghost use Rattle.eo_term.specs.Growth.{Grows, Makes};
 ghost use Rattle.eo_term.specs.Tree.{Par};
 ghost use Rattle.eo_shape.specs.Reading as shapes;
 ghost use Rattle.eo_elab.specs.Declarations.{bind, unbound};
-ghost use Rattle.eo_elab.specs.Declaring.{BoundBelow};
+ghost use Rattle.eo_elab.specs.Declaring.{BoundBelow, param_of};
 ghost use Rattle.eo_elab.specs.Gives.{GivesBound, ReadsParameter};
 ghost use Rattle.eo_names.specs.Names.{local};
 ghost use Rattle.eo_elab.specs.Worlds.{context_in};
 
 use crate::{ElabRefused, Locals, term};
 use eo_base::Name;
-use eo_names::leaf;
 use eo_shape::{ParameterShape, ParameterShapes};
 use eo_sig::{Param, Params, Signature};
 use eo_term::{Id, Node, Table};
@@ -42,7 +41,7 @@ pub(crate) fn bind(
     requires few { length shapes.now ≤ parameters_limit }
     ensures gives { GivesBound sig.now table.new result (bind (context_in table.old sig.now) unbound shapes.now) }
     ensures count { IfOk result (λ b. length b.params ≡ length shapes.now) }
-    ensures grows { GrowsOn table.old table.new }
+    ensures grows { Grows table.old table.new }
 {
     let mut bound = no_parameters(alloc)?;
     for shape in shapes.again() {
@@ -57,7 +56,7 @@ fn no_parameters(alloc: Global) -> Result<Bound, AllocError>
     ensures locals { IfOk result (λ b. b.locals ≡ []) }
 {
     Ok(Bound {
-        params: Params::new(alloc)?,
+        params: Params::new(alloc),
         locals: Locals::new(alloc)?,
     })
 }
@@ -75,7 +74,7 @@ impl Bound {
         requires room { length self.old.params < parameters_limit }
         ensures reads { ReadsParameter sig.now table.old table.new (shapes.read_parameter shape.now) self.old self.new result }
         ensures count { OnOk result (length self.new.params ≡ suc (length self.old.params)) }
-        ensures grows { GrowsOn table.old table.new }
+        ensures grows { Grows table.old table.new }
     {
         if self.has(shape.name) {
             return Err(ElabRefused::Redeclared);
@@ -104,7 +103,7 @@ impl Bound {
         ty: Id,
         id: Id,
     ) -> Result<(), AllocError>
-        ensures params { OnOk result (self.new.params ≡ self.old.params ++ record { name = shape.now.name.now; ty = ty; implicit = shape.now.implicit; list = shape.now.list } ∷ []) }
+        ensures params { OnOk result (self.new.params ≡ self.old.params ++ param_of shape.now ty ∷ []) }
         ensures locals { OnOk result (self.new.locals ≡ local shape.now.name.now id shape.now.list ∷ self.old.locals) }
     {
         self.locals.add(shape.name, id, shape.list)?;
@@ -122,7 +121,7 @@ impl Bound {
 pub(crate) fn parameter(table: &mut Table, i: u8) -> Result<Id, AllocError>
     requires { i < parameters_limit }
     ensures makes { Makes table.new result (Par i) }
-    ensures grows { GrowsOn table.old table.new }
+    ensures grows { Grows table.old table.new }
 {
-    leaf(table, Node::Par(i))
+    table.intern_low(Node::Par(i))
 }

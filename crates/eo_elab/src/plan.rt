@@ -14,9 +14,10 @@ ghost use Rattle.eo_names.specs.Ready.{IsReady};
 ghost use Rattle.eo_names.specs.Worlds.{world};
 
 use crate::ElabRefused;
-use crate::shapes::{begins_with_pairs, is_let, symbol_of};
+use crate::shapes::{begins_with_pairs, is_let};
 use eo_names::{Meant, Scope, Use, Word, attribute_of, least_of, name_meant, word_of};
 use eo_sexp::{Children, Sexp};
+use eo_shape::symbol;
 use eo_sig::{Attribute, Signature};
 use eo_term::{Id, Node, Table};
 
@@ -47,7 +48,7 @@ pub(crate) fn form_of(
     if args.len() == 0 {
         return Err(ElabRefused::BadArity);
     }
-    match symbol_of(head) {
+    match symbol(head) {
         Some(name) => form_by_word(name, args, scope, sig, table),
         None => Ok(Form::Head),
     }

@@ -1,9 +1,8 @@
-//! Shapes of s-expressions: symbols, and the lists of pairs by which `let` and binders bind names.
+//! Shapes of s-expressions: the lists of pairs by which `let` and binders bind names.
 ghost use Rattle.std.specs.Prelude.{◌≡◌, option_map};
 ghost use Rattle.eo_sexp.specs.Sexp.{sexps_of};
 ghost use Rattle.eo_elab.specs.Forms.{pair_of};
-ghost use Rattle.eo_shape.specs.Words.{symbol_of};
-ghost use Rattle.eo_elab.specs.Meaning.{is_pair, all_pairs, is_pair_list, is_let, begins_with_pairs};
+ghost use Rattle.eo_elab.specs.Meaning.{is_pair, are_pairs, is_pair_list, is_let, begins_with_pairs};
 
 use eo_sexp::{Children, Kind, Sexp};
 
@@ -37,7 +36,7 @@ fn is_pair_list(s: &Sexp<'_>) -> bool
 
 // Lists of a symbol and one thing more.
 fn are_pairs(pairs: &Children<'_>) -> bool
-    ensures { result ≡ all_pairs (sexps_of pairs.now) }
+    ensures { result ≡ are_pairs (sexps_of pairs.now) }
 {
     for s in pairs.again() {
         if !is_pair(&s) {
@@ -53,17 +52,6 @@ fn is_pair(s: &Sexp<'_>) -> bool
     match s.children().only_two() {
         Some((name, _)) => name.kind() == Kind::Symbol,
         None => false,
-    }
-}
-
-/// The bytes of a symbol.
-pub(crate) fn symbol_of<'b>(s: &Sexp<'b>) -> Option<&'b [u8]>
-    ensures { option_map (λ t. t.now) result ≡ symbol_of s.now }
-{
-    if s.kind() == Kind::Symbol {
-        Some(s.text())
-    } else {
-        None
     }
 }
 

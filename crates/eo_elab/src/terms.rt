@@ -1,6 +1,6 @@
 //! The meaning of a term.
 ghost use Rattle.std.specs.Prelude.{length};
-ghost use Rattle.eo_term.specs.Growth.{GrowsOn};
+ghost use Rattle.eo_term.specs.Growth.{Grows};
 ghost use Rattle.eo_names.specs.Gives.{GivesTree};
 ghost use Rattle.eo_names.specs.Ready.{IsReady, Keeps};
 ghost use Rattle.eo_names.specs.Worlds.{world_of};
@@ -38,7 +38,7 @@ pub fn term(
 ) -> Result<Id, ElabRefused>
     requires ready { IsReady (length table.old.trees) sig.now locals.now }
     ensures gives { GivesTree table.new result (meaning_in (world_of table.old sig.now locals.now) s.now) }
-    ensures grows { GrowsOn table.old table.new }
+    ensures grows { Grows table.old table.new }
     ensures keeps { Keeps sig.now locals.now table.old.trees table.new.trees }
 {
     mean(alloc, s, &Scope::Outer(locals), sig, table)

@@ -1,7 +1,7 @@
 //! The walk over a term.
 ghost use Rattle.std.specs.Prelude.{◌≡◌, ◌<◌, ◌≤◌, ◌+◌, length, All, IfOk};
 ghost use Rattle.eo_sexp.specs.Sexp.{Sexp, Span};
-ghost use Rattle.eo_term.specs.Growth.{trees_in, GrowsOn};
+ghost use Rattle.eo_term.specs.Growth.{trees_in, Grows};
 ghost use Rattle.eo_names.specs.Gives.{GivesTerm};
 ghost use Rattle.eo_elab.specs.Gives.{GivesTerms, GivesPairs, AddsPair};
 ghost use Rattle.eo_names.specs.Names.{BindingsBelow};
@@ -35,7 +35,7 @@ pub(crate) fn mean(
 ) -> Result<Id, ElabRefused>
     requires ready { IsReady (length table.old.trees) sig.now (bound_in scope.now) }
     ensures gives { GivesTerm table.new result (term_in (world table.old sig.now scope.now) s.now) }
-    ensures grows { GrowsOn table.old table.new }
+    ensures grows { Grows table.old table.new }
 {
     match s.list() {
         None => atom(alloc, s.kind(), s.text(), scope, sig, table),
@@ -54,7 +54,7 @@ fn mean_list(
 ) -> Result<Id, ElabRefused>
     requires ready { IsReady (length table.old.trees) sig.now (bound_in scope.now) }
     ensures gives { (span : Span) → GivesTerm table.new result (list_in (world table.old sig.now scope.now) terms.now span) }
-    ensures grows { GrowsOn table.old table.new }
+    ensures grows { Grows table.old table.new }
 {
     let Some((head, args)) = terms.split_first() else {
         return Err(ElabRefused::BadArity);
@@ -79,7 +79,7 @@ fn mean_head(
     requires ready { IsReady (length table.old.trees) sig.now (bound_in scope.now) }
     requires some { 1 ≤ length args.now }
     ensures gives { GivesTerm table.new result (headed_in (world table.old sig.now scope.now) head.now args.now) }
-    ensures grows { GrowsOn table.old table.new }
+    ensures grows { Grows table.old table.new }
 {
     let f = mean(alloc, head, scope, sig, table)?;
     let used = use_of_term(f, args, sig, table)?;
@@ -100,7 +100,7 @@ fn mean_use(
     requires below { UseBelow (length table.old.trees) used.now }
     requires suits { Suits used.now (length args.now) }
     ensures gives { (h : Sexp) → GivesTerm table.new result (use_in (world table.old sig.now scope.now) table.old h args.now used.now) }
-    ensures grows { GrowsOn table.old table.new }
+    ensures grows { Grows table.old table.new }
 {
     let ids = mean_arguments(alloc, used, args, scope, sig, table)?;
     use_arguments(alloc, *used, ids.as_slice(), scope, sig, table)
@@ -120,14 +120,14 @@ fn mean_arguments(
     ensures live { IfOk result (All (λ i. i < length table.new.trees)) }
     ensures gives { (h : Sexp) → GivesTerms table.new result (arguments_in (world table.old sig.now scope.now) h args.now used.now) }
     ensures suits { IfOk result (λ ids. Suits used.now (length args.now) → Suits used.now (length ids)) }
-    ensures grows { GrowsOn table.old table.new }
+    ensures grows { Grows table.old table.new }
 {
     match used {
         Use::Bind {
             binder: _,
             collector,
         } => mean_bound(alloc, *collector, args, scope, sig, table),
-        _ => mean_all(alloc, args, Ids::new(alloc)?, scope, sig, table),
+        _ => mean_all(alloc, args, Ids::new(alloc), scope, sig, table),
     }
 }
 
@@ -145,7 +145,7 @@ fn mean_all(
     requires before { All (λ i. i < length table.old.trees) before }
     ensures gives { GivesTerms table.new result (all_in (world table.old sig.now scope.now) (trees_in table.old before) terms.now) }
     ensures count { IfOk result (λ ids. length ids ≡ length before + length terms.now) }
-    ensures grows { GrowsOn table.old table.new }
+    ensures grows { Grows table.old table.new }
 {
     let mut ids = before;
     for s in terms.again() {
@@ -166,7 +166,7 @@ fn mean_let(
 ) -> Result<Id, ElabRefused>
     requires ready { IsReady (length table.old.trees) sig.now (bound_in scope.now) }
     ensures gives { GivesTerm table.new result (let_in (world table.old sig.now scope.now) args.now) }
-    ensures grows { GrowsOn table.old table.new }
+    ensures grows { Grows table.old table.new }
 {
     let Some((pairs, body)) = args.only_two() else {
         return Err(ElabRefused::BadCommand);
@@ -187,14 +187,14 @@ fn mean_bound(
 ) -> Result<Ids, ElabRefused>
     requires ready { IsReady (length table.old.trees) sig.now (bound_in scope.now) }
     ensures gives { GivesTerms table.new result (binder_in (world table.old sig.now scope.now) args.now collector) }
-    ensures grows { GrowsOn table.old table.new }
+    ensures grows { Grows table.old table.new }
 {
     let Some((pairs, others)) = args.split_first() else {
         return Err(ElabRefused::BadCommand);
     };
     let mut names = mean_pairs(alloc, &pairs, scope, sig, table)?;
     let list = bind(alloc, collector, &mut names, scope, sig, table)?;
-    let mut ids = Ids::new(alloc)?;
+    let mut ids = Ids::new(alloc);
     ids.push(list)?;
     mean_all(
         alloc,
@@ -218,7 +218,7 @@ fn mean_pairs(
 ) -> Result<Bindings, ElabRefused>
     requires ready { IsReady (length table.old.trees) sig.now (bound_in scope.now) }
     ensures gives { GivesPairs table.new result (pairs_in (world table.old sig.now scope.now) pairs.now) }
-    ensures grows { GrowsOn table.old table.new }
+    ensures grows { Grows table.old table.new }
 {
     let Some(children) = pairs.list() else {
         return Err(ElabRefused::BadCommand);
@@ -243,7 +243,7 @@ fn mean_pair(
     requires ready { IsReady (length table.old.trees) sig.now (bound_in scope.now) }
     requires names { BindingsBelow (length table.old.trees) names.old }
     ensures adds { AddsPair (world table.old sig.now scope.now) table.old table.new pair.now names.old names.new result }
-    ensures grows { GrowsOn table.old table.new }
+    ensures grows { Grows table.old table.new }
 {
     let Some((name, beside)) = pair_of(pair) else {
         return Err(ElabRefused::BadCommand);

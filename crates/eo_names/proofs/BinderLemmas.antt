@@ -9,6 +9,7 @@ use Rattle.eo_base.proofs.Tests.{or_first, or_second}
 use Rattle.eo_base.specs.declared.FaultName.TheVariants.{TermHeight, BadArity}
 use Rattle.eo_sig.specs.Signature.{Signature, Attribute, Plain, RightNil, LeftNil, Right, Left, Chain, Pairs, Binder}
 use Rattle.eo_term.specs.Tree.{Tree, Con, Var, App, is_tall}
+use Rattle.eo_term.proofs.Heights.{tall_second}
 use Rattle.eo_term.specs.Terms.{tree_at}
 use Rattle.indexmap.specs.Layout.{set_value_at}
 use Rattle.eo_names.specs.Folding.{folded, folded_within, by_attribute, attribute_at, least, applied_to_two}
@@ -17,7 +18,7 @@ use Rattle.eo_names.specs.Grouped.{if_low}
 use Rattle.eo_names.specs.Readers.{◌>>=◌, read, built, give, unless, with_labels}
 use Rattle.eo_names.specs.Contexts.{is_list, Local}
 use Rattle.eo_names.specs.Names.{Binding, read_pairs, BindingsBelow, with_term}
-use Rattle.eo_names.proofs.FoldLemmas.{higher, tall_left, tall_right}
+use Rattle.eo_names.proofs.FoldLemmas.{tall_left, tall_right}
 use Rattle.eo_names.proofs.FoldSteps.{too_few, not_too_few}
 use Rattle.eo_names.proofs.FoldTall.{too_tall, folded_tall}
 
@@ -52,9 +53,6 @@ module _ (ts us : List Tree) (name : List ℕ) (ty t : ℕ) where
       let before : read_pairs ts bs ≡ turned i ps = cc in
       let rest = one_turned i bs ps e v same before in
       λ k. first k ∷ rest k
-
-tall_last : (f a : Tree) → is_tall a ≡ true → is_tall (App f a) ≡ true
-tall_last f a e = higher a (App f a) (omega arith) e
 
 -- a variable that is too tall is one of them
 pub one_tall : (ts : List Tree) (name : List ℕ) (ty i : ℕ) (bs : List Binding) (ps : List (List ℕ × Tree)) → slice_get bs i ≡ Some (name, ty) → read_pairs ts bs ≡ turned i ps → is_tall (Var name (tree_at ts ty)) ≡ true
@@ -112,14 +110,14 @@ module _ (S : Signature) (ls : List Local) (k : ℕ) where
 
   -- one variable that is too tall
   one_by : (fold_by : ℕ → List Tree → Checked Tree) (f : Tree) (a : Attribute) (name : List ℕ) (ty : Tree) → least a ≤ 1 → is_tall (Var name ty) ≡ true → if_low (by_attribute fold_by (is_list ls) f a (Var name ty ∷ [])) ≡ Err TermHeight
-  one_by fold_by f Plain name ty l e = too_tall (App f (Var name ty)) (tall_last f (Var name ty) e)
+  one_by fold_by f Plain name ty l e = too_tall (App f (Var name ty)) (tall_second f (Var name ty) e)
   one_by fold_by f (RightNil nil) name ty l e = too_tall (applied_to_two f (Var name ty) nil) (tall_left f (Var name ty) nil e)
   one_by fold_by f (LeftNil nil) name ty l e = too_tall (applied_to_two f nil (Var name ty)) (tall_right f nil (Var name ty) e)
   one_by fold_by f Right name ty l e = absurd (omega (arith, l))
   one_by fold_by f Left name ty l e = absurd (omega (arith, l))
   one_by fold_by f (Chain g) name ty l e = absurd (omega (arith, l))
   one_by fold_by f (Pairs g) name ty l e = absurd (omega (arith, l))
-  one_by fold_by f (Binder g) name ty l e = too_tall (App f (Var name ty)) (tall_last f (Var name ty) e)
+  one_by fold_by f (Binder g) name ty l e = too_tall (App f (Var name ty)) (tall_second f (Var name ty) e)
 
   tall_within : (ps : List (List ℕ × Tree)) → least (attribute_at S k) ≤ length ps → list_any is_tall (trees_of ps) ≡ true → if_low (folded_within (suc k) S (is_list ls) k (trees_of ps)) ≡ Err TermHeight
   tall_within [] l e = cc

@@ -6,15 +6,13 @@ use Rattle.eo_base.specs.Limits.{height_limit}
 use Rattle.eo_term.specs.Tree.{Tree, Con, App, Arr, height, is_tall}
 use Rattle.eo_term.specs.Terms.{tree_at}
 use Rattle.std.proofs.lemmas.List.Elements.{All-head, All-tail, All-weaker}
+use Rattle.std.proofs.lemmas.List.{length-map}
 use Rattle.eo_names.specs.declared.locals.LocalName.{LocalName}
 use Rattle.eo_names.specs.Names.{read_locals, AreBelow}
 use Rattle.eo_names.specs.Folding.{applied_to_two, list_onto, last_onto, right_nil}
 
 pub higher : (t u : Tree) → height t ≤ height u → is_tall t ≡ true → is_tall u ≡ true
 higher t u h e = let l = ltb-true height_limit (height t) e in lt-ltb height_limit (height u) (omega (arith, h, l))
-
-pub tall_head : (f a : Tree) → is_tall f ≡ true → is_tall (App f a) ≡ true
-tall_head f a e = higher f (App f a) (omega arith) e
 
 pub tall_left : (f a b : Tree) → is_tall a ≡ true → is_tall (applied_to_two f a b) ≡ true
 tall_left f a b e = higher a (applied_to_two f a b) (omega arith) e
@@ -46,10 +44,6 @@ module _ (g : Tree → Tree → Tree) (ts : List Tree) (args : List ℕ) where
     left_tall i a now next whole l e h n t =
         ap is_tall (sym (left_turn i a now next whole l e h n)) ∙ tall_fold (map (tree_at ts) (drop (i + 1) args)) next t
 
-pub length_map : {X Y : Type 0} (f : X → Y) (xs : List X) → length (map f xs) ≡ length xs
-length_map f [] = refl
-length_map f (x ∷ xs) = ap suc (length_map f xs)
-
 pub get_or-at : {X Y : Type 0} (f : X → Y) (xs : List X) (i : ℕ) (x : X) (d : Y) → i < length xs → x ≡ get_or xs i x → get_or (map f xs) i d ≡ f x
 get_or-at f [] i x d l e = absurd (omega arith)
 get_or-at f (y ∷ ys) zero x d l e = ap f (sym e)
@@ -79,13 +73,13 @@ module _ (grouped : List Tree → Tree) (onto : Tree → Tree → Tree)
     -- one argument more before those from place j on
     pub right_step : (i j a : ℕ) (now : Tree) → suc i ≡ j → j < length args → a ≡ get_or args i a → now ≡ grouped (drop j (map (tree_at ts) args)) → onto (tree_at ts a) now ≡ grouped (drop i (map (tree_at ts) args))
     right_step i j a now n l e h =
-        let long : suc i < length (map (tree_at ts) args) = omega (arith, length_map (tree_at ts) args) in
+        let long : suc i < length (map (tree_at ts) args) = omega (arith, length-map args (tree_at ts)) in
         let own : get_or (map (tree_at ts) args) i (Con 0) ≡ tree_at ts a = get_or-at (tree_at ts) args i a (Con 0) (omega arith) e in
         let own' = sym own in let n' = sym n in (λ k. onto (tree_at ts a) (h k)) ∙ (λ k. onto (own' k) (grouped (drop (n' k) (map (tree_at ts) args)))) ∙ sym (right_turn (map (tree_at ts) args) i long)
 
     pub right_step_tall : (i j a : ℕ) (now : Tree) → suc i ≡ j → j < length args → a ≡ get_or args i a → now ≡ grouped (drop j (map (tree_at ts) args)) → is_tall (onto (tree_at ts a) now) ≡ true → is_tall (grouped (map (tree_at ts) args)) ≡ true
     right_step_tall i j a now n l e h t =
-        right_tall (map (tree_at ts) args) i (omega (arith, length_map (tree_at ts) args)) (ap is_tall (sym (right_step i j a now n l e h)) ∙ t)
+        right_tall (map (tree_at ts) args) i (omega (arith, length-map args (tree_at ts))) (ap is_tall (sym (right_step i j a now n l e h)) ∙ t)
 
 -- what joins an argument to the rest of a list holds the rest
 pub tall_onto : (b : Bool) (f a rest : Tree) → is_tall rest ≡ true → is_tall (list_onto b f a rest) ≡ true
@@ -112,5 +106,5 @@ last_drop ts (b ∷ args) (suc i) a l e = last_drop ts args i a (omega arith) e
 
 pub list_last_tall : (il : Tree → Bool) (f nil : Tree) (ts : List Tree) (args : List ℕ) (i a : ℕ) → suc i ≡ length args → a ≡ get_or args i a → is_tall (last_onto (il (tree_at ts a)) f (tree_at ts a) nil) ≡ true → is_tall (right_nil il f nil (map (tree_at ts) args)) ≡ true
 list_last_tall il f nil ts args i a l e h =
-    right_tall (right_nil il f nil) (λ x r. list_onto (il x) f x r) (λ x y us. refl) (λ x r. tall_onto (il x) f x r) (map (tree_at ts) args) i (omega (arith, length_map (tree_at ts) args))
+    right_tall (right_nil il f nil) (λ x r. list_onto (il x) f x r) (λ x y us. refl) (λ x r. tall_onto (il x) f x r) (map (tree_at ts) args) i (omega (arith, length-map args (tree_at ts)))
     (ap (λ us. is_tall (right_nil il f nil us)) (last_drop ts args i a l e) ∙ h)

@@ -6,7 +6,7 @@ use Rattle.eo_base.specs.Limits.{height_limit}
 use Rattle.eo_base.specs.declared.FaultName.TheVariants.{BadArity, TermHeight}
 use Rattle.eo_base.specs.Checks.{Checked}
 use Rattle.eo_term.specs.Tree.{Tree, Con, height, is_tall}
-use Rattle.eo_term.specs.Terms.{Terms, Grows}
+use Rattle.eo_term.specs.Terms.{Terms, Since}
 use Rattle.eo_sig.specs.Signature.{Signature, Attribute, Plain, RightNil, LeftNil, Right, Left, Chain, Pairs, Binder}
 use Rattle.eo_sig.specs.Reading.{Kept}
 use Rattle.eo_sig.proofs.Same.{signature_grown, macros_grown, below_grown}
@@ -62,7 +62,7 @@ low_term t l = by (is_tall t) (grind (arith, nat_tests))
     by false h = refl
 
 -- a table that grows keeps what names stand for
-pub keeps_grown : (k : Kept) (ls : List LocalName) (old new : Terms) → IsReady (length old.trees) k ls → Grows old new → Keeps k ls old.trees new.trees
+pub keeps_grown : (k : Kept) (ls : List LocalName) (old new : Terms) → IsReady (length old.trees) k ls → Since old new → Keeps k ls old.trees new.trees
 keeps_grown k ls old new h g =
     let s = signature_grown old new k h.below g in
     let m = macros_grown old new k h.below g in

@@ -4,23 +4,22 @@ use Rattle.std.specs.Prelude.{Ok, Err, ◌==◌, if◌then◌else◌}
 use Rattle.std.specs.List.{list_any}
 use Rattle.std.proofs.Common.{length-append}
 use Rattle.std.proofs.lemmas.Bool.Decides.{nat_tests}
+use Rattle.std.proofs.lemmas.List.{length-map}
 use Rattle.eo_base.specs.declared.FaultName.TheVariants.{TermHeight, BadArity}
 use Rattle.eo_base.specs.Checks.{Checked}
 use Rattle.eo_base.proofs.Tests.{or_first, or_second}
 use Rattle.eo_term.specs.Tree.{Tree, Con, App, is_tall}
+use Rattle.eo_term.proofs.Heights.{tall_first, tall_second}
 use Rattle.eo_sig.specs.Signature.{Signature, Attribute, Plain, RightNil, LeftNil, Right, Left, Chain, Pairs, Binder}
 use Rattle.eo_names.specs.Folding.{applied, applied_to_two, list_onto, last_onto, right_nil, right, left, links, all_pairs, least, attribute_at, by_attribute, folded_within}
 use Rattle.eo_names.specs.Grouped.{if_low}
-use Rattle.eo_names.proofs.FoldLemmas.{higher, tall_head, tall_left, tall_right, tall_onto, tall_fold, length_map}
+use Rattle.eo_names.proofs.FoldLemmas.{higher, tall_left, tall_right, tall_onto, tall_fold}
 
 abbrev pub HasTall : List Tree → Type 0
 HasTall us = list_any is_tall us ≡ true
 
 no_tall : {A : Type 0} → false ≡ true → A
 no_tall e = absurd (true≢false (sym e))
-
-tall_argument : (f a : Tree) → is_tall a ≡ true → is_tall (App f a) ≡ true
-tall_argument f a e = higher a (App f a) (omega arith) e
 
 -- in a list of one tree more
 in_cons : {A : Type 0} (b c : Bool) → (b || c) ≡ true → (b ≡ true → A) → (c ≡ true → A) → A
@@ -46,7 +45,7 @@ module _ (g : Tree → Tree → Tree) (by_first : (a b : Tree) → is_tall a ≡
       in_cons (is_tall u) (list_any is_tall us) e (λ h. tall_fold g [] [] by_first us (g now u) (by_second now u h)) (any_fold (g now u) us)
 
 any_applied : (f : Tree) (us : List Tree) → HasTall us → is_tall (applied f us) ≡ true
-any_applied f us e = any_fold App tall_head tall_argument f us e
+any_applied f us e = any_fold App tall_first tall_second f us e
 
 any_left : (f : Tree) (us : List Tree) → HasTall us → is_tall (left f us) ≡ true
 any_left f [] e = no_tall e
@@ -112,7 +111,7 @@ pub pairs_more : (f : Tree) (us : List Tree) → 3 ≤ length us → 2 ≤ lengt
 pairs_more f [] l = absurd (omega arith)
 pairs_more f (a ∷ us) l =
     let e = length-append (map (applied_to_two f a) us) (all_pairs f us) in
-    let m = length_map (applied_to_two f a) us in
+    let m = length-map us (applied_to_two f a) in
     omega (arith, e, m)
 
 -- a result that is too tall

@@ -9,7 +9,7 @@ use Rattle.eo_base.proofs.Answering.{tells_through}
 use Rattle.eo_sig.specs.Reading.{Kept}
 use Rattle.eo_term.specs.declared.table.TermRefused.{TermRefused}
 use Rattle.eo_term.specs.declared.table.TermRefused.TheVariants as term
-use Rattle.eo_term.specs.Growth.{GrowsOn}
+use Rattle.eo_term.specs.Growth.{Grows}
 use Rattle.eo_term.specs.Refused.{IsTall}
 use Rattle.eo_term.specs.Terms.{Terms, tree_at, Interned}
 use Rattle.eo_term.specs.Tree.{Tree, is_tall}
@@ -67,7 +67,7 @@ labelled t (Ok i) o h = record { live = h.live; is = ap (with_labels []) h.is }
 labelled t (Err e) o h = tells_through told (with_labels []) (λ x. refl) e o h
 
 -- a table that grows keeps what is read
-module _ (k : Kept) (s : Scope) (old new : Terms) (h : IsReady (length old.trees) k (bound_in s)) (g : GrowsOn old new) where
+module _ (k : Kept) (s : Scope) (old new : Terms) (h : IsReady (length old.trees) k (bound_in s)) (g : Grows old new) where
   pub same_world : world new k s ≡ world old k s
   same_world = let q = keeps_grown k (bound_in s) old new h g.now in λ i. record { names = q.context i; locals = q.names i }
 

@@ -4,10 +4,11 @@ use Rattle.std.specs.List.{list_any}
 use Rattle.std.proofs.lemmas.List.{map-append, append-nil, at_drop_more, drop-map, take_all}
 use Rattle.std.proofs.Common.{append_assoc, length-drop, take}
 use Rattle.std.proofs.lemmas.List.Elements.{All-head, All-tail, All-weaker, All-push, All-drop}
+use Rattle.std.proofs.lemmas.List.{length-map}
 use Rattle.eo_term.specs.Tree.{Tree, Con, is_tall}
 use Rattle.eo_term.specs.Terms.{tree_at}
 use Rattle.eo_names.specs.Folding.{applied_to_two, links, all_pairs}
-use Rattle.eo_names.proofs.FoldLemmas.{length_map, get_or-at}
+use Rattle.eo_names.proofs.FoldLemmas.{get_or-at}
 use Rattle.eo_names.proofs.FoldTall.{HasTall, any_at, any_first, any_second}
 
 -- numbers keep their trees where a table grows
@@ -75,12 +76,12 @@ module _ (f : Tree) where
     pub link_at : (j a b : ℕ) → 1 ≤ j → j < length args → a ≡ get_or args (j - 1) a → b ≡ get_or args j b → links f (drop (j - 1) us) ≡ applied_to_two f (tree_at ts a) (tree_at ts b) ∷ links f (drop j us)
     link_at j a b one l p q =
         let before : suc (j - 1) ≡ j = omega arith in
-        links_turn us (j - 1) (omega (arith, length_map (tree_at ts) args))
+        links_turn us (j - 1) (omega (arith, length-map args (tree_at ts)))
         ∙ (λ k. applied_to_two f (get_or-at (tree_at ts) args (j - 1) a (Con 0) (omega arith) p k) (get_or us (before k) (Con 0)) ∷ links f (drop (before k) us))
         ∙ (λ k. applied_to_two f (tree_at ts a) (get_or-at (tree_at ts) args j b (Con 0) l q k) ∷ links f (drop j us))
 
     pub no_link : (j : ℕ) → length args ≤ j → links f (drop (j - 1) us) ≡ []
-    no_link j l = links_end us (j - 1) (omega (arith, length_map (tree_at ts) args))
+    no_link j l = links_end us (j - 1) (omega (arith, length-map args (tree_at ts)))
 
   pairs_turn : (vs : List Tree) (i : ℕ) → i < length vs → all_pairs f (drop i vs) ≡ map (applied_to_two f (get_or vs i (Con 0))) (drop (suc i) vs) ++ all_pairs f (drop (suc i) vs)
   pairs_turn [] i l = absurd (omega arith)
@@ -95,7 +96,7 @@ module _ (f : Tree) where
     pub pairs_at : (i a : ℕ) → i < length args → a ≡ get_or args i a → all_pairs f (drop i vs) ≡ map (applied_to_two f (tree_at ts a)) (map (tree_at ts) (drop (i + 1) args)) ++ all_pairs f (drop (i + 1) vs)
     pairs_at i a l e =
         let more : suc i ≡ i + 1 = omega arith in
-        pairs_turn vs i (omega (arith, length_map (tree_at ts) args))
+        pairs_turn vs i (omega (arith, length-map args (tree_at ts)))
         ∙ (λ k. map (applied_to_two f (get_or-at (tree_at ts) args i a (Con 0) l e k)) (drop (more k) vs) ++ all_pairs f (drop (more k) vs))
         ∙ (λ k. map (applied_to_two f (tree_at ts a)) (drop-map (tree_at ts) (i + 1) args k) ++ all_pairs f (drop (i + 1) vs))
 

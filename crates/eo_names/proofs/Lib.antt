@@ -1,5 +1,4 @@
 pub mod Outcomes
-pub mod Places
 pub mod FoldLemmas
 pub mod FoldTall
 pub mod FoldSteps

@@ -5,10 +5,11 @@ use Rattle.std.specs.Option.{option_flatten}
 use Rattle.std.proofs.lemmas.List.{take_all}
 use Rattle.std.proofs.lemmas.List.Elements.{All-head, All-tail}
 use Rattle.std.proofs.lemmas.Bool.Decides.{nat_tests}
+use Rattle.std.proofs.lemmas.List.{length-map}
 use Rattle.eo_term.specs.Tree.{Tree, More, to_trees}
 use Rattle.eo_term.specs.Terms.{tree_at, trees_at}
 use Rattle.eo_pattern.specs.Matching.{assign}
-use Rattle.eo_names.proofs.FoldLemmas.{length_map, get_or-at}
+use Rattle.eo_names.proofs.FoldLemmas.{get_or-at}
 use Rattle.eo_pattern.specs.Matching.{put}
 use Rattle.eo_names.specs.declared.usage.Use.{Use}
 use Rattle.eo_names.specs.declared.usage.Use.TheVariants as use_
@@ -50,12 +51,12 @@ pub assigned : (ts : List Tree) (args : List ℕ) (i a : ℕ) (σ : ℕ → Opti
 assigned ts args i a σ l e h j =
     let more : suc i ≡ i + 1 = omega arith in
     (λ k. if nat_eq i j then Some (tree_at ts a) else h j k)
-    ∙ next_held (map (tree_at ts) args) i (tree_at ts a) (omega (arith, length_map (tree_at ts) args)) (get_or-at (tree_at ts) args i a (tree_at ts a) l e) j
+    ∙ next_held (map (tree_at ts) args) i (tree_at ts a) (omega (arith, length-map args (tree_at ts))) (get_or-at (tree_at ts) args i a (tree_at ts a) l e) j
     ∙ (λ k. slice_get (take (more k) (map (tree_at ts) args)) j)
 
 pub all_held : (ts : List Tree) (args : List ℕ) (i : ℕ) → length args ≤ i → (σ : ℕ → Option Tree) → ((j : ℕ) → σ j ≡ slice_get (take i (map (tree_at ts) args)) j) → σ ≡ slice_get (map (tree_at ts) args)
 all_held ts args i l σ h =
-    let whole = take_all i (map (tree_at ts) args) (omega (arith, length_map (tree_at ts) args)) in
+    let whole = take_all i (map (tree_at ts) args) (omega (arith, length-map args (tree_at ts))) in
     λ k j. (h j ∙ (λ m. slice_get (whole m) j)) k
 
 -- what is made of arguments over a table that has grown

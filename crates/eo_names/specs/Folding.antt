@@ -75,8 +75,8 @@ abbrev pub attribute_at : Signature → ℕ → Attribute
 attribute_at S f = option_map_or (λ c. c.attribute) (constant_at S f) Plain
 
 -- Two arguments are applied plainly, and from three on g is folded over what f makes of them.
-abbrev pub joined : (ℕ → List Tree → Checked Tree) → Tree → ℕ → (items args : List Tree) → Checked Tree
-joined fold_by f g items args = if length args == 2 then Ok (applied f args) else fold_by g items
+abbrev pub joined_by : (ℕ → List Tree → Checked Tree) → Tree → ℕ → (items args : List Tree) → Checked Tree
+joined_by fold_by f g items args = if length args == 2 then Ok (applied f args) else fold_by g items
 
 -- f with an attribute on arguments; `is_list` tells which arguments stand for lists, and `fold_by` folds another constant
 abbrev pub by_attribute : (ℕ → List Tree → Checked Tree) → (Tree → Bool) → Tree → Attribute → List Tree → Checked Tree
@@ -85,8 +85,8 @@ by_attribute fold_by is_list f (RightNil nil) args = Ok (right_nil is_list f nil
 by_attribute fold_by is_list f (LeftNil nil) args = Ok (left_nil f nil args)
 by_attribute fold_by is_list f Right args = Ok (right f args)
 by_attribute fold_by is_list f Left args = Ok (left f args)
-by_attribute fold_by is_list f (Chain g) args = joined fold_by f g (links f args) args
-by_attribute fold_by is_list f (Pairs g) args = joined fold_by f g (all_pairs f args) args
+by_attribute fold_by is_list f (Chain g) args = joined_by fold_by f g (links f args) args
+by_attribute fold_by is_list f (Pairs g) args = joined_by fold_by f g (all_pairs f args) args
 by_attribute fold_by is_list f (Binder c) args = Ok (applied f args)
 
 -- A constant by number, on arguments. What it is joined by was declared before it, so that more turns than its number are enough.

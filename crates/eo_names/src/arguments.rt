@@ -8,7 +8,7 @@ ghost use Rattle.eo_names.specs.Folding.{arrow};
 ghost use Rattle.eo_names.specs.Scopes.{bound_in};
 ghost use Rattle.eo_names.specs.Usage.{plain_tree, UseBelow, Suits};
 ghost use Rattle.eo_names.specs.Ready.{IsReady};
-ghost use Rattle.eo_term.specs.Growth.{tree_in, trees_in, GrowsOn};
+ghost use Rattle.eo_term.specs.Growth.{tree_in, trees_in, Grows};
 ghost use Rattle.eo_names.specs.Gives.{Builds, GivesTerm};
 ghost use Rattle.eo_names.specs.Worlds.{world, made_in};
 
@@ -36,7 +36,7 @@ pub fn use_arguments(
     requires below { UseBelow (length table.old.trees) used }
     requires suits { Suits used (length args.now) }
     ensures gives { GivesTerm table.new result (made_in (world table.old sig.now scope.now) table.old used (trees_in table.old args.now)) }
-    ensures grows { GrowsOn table.old table.new }
+    ensures grows { Grows table.old table.new }
 {
     if let Use::Fold(k) = used {
         return fold_constant(alloc, k, args, scope, sig, table);
@@ -52,7 +52,7 @@ fn use_plainly(alloc: Global, used: Use, args: &[Id], table: &mut Table) -> Resu
     requires below { UseBelow (length table.old.trees) used }
     requires suits { Suits used (length args.now) }
     ensures gives { Builds table.new result (plain_tree table.old.trees used (trees_in table.old args.now)) }
-    ensures grows { GrowsOn table.old table.new }
+    ensures grows { Grows table.old table.new }
 {
     match used {
         Use::Plainly(f) => apply_to_all(table, f, args),
@@ -70,7 +70,7 @@ fn apply_operator(table: &mut Table, code: OpCode, args: &[Id]) -> Result<Id, Te
     requires count { HasArity code (length args.now) }
     requires args { All (λ a. a < length table.old.trees) args.now }
     ensures gives { Builds table.new result (Op code (to_trees (trees_in table.old args.now))) }
-    ensures grows { GrowsOn table.old table.new }
+    ensures grows { Grows table.old table.new }
 {
     table.intern_op(code, args)
 }
@@ -80,7 +80,7 @@ pub fn function_type(table: &mut Table, types: &[Id]) -> Result<Id, TermRefused>
     requires types { All (λ a. a < length table.old.trees) types.now }
     requires some { 1 ≤ length types.now }
     ensures gives { Builds table.new result (arrow (trees_in table.old types.now)) }
-    ensures grows { GrowsOn table.old table.new }
+    ensures grows { Grows table.old table.new }
 {
     let mut left = types.len() - 1;
     let mut made = types[left];
@@ -100,7 +100,7 @@ fn put_in(alloc: Global, tree: Id, args: &[Id], table: &mut Table) -> Result<Id,
     requires args { All (λ a. a < length table.old.trees) args.now }
     requires few { length args.now ≤ parameters_limit }
     ensures gives { Builds table.new result (put (slice_get (trees_in table.old args.now)) (tree_in table.old tree)) }
-    ensures grows { GrowsOn table.old table.new }
+    ensures grows { Grows table.old table.new }
 {
     let mut values = Subst::new(alloc)?;
     values.reserve(args.len(), 0)?;

@@ -5,7 +5,7 @@ ghost use Rattle.eo_sig.specs.Reading.{signature, read_attribute, IsBelow, Attri
 ghost use Rattle.eo_names.specs.Folding.{attribute_at, least};
 ghost use Rattle.eo_names.specs.Names.{AreBelow};
 ghost use Rattle.eo_names.specs.Scopes.{bound_in};
-ghost use Rattle.eo_term.specs.Growth.{GrowsOn};
+ghost use Rattle.eo_term.specs.Growth.{Grows};
 ghost use Rattle.eo_names.specs.Gives.{Builds};
 ghost use Rattle.eo_names.specs.Worlds.{grouped_in};
 
@@ -65,7 +65,7 @@ pub(crate) fn group(
     requires below { AttributeBelow (length table.old.trees) attribute }
     requires names { AreBelow (length table.old.trees) (bound_in scope.now) }
     ensures gives { Builds table.new result (grouped_in table.old scope.now f attribute args.now) }
-    ensures grows { GrowsOn table.old table.new }
+    ensures grows { Grows table.old table.new }
 {
     match attribute {
         Attribute::Plain => apply_to_all(table, f, args),

@@ -6,7 +6,7 @@ ghost use Rattle.eo_names.specs.Binders.{variable};
 ghost use Rattle.eo_names.specs.Names.{BindingsBelow};
 ghost use Rattle.eo_names.specs.Scopes.{bound_in};
 ghost use Rattle.eo_names.specs.Ready.{IsReady};
-ghost use Rattle.eo_term.specs.Growth.{tree_in, GrowsOn};
+ghost use Rattle.eo_term.specs.Growth.{tree_in, Grows};
 ghost use Rattle.eo_names.specs.Gives.{Builds, GivesTerm, BindsVariables};
 ghost use Rattle.eo_names.specs.Worlds.{world, bound_list_in, seen_in};
 
@@ -34,7 +34,7 @@ pub fn bind(
     ensures gives { GivesTerm table.new result (bound_list_in (world table.old sig.now scope.now) collector (seen_in table.old names.old)) }
     ensures below { OnOk result (BindingsBelow (length table.new.trees) names.new) }
     ensures names { OnOk result (seen_in table.new names.new ≡ map variable (seen_in table.old names.old)) }
-    ensures grows { GrowsOn table.old table.new }
+    ensures grows { Grows table.old table.new }
 {
     // The variables are counted before any of them is made.
     if names.len() < least_of(collector, sig) {
@@ -49,7 +49,7 @@ pub fn bind(
 fn make_variables(alloc: Global, names: &mut Bindings, table: &mut Table) -> Result<(), TermRefused>
     requires types { BindingsBelow (length table.old.trees) names.old }
     ensures binds { BindsVariables table.old table.new names.old names.new result }
-    ensures grows { GrowsOn table.old table.new }
+    ensures grows { Grows table.old table.new }
 {
     for i in 0..names.len() {
         let (name, ty) = names.get(i);
@@ -63,7 +63,7 @@ fn make_variables(alloc: Global, names: &mut Bindings, table: &mut Table) -> Res
 fn variable(alloc: Global, name: &[u8], ty: Id, table: &mut Table) -> Result<Id, TermRefused>
     requires { ty < length table.old.trees }
     ensures gives { Builds table.new result (Var name.now (tree_in table.old ty)) }
-    ensures grows { GrowsOn table.old table.new }
+    ensures grows { Grows table.old table.new }
 {
     let characters = characters(alloc, name)?;
     let name = table.text(characters.as_slice())?;

@@ -4,11 +4,10 @@ ghost use Rattle.eo_term.specs.Tree.{App, Con};
 ghost use Rattle.eo_names.specs.Folding.{applied, applied_to_two, right};
 ghost use Rattle.eo_names.specs.Names.{AreBelow};
 ghost use Rattle.eo_names.specs.Scopes.{bound_in};
-ghost use Rattle.eo_term.specs.Growth.{tree_in, trees_in, GrowsOn};
+ghost use Rattle.eo_term.specs.Growth.{tree_in, trees_in, Grows};
 ghost use Rattle.eo_names.specs.Gives.{Builds};
 ghost use Rattle.eo_names.specs.Worlds.{left_in, onto_in, last_in, right_nil_in};
 
-use crate::leaves::constant;
 use crate::scope::Scope;
 use eo_term::{Id, Ids, Node, OpCode, OpName, Table, TermRefused};
 use std::alloc::Global;
@@ -18,7 +17,7 @@ pub(crate) fn apply(table: &mut Table, f: Id, a: Id) -> Result<Id, TermRefused>
     requires f { f < length table.old.trees }
     requires a { a < length table.old.trees }
     ensures gives { Builds table.new result (App (tree_in table.old f) (tree_in table.old a)) }
-    ensures grows { GrowsOn table.old table.new }
+    ensures grows { Grows table.old table.new }
 {
     table.intern(Node::App { fun: f, arg: a })
 }
@@ -29,7 +28,7 @@ pub(crate) fn apply_to_two(table: &mut Table, f: Id, a: Id, b: Id) -> Result<Id,
     requires a { a < length table.old.trees }
     requires b { b < length table.old.trees }
     ensures gives { Builds table.new result (applied_to_two (tree_in table.old f) (tree_in table.old a) (tree_in table.old b)) }
-    ensures grows { GrowsOn table.old table.new }
+    ensures grows { Grows table.old table.new }
 {
     let first = apply(table, f, a)?;
     apply(table, first, b)
@@ -40,7 +39,7 @@ pub(crate) fn apply_to_all(table: &mut Table, f: Id, args: &[Id]) -> Result<Id, 
     requires f { f < length table.old.trees }
     requires args { All (λ a. a < length table.old.trees) args.now }
     ensures gives { Builds table.new result (applied (tree_in table.old f) (trees_in table.old args.now)) }
-    ensures grows { GrowsOn table.old table.new }
+    ensures grows { Grows table.old table.new }
 {
     let mut made = f;
     for a in args {
@@ -53,9 +52,9 @@ pub(crate) fn apply_to_all(table: &mut Table, f: Id, args: &[Id]) -> Result<Id, 
 pub(crate) fn apply_constant(table: &mut Table, k: usize, args: &[Id]) -> Result<Id, TermRefused>
     requires args { All (λ a. a < length table.old.trees) args.now }
     ensures gives { Builds table.new result (applied (Con k) (trees_in table.old args.now)) }
-    ensures grows { GrowsOn table.old table.new }
+    ensures grows { Grows table.old table.new }
 {
-    let f = constant(table, k)?;
+    let f = table.constant(k)?;
     apply_to_all(table, f, args)
 }
 
@@ -70,7 +69,7 @@ pub(crate) fn group_left(
     requires first { first < length table.old.trees }
     requires args { All (λ a. a < length table.old.trees) args.now }
     ensures gives { Builds table.new result (left_in table.old f first args.now) }
-    ensures grows { GrowsOn table.old table.new }
+    ensures grows { Grows table.old table.new }
 {
     let mut made = first;
     for a in args {
@@ -85,7 +84,7 @@ pub(crate) fn group_right(table: &mut Table, f: Id, args: &[Id]) -> Result<Id, T
     requires args { All (λ a. a < length table.old.trees) args.now }
     requires some { 1 ≤ length args.now }
     ensures gives { Builds table.new result (right (tree_in table.old f) (trees_in table.old args.now)) }
-    ensures grows { GrowsOn table.old table.new }
+    ensures grows { Grows table.old table.new }
 {
     let mut left = args.len() - 1;
     let mut made = args[left];
@@ -111,7 +110,7 @@ pub(crate) fn group_list(
     requires some { 1 ≤ length args.now }
     requires names { AreBelow (length table.old.trees) (bound_in scope.now) }
     ensures gives { Builds table.new result (right_nil_in table.old scope.now f nil args.now) }
-    ensures grows { GrowsOn table.old table.new }
+    ensures grows { Grows table.old table.new }
 {
     let mut left = args.len() - 1;
     let mut made = last_of_list(table, scope, f, args[left], nil)?;
@@ -135,7 +134,7 @@ fn last_of_list(
     requires nil { nil < length table.old.trees }
     requires names { AreBelow (length table.old.trees) (bound_in scope.now) }
     ensures gives { Builds table.new result (last_in table.old scope.now f a nil) }
-    ensures grows { GrowsOn table.old table.new }
+    ensures grows { Grows table.old table.new }
 {
     if scope.is_list(table, a) {
         return Ok(a);
@@ -156,7 +155,7 @@ fn onto_list(
     requires rest { rest < length table.old.trees }
     requires names { AreBelow (length table.old.trees) (bound_in scope.now) }
     ensures gives { Builds table.new result (onto_in table.old scope.now f a rest) }
-    ensures grows { GrowsOn table.old table.new }
+    ensures grows { Grows table.old table.new }
 {
     if scope.is_list(table, a) {
         return table.intern_op(OpCode::Builtin(OpName::ListConcat), &[f, a, rest]);

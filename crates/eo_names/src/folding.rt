@@ -4,7 +4,7 @@ ghost use Rattle.eo_sig.specs.Reading.{AttributeBelow};
 ghost use Rattle.eo_names.specs.Names.{AreBelow};
 ghost use Rattle.eo_names.specs.Scopes.{bound_in};
 ghost use Rattle.eo_names.specs.Ready.{IsReady};
-ghost use Rattle.eo_term.specs.Growth.{trees_in, GrowsOn};
+ghost use Rattle.eo_term.specs.Growth.{trees_in, Grows};
 ghost use Rattle.eo_names.specs.Gives.{GivesTree, GivesTurn, BuildsTurn};
 ghost use Rattle.eo_names.specs.Worlds.{world, folded_in, turned_in};
 
@@ -12,7 +12,6 @@ use crate::ElabRefused;
 use crate::attributes::{attribute_of, group, least_count};
 use crate::fold::apply_constant;
 use crate::joins::{neighbours, pairs};
-use crate::leaves::constant;
 use crate::scope::Scope;
 use eo_sig::{Attribute, Signature};
 use eo_term::{HEIGHT_LIMIT, Id, Ids, Table, TermRefused};
@@ -42,7 +41,7 @@ pub(crate) fn fold_constant(
     requires ready { IsReady (length table.old.trees) sig.now (bound_in scope.now) }
     requires args { All (λ a. a < length table.old.trees) args.now }
     ensures gives { GivesTree table.new result (folded_in (world table.old sig.now scope.now) k (trees_in table.old args.now)) }
-    ensures grows { GrowsOn table.old table.new }
+    ensures grows { Grows table.old table.new }
 {
     fold_within(alloc, k, k, args, scope, sig, table)
 }
@@ -62,7 +61,7 @@ fn fold_within(
     requires ready { IsReady (length table.old.trees) sig.now (bound_in scope.now) }
     requires args { All (λ a. a < length table.old.trees) args.now }
     ensures gives { GivesTree table.new result (turned_in (world table.old sig.now scope.now) (suc turns) k (trees_in table.old args.now)) }
-    ensures grows { GrowsOn table.old table.new }
+    ensures grows { Grows table.old table.new }
 {
     let turn = turn_of(alloc, k, args, scope, sig, table)?;
     match &turn {
@@ -90,7 +89,7 @@ fn join(
     requires ready { IsReady (length table.old.trees) sig.now (bound_in scope.now) }
     requires items { All (λ a. a < length table.old.trees) items.now }
     ensures gives { GivesTree table.new result (turned_in (world table.old sig.now scope.now) turns k (trees_in table.old items.now)) }
-    ensures grows { GrowsOn table.old table.new }
+    ensures grows { Grows table.old table.new }
 {
     if turns > 0 {
         return fold_within(alloc, turns - 1, k, items, scope, sig, table);
@@ -112,13 +111,13 @@ fn turn_of(
     requires ready { IsReady (length table.old.trees) sig.now (bound_in scope.now) }
     requires args { All (λ a. a < length table.old.trees) args.now }
     ensures gives { GivesTurn (world table.old sig.now scope.now) table.new result k (trees_in table.old args.now) }
-    ensures grows { GrowsOn table.old table.new }
+    ensures grows { Grows table.old table.new }
 {
     let attribute = attribute_of(sig, k);
     if args.len() < least_count(attribute) {
         return Err(ElabRefused::BadArity);
     }
-    let f = constant(table, k)?;
+    let f = table.constant(k)?;
     Ok(turn_by(alloc, f, attribute, args, scope, table)?)
 }
 
@@ -137,7 +136,7 @@ fn turn_by(
     requires below { AttributeBelow (length table.old.trees) attribute }
     requires names { AreBelow (length table.old.trees) (bound_in scope.now) }
     ensures gives { BuildsTurn table.old table.new scope.now f attribute args.now result }
-    ensures grows { GrowsOn table.old table.new }
+    ensures grows { Grows table.old table.new }
 {
     if args.len() == 2 {
         let made = group(table, scope, f, attribute, args)?;

@@ -1,7 +1,7 @@
 //! What a constant that is joined by another makes of its arguments.
 ghost use Rattle.std.specs.Prelude.{◌<◌, length, All};
 ghost use Rattle.eo_names.specs.Folding.{links, all_pairs};
-ghost use Rattle.eo_term.specs.Growth.{tree_in, trees_in, GrowsOn};
+ghost use Rattle.eo_term.specs.Growth.{tree_in, trees_in, Grows};
 ghost use Rattle.eo_names.specs.Gives.{BuildsAll, AddsAll};
 ghost use Rattle.eo_names.specs.Worlds.{with_each};
 
@@ -19,9 +19,9 @@ pub(crate) fn neighbours(
     requires f { f < length table.old.trees }
     requires args { All (λ a. a < length table.old.trees) args.now }
     ensures gives { BuildsAll table.new result (links (tree_in table.old f) (trees_in table.old args.now)) }
-    ensures grows { GrowsOn table.old table.new }
+    ensures grows { Grows table.old table.new }
 {
-    let mut made = Ids::new(alloc)?;
+    let mut made = Ids::new(alloc);
     for i in 1..args.len() {
         let link = apply_to_two(table, f, args[i - 1], args[i])?;
         made.push(link)?;
@@ -39,9 +39,9 @@ pub(crate) fn pairs(
     requires f { f < length table.old.trees }
     requires args { All (λ a. a < length table.old.trees) args.now }
     ensures gives { BuildsAll table.new result (all_pairs (tree_in table.old f) (trees_in table.old args.now)) }
-    ensures grows { GrowsOn table.old table.new }
+    ensures grows { Grows table.old table.new }
 {
-    let mut made = Ids::new(alloc)?;
+    let mut made = Ids::new(alloc);
     for i in 0..args.len() {
         add_pairs(table, f, args[i], &args[i + 1..], &mut made)?;
     }
@@ -61,7 +61,7 @@ fn add_pairs(
     requires others { All (λ b. b < length table.old.trees) others.now }
     requires made { All (λ i. i < length table.old.trees) made.old }
     ensures adds { AddsAll table.old table.new made.old made.new result (with_each table.old f a others.now) }
-    ensures grows { GrowsOn table.old table.new }
+    ensures grows { Grows table.old table.new }
 {
     for b in others {
         let pair = apply_to_two(table, f, a, *b)?;

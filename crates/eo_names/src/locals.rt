@@ -1,6 +1,7 @@
 //! The names that the place of a term gives a meaning: parameters, and what `let` and binders
 //! bind.
-ghost use Rattle.std.specs.Prelude.{◌≡◌, ℕ, ◌<◌, List, [], ◌∷◌, ◌++◌, map, length, not, is_some, false, ◌&&◌, IfOk, IfSome, OnOk, OnErr, Some, option_map, slice_get, bytes_eq};
+ghost use Rattle.std.specs.Prelude.{◌≡◌, ℕ, ◌<◌, List, [], ◌∷◌, ◌++◌, map, length, false, ◌&&◌};
+ghost use Rattle.std.specs.Prelude.{IfOk, IfSome, OnOk, OnErr, Some, option_map, slice_get};
 ghost use Rattle.std.specs.List.{list_any};
 ghost use Rattle.eo_term.specs.Tree.{Tree, tree_eq};
 ghost use Rattle.eo_term.specs.Terms.{tree_at};
@@ -166,7 +167,7 @@ impl Bindings {
     pub fn ids(&self) -> Result<Ids, AllocError>
         ensures { IfOk result (λ ids. ids ≡ map (λ b. b.1) self.now) }
     {
-        let mut ids = Ids::new(self.alloc)?;
+        let mut ids = Ids::new(self.alloc);
         for id in self.names.values() {
             ids.push(*id)?;
         }

@@ -6,19 +6,14 @@ use Rattle.std.proofs.lemmas.Nat.{and_shr, or_shr, xor_shr, and_mod, or_mod, xor
 use Rattle.std.proofs.Math.Nat.{sub-zero, mod_self, add-mul-mod_self_right, mod-add-mod, mod-eq_of_lt}
 use Rattle.std.proofs.Math.Pow.{mod-mod-pow}
 use Rattle.eo_ops.specs.Operators.{BitString, bits_of, number_of, bit_string, bit_by_bit, exclusive_or}
-use Rattle.eo_ops.proofs.Numbers.{length-bits_of}
+use Rattle.eo_ops.proofs.Numbers.{length-bits_of, bit_same}
 
 -- ---- the number of the bits
-
-bit_of : (n : ℕ) → n < 2 → (if nat_eq n 1 then 1 else 0) ≡ n
-bit_of zero h = refl
-bit_of (suc zero) h = refl
-bit_of (suc (suc n)) h = absurd (omega arith)
 
 pub number_of_bits : (w n : ℕ) → number_of (bits_of w n) ≡ n % 2 ^ w
 number_of_bits zero n = omega arith
 number_of_bits (suc w) n =
-    let low : (if nat_eq (n % 2) 1 then 1 else 0) ≡ n % 2 = bit_of (n % 2) (mod-lt n (zero-lt-suc 1)) in
+    let low : (if nat_eq (n % 2) 1 then 1 else 0) ≡ n % 2 = bit_same (n % 2) (mod-lt n (zero-lt-suc 1)) in
     let rest = number_of_bits w (n / 2) in
     let more : w + 1 ≡ suc w = omega arith in
     let whole = rw more at (mod-pow-add n w 1) in

@@ -2,10 +2,11 @@
 use Rattle.std.specs.Prelude.{◌≡◌, ℕ, zero, suc, ◌<◌, Bool, true, false, ◌||◌, nat_eq, if◌then◌else◌, List, [], ◌∷◌, map, Option, Some, None, is_some, refl}
 use Rattle.std.proofs.Common.{sym, ◌∙◌, ap, ap₂, subst, true≢false}
 use Rattle.std.proofs.lemmas.Bool.Decides.{Decides-eqb}
-use Rattle.std.proofs.lemmas.Option.{none-some, same_Some}
+use Rattle.std.proofs.lemmas.Option.{none-some}
 use mathlib.Core.Path.{fun_ext}
 use Rattle.eo_term.specs.Tree.{Tree, Con, Num, Bits, Str, Par, Var, App, Arr, Qar, Op, Trees, NoTree, More, to_list, is_closed, all_closed, occurs, occurs_in, occurs_in_all, is_tall}
 use Rattle.eo_term.specs.declared.OpCode.{OpCode}
+use Rattle.eo_base.proofs.Tests.{or_second}
 use Rattle.eo_term.proofs.Equality.{both}
 use Rattle.eo_term.specs.ParamSet.{has}
 use Rattle.std.specs.Prelude.{IfSome, IfNone}
@@ -22,7 +23,7 @@ use Rattle.std.proofs.Math.Seq.{drop-cons}
 use Rattle.std.proofs.Common.{All}
 use Rattle.std.proofs.lemmas.List.Elements.{All-head, All-tail, All-weaker}
 use Rattle.std.specs.Option.{option_flatten, option_map}
-use Rattle.eo_term.specs.Terms.{Terms, Grows, SameTrees, tree_at, trees_at}
+use Rattle.eo_term.specs.Terms.{Terms, Since, SameTrees, tree_at, trees_at}
 use Rattle.eo_pattern.proofs.Match.{matches_unique}
 use Rattle.eo_pattern.proofs.Put.{put_agree, put_list_agree}
 
@@ -35,10 +36,6 @@ or_assoc false b c = refl
 or_false : (a : Bool) → (a || false) ≡ a
 or_false true = refl
 or_false false = refl
-
-or_right : (a b : Bool) → b ≡ true → (a || b) ≡ true
-or_right true b e = refl
-or_right false b e = e
 
 -- closed trees
 
@@ -132,7 +129,7 @@ par_new σ i t n = record { extends = more; names = named; equal = ap (λ u. u �
     named j = by (nat_eq i j) refl
       where
         by : (b : Bool) → nat_eq i j ≡ b → is_some (if b then Some t else σ j) ≡ (is_some (σ j) || (nat_eq j i || false))
-        by true q = sym (or_right (is_some (σ j)) (nat_eq j i || false) (ap (λ b. b || false) ((Decides-eqb j i).1 (sym ((Decides-eqb i j).0 q)))))
+        by true q = sym (or_second (is_some (σ j)) (nat_eq j i || false) (ap (λ b. b || false) ((Decides-eqb j i).1 (sym ((Decides-eqb i j).0 q)))))
         by false q = sym (ap (λ b. is_some (σ j) || (b || false)) (other (nat_eq j i) refl) ∙ or_false (is_some (σ j)))
           where
             other : (b : Bool) → nat_eq j i ≡ b → b ≡ false
@@ -155,7 +152,7 @@ matches_cons σ τ ρ p t ps ts m n = record {
       n.names i ∙ ap (λ b. b || occurs_in i ps) (m.names i ∙ ap (λ b. is_some (σ i) || b) (or_false (occurs i p))) ∙ or_assoc (is_some (σ i)) (occurs i p) (occurs_in i ps);
   equal =
       let one : put τ p ∷ [] ≡ t ∷ [] = m.equal in
-      let same : map (put ρ) (p ∷ []) ≡ map (put τ) (p ∷ []) = more_put τ ρ (p ∷ []) n.extends (λ i o. m.names i ∙ or_right (is_some (σ i)) (occurs i p || false) o) in
+      let same : map (put ρ) (p ∷ []) ≡ map (put τ) (p ∷ []) = more_put τ ρ (p ∷ []) n.extends (λ i o. m.names i ∙ or_second (is_some (σ i)) (occurs i p || false) o) in
       let first : put ρ p ≡ t = cc in
       ap₂ ◌∷◌ first n.equal;
 }
@@ -190,7 +187,7 @@ module _ (σ ρ : Assignment) (p t : Tree) (ps ts : List Tree) (m : Matches σ (
     extends = λ i u e. ap (λ b. if b then ρ i else None) (ap (λ o. is_some o || occurs i p) e) ∙ m.extends i u e;
     names = λ i. between_some i ∙ ap (λ b. is_some (σ i) || b) (sym (or_false (occurs i p)));
     equal =
-        let agree : put between p ≡ put ρ p = put_agree between ρ p (λ j o. ap (λ b. if b then ρ j else None) (or_right (is_some (σ j)) (occurs j p) o)) in
+        let agree : put between p ≡ put ρ p = put_agree between ρ p (λ j o. ap (λ b. if b then ρ j else None) (or_second (is_some (σ j)) (occurs j p) o)) in
         let e : put ρ p ∷ map (put ρ) ps ≡ t ∷ ts = m.equal in
         let first : put ρ p ≡ t = cc in
         ap (λ u. u ∷ []) (agree ∙ first);
@@ -211,7 +208,7 @@ pub matches_later : (σ τ : Assignment) (p t : Tree) → ((i : ℕ) (u : Tree) 
 matches_later σ τ p t more m = record {
   extends = λ i u e. e;
   names = λ i. by i (occurs i p || false) refl;
-  equal = more_put σ τ (p ∷ []) more (λ i o. m.names i ∙ or_right (is_some (σ i)) (occurs i p || false) o) ∙ m.equal;
+  equal = more_put σ τ (p ∷ []) more (λ i o. m.names i ∙ or_second (is_some (σ i)) (occurs i p || false) o) ∙ m.equal;
 }
   where
     some : (i : ℕ) (o : Option Tree) → σ i ≡ o → is_some o ≡ true → is_some (τ i) ≡ true
@@ -219,7 +216,7 @@ matches_later σ τ p t more m = record {
     some i (Some u) e h = ap is_some (more i u e)
 
     by : (i : ℕ) (b : Bool) → (occurs i p || false) ≡ b → is_some (τ i) ≡ (is_some (τ i) || b)
-    by i true e = let own : is_some (τ i) ≡ true = some i (σ i) refl (m.names i ∙ or_right (is_some (σ i)) (occurs i p || false) e) in own ∙ sym (or_right (is_some (τ i)) true refl)
+    by i true e = let own : is_some (τ i) ≡ true = some i (σ i) refl (m.names i ∙ or_second (is_some (σ i)) (occurs i p || false) e) in own ∙ sym (or_second (is_some (τ i)) true refl)
     by i false e = sym (or_false (is_some (τ i)))
 
 -- what was matched is matched from there
@@ -227,7 +224,7 @@ pub matches_again : (σ τ : Assignment) (p t : Tree) → Matches σ (p ∷ []) 
 matches_again σ τ p t m = record { extends = λ i u e. e; names = λ i. by i (occurs i p || false) refl; equal = m.equal }
   where
     by : (i : ℕ) (b : Bool) → (occurs i p || false) ≡ b → is_some (τ i) ≡ (is_some (τ i) || b)
-    by i true e = let own : is_some (τ i) ≡ true = m.names i ∙ or_right (is_some (σ i)) (occurs i p || false) e in own ∙ sym (or_right (is_some (τ i)) true refl)
+    by i true e = let own : is_some (τ i) ≡ true = m.names i ∙ or_second (is_some (σ i)) (occurs i p || false) e in own ∙ sym (or_second (is_some (τ i)) true refl)
     by i false e = sym (or_false (is_some (τ i)))
 
 pub still_matched : (ts : List Tree) (σ τ : Assignment) (m : List (Option (ℕ × ℕ))) → ((i : ℕ) (u : Tree) → σ i ≡ Some u → τ i ≡ Some u) → AreMatched ts σ m → AreMatched ts τ m
@@ -305,7 +302,7 @@ op_leads σ c ts us = record {
 pub argument_occurs : (i : ℕ) (ts : Trees) (k : ℕ) → k < count_of ts → occurs i (argument_at ts k) ≡ true → occurs_in i (to_list ts) ≡ true
 argument_occurs i NoTree k l o = absurd (omega arith)
 argument_occurs i (More t ts) zero l o = ap (λ b. b || occurs_in i (to_list ts)) o
-argument_occurs i (More t ts) (suc k) l o = or_right (occurs i t) (occurs_in i (to_list ts)) (argument_occurs i ts k (omega arith) o)
+argument_occurs i (More t ts) (suc k) l o = or_second (occurs i t) (occurs_in i (to_list ts)) (argument_occurs i ts k (omega arith) o)
 
 pub args_occur : (i : ℕ) (ts : Trees) → occurs_in i (to_list ts) ≡ true → occurs_in_all i ts ≡ true
 args_occur i ts o = occurs_listed i ts ∙ o
@@ -358,18 +355,18 @@ slot_more n m l None h = tt
 slot_more n m l (Some i) h = omega arith
 
 -- what is held stays while the table grows
-pub holds_grown : (s : Slots) (old new : Terms) → AreBelow (length old.trees) s → Grows old new → Holds s old.trees new.trees
+pub holds_grown : (s : Slots) (old new : Terms) → AreBelow (length old.trees) s → Since old new → Holds s old.trees new.trees
 holds_grown s old new h g = record {
   held = fun_ext (λ j. slot_same (length old.trees) old.trees new.trees (record { at = g.tree }) s.values j h.slots);
   below = record { slots = All-weaker (SlotBelow (length old.trees)) (SlotBelow (length new.trees)) (slot_more (length old.trees) (length new.trees) g.more_trees) s.values h.slots };
 }
 
 -- and what a term becomes
-pub put_later : (s : Slots) (old new : Terms) (k : ℕ) → AreBelow (length old.trees) s → Grows old new → k < length old.trees → put (held new.trees s) (tree_at new.trees k) ≡ put (held old.trees s) (tree_at old.trees k)
+pub put_later : (s : Slots) (old new : Terms) (k : ℕ) → AreBelow (length old.trees) s → Since old new → k < length old.trees → put (held new.trees s) (tree_at new.trees k) ≡ put (held old.trees s) (tree_at old.trees k)
 put_later s old new k h g l = λ i. put ((holds_grown s old new h g).held i) (g.tree k l i)
 
 -- what a memo tells stays
-pub puts_grown : (s : Slots) (old new : Terms) (m : List (ℕ × ℕ)) → AreBelow (length old.trees) s → Grows old new → TellsOnly (IsPut (held old.trees s) old.trees) m → TellsOnly (IsPut (held new.trees s) new.trees) m
+pub puts_grown : (s : Slots) (old new : Terms) (m : List (ℕ × ℕ)) → AreBelow (length old.trees) s → Since old new → TellsOnly (IsPut (held old.trees s) old.trees) m → TellsOnly (IsPut (held new.trees s) new.trees) m
 puts_grown s old new m h g t =
     let same = (holds_grown s old new h g).held in
     tells_weaker (IsPut (held old.trees s) old.trees) (IsPut (held new.trees s) new.trees) m (λ k v p. record {
@@ -383,7 +380,7 @@ abbrev pub Overtops : Assignment → List Tree → ℕ → ℕ → Type 0
 Overtops σ ts id k = is_tall (put σ (tree_at ts k)) ≡ true → is_tall (put σ (tree_at ts id)) ≡ true
 
 -- a step of the walk for the term id, at the term k, with the table old at its start, mid before the step and new after it
-module _ (s : Slots) (old mid new : Terms) (id k : ℕ) (b : AreBelow (length old.trees) s) (g : Grows old mid) (r : Overtops (held old.trees s) old.trees id k) (l : k < length old.trees) where
+module _ (s : Slots) (old mid new : Terms) (id k : ℕ) (b : AreBelow (length old.trees) s) (g : Since old mid) (r : Overtops (held old.trees s) old.trees id k) (l : k < length old.trees) where
   pub step_tall : is_tall (put (held mid.trees s) (tree_at mid.trees k)) ≡ true → is_tall (put (held old.trees s) (tree_at old.trees id)) ≡ true
   step_tall h = r (ap is_tall (sym (put_later s old mid k b g l)) ∙ h)
 
@@ -395,7 +392,7 @@ module _ (s : Slots) (old mid new : Terms) (id k : ℕ) (b : AreBelow (length ol
       let same : put (held mid.trees s) (tree_at mid.trees k) ≡ put (held old.trees s) (tree_at old.trees id) = put_later s old mid k b g l ∙ ap (λ j. put (held old.trees s) (tree_at old.trees j)) e in
       record { live = p.live; tree = p.tree ∙ same; low = ap is_tall (sym same) ∙ p.low }
 
-  pub step_kept : (v : ℕ) (m n : List (ℕ × ℕ)) → Grows mid new → ((j : ℕ) → told n j ≡ (if nat_eq k j then Some v else told m j)) → TellsOnly (IsPut (held mid.trees s) mid.trees) m → IsMade (held mid.trees s) mid.trees k new.trees v → TellsOnly (IsPut (held new.trees s) new.trees) n
+  pub step_kept : (v : ℕ) (m n : List (ℕ × ℕ)) → Since mid new → ((j : ℕ) → told n j ≡ (if nat_eq k j then Some v else told m j)) → TellsOnly (IsPut (held mid.trees s) mid.trees) m → IsMade (held mid.trees s) mid.trees k new.trees v → TellsOnly (IsPut (held new.trees s) new.trees) n
   step_kept v m n w f t p =
       let below = (holds_grown s old mid b g).below in
       let live : k < length mid.trees = omega (arith, l, g.more_trees) in
@@ -410,12 +407,6 @@ pub told_put : (σ : Assignment) (ts : List Tree) (m : List (ℕ × ℕ)) (k : �
 told_put σ ts m k None e h = (tt, (tt, sym e))
 told_put σ ts m k (Some v) e h = let p = h k v (sym e) in (p.made, (p.tree, tt))
 
-pub slot_live : (n : ℕ) (vs : List (Option ℕ)) (j v : ℕ) → All (SlotBelow n) vs → option_flatten (slice_get vs j) ≡ Some v → v < n
-slot_live n [] j v h e = absurd (none-some v e)
-slot_live n (None ∷ vs) zero v h e = absurd (none-some v e)
-slot_live n (Some i ∷ vs) zero v h e = subst (λ k. k < n) (same_Some i v e) (All-head (SlotBelow n) (Some i) vs h)
-slot_live n (o ∷ vs) (suc j) v h e = slot_live n vs j v (All-tail (SlotBelow n) o vs h) e
-
 -- what is put in for the arguments, place by place
 pub args_put : (σ : Assignment) (us : List Tree) (xs : List ℕ) (ts : Trees) (n : ℕ) → count_of ts ≡ n → n ≤ length xs → ((k : ℕ) → k < n → tree_at us (get_or xs k 0) ≡ put σ (argument_at ts k)) → trees_at us (take n xs) ≡ put_all σ ts
 args_put σ us xs NoTree zero e l h = refl
@@ -423,10 +414,3 @@ args_put σ us xs NoTree (suc n) e l h = absurd (omega arith)
 args_put σ us xs (More t ts) zero e l h = absurd (omega arith)
 args_put σ us [] (More t ts) (suc n) e l h = absurd (omega arith)
 args_put σ us (x ∷ xs) (More t ts) (suc n) e l h = λ i. More (h 0 (omega arith) i) (args_put σ us xs ts n (omega arith) (omega arith) (λ k m. h (suc k) (omega arith)) i)
-
-pub set_done : (P : ℕ → ℕ → Type 0) (xs : List ℕ) (i v : ℕ) → i < length xs → ((k : ℕ) → k < i → P k (get_or xs k 0)) → P i v → (k : ℕ) → k < i + 1 → P k (get_or (set xs i v) k 0)
-set_done P [] i v l h p k m = absurd (omega arith)
-set_done P (x ∷ xs) zero v l h p zero m = p
-set_done P (x ∷ xs) zero v l h p (suc k) m = absurd (omega arith)
-set_done P (x ∷ xs) (suc i) v l h p zero m = h 0 (omega arith)
-set_done P (x ∷ xs) (suc i) v l h p (suc k) m = set_done (λ j w. P (suc j) w) xs i v (omega arith) (λ j o. h (suc j) (omega arith)) p k (omega arith)

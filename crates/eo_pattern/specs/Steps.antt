@@ -1,11 +1,17 @@
 -- Steps of substitution.
-use Rattle.std.specs.Prelude.{◌≡◌, ℕ, ◌<◌, true, false, List, length, None}
+use Rattle.std.specs.Prelude.{◌≡◌, ℕ, ◌<◌, true, false, List, length, None, Result, Ok, Err}
 use Rattle.eo_term.specs.Tree.{Tree, is_tall}
 use Rattle.eo_term.specs.Memo.{told}
-use Rattle.eo_term.specs.Terms.{tree_at}
+use Rattle.eo_term.specs.Terms.{Terms, tree_at}
+use Rattle.eo_term.specs.Growth.{tree_in}
 use Rattle.eo_pattern.specs.Matching.{Assignment, put}
+use Rattle.eo_pattern.specs.Slots.{Slots, held}
 use Rattle.eo_term.specs.declared.walk.Step.{Step}
 use Rattle.eo_term.specs.declared.walk.Step.TheVariants as step
+
+-- the term with what stands for its parameters put in, as a tree
+abbrev pub put_in : Terms → Slots → ℕ → Tree
+put_in t s i = put (held t.trees s) (tree_in t i)
 
 -- over the trees new, the term v is the term k of the trees ts with what stands for its parameters put in, and it is not too tall
 pub record IsMade (σ : Assignment) (ts : List Tree) (k : ℕ) (new : List Tree) (v : ℕ) : Type 0 where
@@ -18,6 +24,23 @@ pub record IsNext (σ : Assignment) (ts : List Tree) (memo : List (ℕ × ℕ)) 
   pub older : p < k
   pub untold : told memo p ≡ None
   pub tall : is_tall (put σ (tree_at ts p)) ≡ true → is_tall (put σ (tree_at ts k)) ≡ true
+
+-- the term p is older than the term k, and where it becomes too tall, so does k
+pub record IsInside (σ : Assignment) (ts : List Tree) (k p : ℕ) : Type 0 where
+  pub older : p < k
+  pub tall : is_tall (put σ (tree_at ts p)) ≡ true → is_tall (put σ (tree_at ts k)) ≡ true
+
+-- the terms r are the terms p and q with what stands for their parameters put in
+pub record ArePut (σ : Assignment) (ts : List Tree) (p q : ℕ) (r : ℕ × ℕ) : Type 0 where
+  pub first : r.0 < length ts
+  pub second : r.1 < length ts
+  pub first_tree : tree_at ts r.0 ≡ put σ (tree_at ts p)
+  pub second_tree : tree_at ts r.1 ≡ put σ (tree_at ts q)
+
+-- the parts p and q of the term k become these terms, or one of them has to be made first
+abbrev pub AreKnown : Assignment → List Tree → List (ℕ × ℕ) → ℕ → ℕ → ℕ → Result (ℕ × ℕ) ℕ → Type 0
+AreKnown σ ts memo k p q (Ok r) = ArePut σ ts p q r
+AreKnown σ ts memo k p q (Err part) = IsNext σ ts memo k part
 
 -- the term k is made, or a part has to be made first
 abbrev pub IsStep : Assignment → List Tree → List (ℕ × ℕ) → ℕ → List Tree → Step → Type 0

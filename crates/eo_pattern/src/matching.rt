@@ -1,11 +1,9 @@
 //! Matching of patterns with terms.
-ghost use Rattle.std.specs.Prelude.{◌≡◌, ℕ, ◌<◌, ◌≤◌, List, [], ◌∷◌, length, map, true, IsTrue, IsFalse, All, Some, None};
-ghost use Rattle.eo_term.specs.Tree.{Tree, Par, occurs_in, to_list};
-ghost use Rattle.eo_term.specs.Terms.{tree_at};
-ghost use Rattle.eo_pattern.specs.Matching.{Assignment, Matches, matching, empty};
-ghost use Rattle.eo_pattern.specs.Slots.{held, AreBelow, AreEmpty, HasRoom, HasPars, Keeps};
-ghost use Rattle.eo_pattern.specs.Matched.{AreMatched};
-ghost use Rattle.eo_term.specs.Arguments.{count_of, arguments_of};
+ghost use Rattle.std.specs.Prelude.{◌<◌, [], ◌∷◌, length, IsTrue, IsFalse, All};
+ghost use Rattle.eo_term.specs.Tree.{Par};
+ghost use Rattle.eo_term.specs.Growth.{tree_in};
+ghost use Rattle.eo_pattern.specs.Slots.{held, AreBelow, AreEmpty, HasRoom, Keeps};
+ghost use Rattle.eo_pattern.specs.Matched.{ArePaired, IsPair, ArePairs, Matched, Unmatched, MatchedTrees, UnmatchedTrees, args_in, AreMatched};
 ghost use Rattle.eo_pattern.specs.Split.{IsSplit};
 
 use crate::Subst;
@@ -19,13 +17,11 @@ use eo_term::{Id, Node, Table};
 /// There are as many terms as patterns, all are live, and the assignment has room for the patterns.
 /// No memory is taken.
 pub fn match_terms(table: &Table, patterns: &[Id], terms: &[Id], subst: &mut Subst) -> bool
-    requires count { length patterns.now ≡ length terms.now }
-    requires patterns { All (λ i. i < length table.now.trees) patterns.now }
-    requires terms { All (λ i. i < length table.now.trees) terms.now }
-    requires room { All (λ i. HasRoom subst.old (tree_at table.now.trees i)) patterns.now }
+    requires paired { ArePaired table.now patterns.now terms.now }
+    requires room { All (λ i. HasRoom subst.old (tree_in table.now i)) patterns.now }
     requires below { AreBelow (length table.now.trees) subst.old }
-    ensures yes { IsTrue result → Matches (held table.now.trees subst.old) (map (tree_at table.now.trees) patterns.now) (map (tree_at table.now.trees) terms.now) (held table.now.trees subst.new) }
-    ensures no { IsFalse result → (σ : Assignment) → Matches (held table.now.trees subst.old) (map (tree_at table.now.trees) patterns.now) (map (tree_at table.now.trees) terms.now) σ → ⊥ }
+    ensures yes { IsTrue result → Matched table.now subst.old patterns.now terms.now subst.new }
+    ensures no { IsFalse result → Unmatched table.now subst.old patterns.now terms.now }
     ensures empty { IsFalse result → AreEmpty subst.new }
     ensures kept { Keeps (length table.now.trees) subst.old subst.new }
 {
@@ -40,12 +36,10 @@ pub fn match_terms(table: &Table, patterns: &[Id], terms: &[Id], subst: &mut Sub
 
 // The same for one pattern and one term, but that after `false` anything may be held.
 fn match_pattern(table: &Table, pattern: Id, term: Id, subst: &mut Subst) -> bool
-    requires pattern { pattern < length table.now.trees }
-    requires term { term < length table.now.trees }
-    requires room { HasPars subst.old (tree_at table.now.trees pattern) }
+    requires pair { IsPair table.now subst.old pattern term }
     requires below { AreBelow (length table.now.trees) subst.old }
-    ensures yes { IsTrue result → Matches (held table.now.trees subst.old) (tree_at table.now.trees pattern ∷ []) (tree_at table.now.trees term ∷ []) (held table.now.trees subst.new) }
-    ensures no { IsFalse result → (σ : Assignment) → Matches (held table.now.trees subst.old) (tree_at table.now.trees pattern ∷ []) (tree_at table.now.trees term ∷ []) σ → ⊥ }
+    ensures yes { IsTrue result → Matched table.now subst.old (pattern ∷ []) (term ∷ []) subst.new }
+    ensures no { IsFalse result → Unmatched table.now subst.old (pattern ∷ []) (term ∷ []) }
     ensures kept { Keeps (length table.now.trees) subst.old subst.new }
 {
     let height = table.height(pattern);
@@ -58,12 +52,10 @@ fn match_pattern(table: &Table, pattern: Id, term: Id, subst: &mut Subst) -> boo
 
 // The same for a pattern with many parts, whose pairs are kept.
 fn match_large(table: &Table, pattern: Id, term: Id, subst: &mut Subst) -> bool
-    requires pattern { pattern < length table.now.trees }
-    requires term { term < length table.now.trees }
-    requires room { HasPars subst.old (tree_at table.now.trees pattern) }
+    requires pair { IsPair table.now subst.old pattern term }
     requires below { AreBelow (length table.now.trees) subst.old }
-    ensures yes { IsTrue result → Matches (held table.now.trees subst.old) (tree_at table.now.trees pattern ∷ []) (tree_at table.now.trees term ∷ []) (held table.now.trees subst.new) }
-    ensures no { IsFalse result → (σ : Assignment) → Matches (held table.now.trees subst.old) (tree_at table.now.trees pattern ∷ []) (tree_at table.now.trees term ∷ []) σ → ⊥ }
+    ensures yes { IsTrue result → Matched table.now subst.old (pattern ∷ []) (term ∷ []) subst.new }
+    ensures no { IsFalse result → Unmatched table.now subst.old (pattern ∷ []) (term ∷ []) }
     ensures kept { Keeps (length table.now.trees) subst.old subst.new }
 {
     let mut matched = [None; PAIRS];
@@ -79,13 +71,11 @@ fn match_one(
     subst: &mut Subst,
     matched: &mut [Option<(Id, Id)>],
 ) -> bool
-    requires pattern { pattern < length table.now.trees }
-    requires term { term < length table.now.trees }
-    requires room { HasPars subst.old (tree_at table.now.trees pattern) }
+    requires pair { IsPair table.now subst.old pattern term }
     requires below { AreBelow (length table.now.trees) subst.old }
     requires matched { AreMatched table.now.trees (held table.now.trees subst.old) matched.old }
-    ensures yes { IsTrue result → Matches (held table.now.trees subst.old) (tree_at table.now.trees pattern ∷ []) (tree_at table.now.trees term ∷ []) (held table.now.trees subst.new) }
-    ensures no { IsFalse result → (σ : Assignment) → Matches (held table.now.trees subst.old) (tree_at table.now.trees pattern ∷ []) (tree_at table.now.trees term ∷ []) σ → ⊥ }
+    ensures yes { IsTrue result → Matched table.now subst.old (pattern ∷ []) (term ∷ []) subst.new }
+    ensures no { IsFalse result → Unmatched table.now subst.old (pattern ∷ []) (term ∷ []) }
     ensures matched { IsTrue result → AreMatched table.now.trees (held table.now.trees subst.new) matched.new }
     ensures kept { Keeps (length table.now.trees) subst.old subst.new }
 {
@@ -104,13 +94,11 @@ fn match_tall(
     subst: &mut Subst,
     matched: &mut [Option<(Id, Id)>],
 ) -> bool
-    requires pattern { pattern < length table.now.trees }
-    requires term { term < length table.now.trees }
-    requires room { HasPars subst.old (tree_at table.now.trees pattern) }
+    requires pair { IsPair table.now subst.old pattern term }
     requires below { AreBelow (length table.now.trees) subst.old }
     requires matched { AreMatched table.now.trees (held table.now.trees subst.old) matched.old }
-    ensures yes { IsTrue result → Matches (held table.now.trees subst.old) (tree_at table.now.trees pattern ∷ []) (tree_at table.now.trees term ∷ []) (held table.now.trees subst.new) }
-    ensures no { IsFalse result → (σ : Assignment) → Matches (held table.now.trees subst.old) (tree_at table.now.trees pattern ∷ []) (tree_at table.now.trees term ∷ []) σ → ⊥ }
+    ensures yes { IsTrue result → Matched table.now subst.old (pattern ∷ []) (term ∷ []) subst.new }
+    ensures no { IsFalse result → Unmatched table.now subst.old (pattern ∷ []) (term ∷ []) }
     ensures matched { IsTrue result → AreMatched table.now.trees (held table.now.trees subst.new) matched.new }
     ensures kept { Keeps (length table.now.trees) subst.old subst.new }
 {
@@ -133,13 +121,11 @@ fn match_roots(
     subst: &mut Subst,
     matched: &mut [Option<(Id, Id)>],
 ) -> bool
-    requires pattern { pattern < length table.now.trees }
-    requires term { term < length table.now.trees }
-    requires room { HasPars subst.old (tree_at table.now.trees pattern) }
+    requires pair { IsPair table.now subst.old pattern term }
     requires below { AreBelow (length table.now.trees) subst.old }
     requires matched { AreMatched table.now.trees (held table.now.trees subst.old) matched.old }
-    ensures yes { IsTrue result → Matches (held table.now.trees subst.old) (tree_at table.now.trees pattern ∷ []) (tree_at table.now.trees term ∷ []) (held table.now.trees subst.new) }
-    ensures no { IsFalse result → (σ : Assignment) → Matches (held table.now.trees subst.old) (tree_at table.now.trees pattern ∷ []) (tree_at table.now.trees term ∷ []) σ → ⊥ }
+    ensures yes { IsTrue result → Matched table.now subst.old (pattern ∷ []) (term ∷ []) subst.new }
+    ensures no { IsFalse result → Unmatched table.now subst.old (pattern ∷ []) (term ∷ []) }
     ensures matched { IsTrue result → AreMatched table.now.trees (held table.now.trees subst.new) matched.new }
     ensures kept { Keeps (length table.now.trees) subst.old subst.new }
 {
@@ -164,16 +150,12 @@ fn match_two(
     subst: &mut Subst,
     matched: &mut [Option<(Id, Id)>],
 ) -> bool
-    requires p { p < length table.now.trees }
-    requires q { q < length table.now.trees }
-    requires t { t < length table.now.trees }
-    requires u { u < length table.now.trees }
-    requires room_p { HasPars subst.old (tree_at table.now.trees p) }
-    requires room_q { HasPars subst.old (tree_at table.now.trees q) }
+    requires first { IsPair table.now subst.old p t }
+    requires second { IsPair table.now subst.old q u }
     requires below { AreBelow (length table.now.trees) subst.old }
     requires matched { AreMatched table.now.trees (held table.now.trees subst.old) matched.old }
-    ensures yes { IsTrue result → Matches (held table.now.trees subst.old) (tree_at table.now.trees p ∷ tree_at table.now.trees q ∷ []) (tree_at table.now.trees t ∷ tree_at table.now.trees u ∷ []) (held table.now.trees subst.new) }
-    ensures no { IsFalse result → (σ : Assignment) → Matches (held table.now.trees subst.old) (tree_at table.now.trees p ∷ tree_at table.now.trees q ∷ []) (tree_at table.now.trees t ∷ tree_at table.now.trees u ∷ []) σ → ⊥ }
+    ensures yes { IsTrue result → Matched table.now subst.old (p ∷ q ∷ []) (t ∷ u ∷ []) subst.new }
+    ensures no { IsFalse result → Unmatched table.now subst.old (p ∷ q ∷ []) (t ∷ u ∷ []) }
     ensures matched { IsTrue result → AreMatched table.now.trees (held table.now.trees subst.new) matched.new }
     ensures kept { Keeps (length table.now.trees) subst.old subst.new }
 {
@@ -193,15 +175,11 @@ fn match_args(
     subst: &mut Subst,
     matched: &mut [Option<(Id, Id)>],
 ) -> bool
-    requires pattern { pattern < length table.now.trees }
-    requires term { term < length table.now.trees }
-    requires count { count_of (arguments_of (tree_at table.now.trees pattern)) ≡ count }
-    requires same { count_of (arguments_of (tree_at table.now.trees term)) ≡ count }
-    requires room { (i : ℕ) → occurs_in i (to_list (arguments_of (tree_at table.now.trees pattern))) ≡ true → i < length subst.old.values }
+    requires pairs { ArePairs table.now subst.old pattern term count }
     requires below { AreBelow (length table.now.trees) subst.old }
     requires matched { AreMatched table.now.trees (held table.now.trees subst.old) matched.old }
-    ensures yes { IsTrue result → Matches (held table.now.trees subst.old) (to_list (arguments_of (tree_at table.now.trees pattern))) (to_list (arguments_of (tree_at table.now.trees term))) (held table.now.trees subst.new) }
-    ensures no { IsFalse result → (σ : Assignment) → Matches (held table.now.trees subst.old) (to_list (arguments_of (tree_at table.now.trees pattern))) (to_list (arguments_of (tree_at table.now.trees term))) σ → ⊥ }
+    ensures yes { IsTrue result → MatchedTrees table.now subst.old (args_in table.now pattern) (args_in table.now term) subst.new }
+    ensures no { IsFalse result → UnmatchedTrees table.now subst.old (args_in table.now pattern) (args_in table.now term) }
     ensures matched { IsTrue result → AreMatched table.now.trees (held table.now.trees subst.new) matched.new }
     ensures kept { Keeps (length table.now.trees) subst.old subst.new }
 {
@@ -305,8 +283,8 @@ fn match_par(table: &Table, i: u8, term: Id, subst: &mut Subst) -> bool
     requires term { term < length table.now.trees }
     requires room { i < length subst.old.values }
     requires below { AreBelow (length table.now.trees) subst.old }
-    ensures yes { IsTrue result → Matches (held table.now.trees subst.old) (Par i ∷ []) (tree_at table.now.trees term ∷ []) (held table.now.trees subst.new) }
-    ensures no { IsFalse result → (σ : Assignment) → Matches (held table.now.trees subst.old) (Par i ∷ []) (tree_at table.now.trees term ∷ []) σ → ⊥ }
+    ensures yes { IsTrue result → MatchedTrees table.now subst.old (Par i ∷ []) (tree_in table.now term ∷ []) subst.new }
+    ensures no { IsFalse result → UnmatchedTrees table.now subst.old (Par i ∷ []) (tree_in table.now term ∷ []) }
     ensures kept { Keeps (length table.now.trees) subst.old subst.new }
 {
     match subst.get(i) {

@@ -3,11 +3,12 @@ ghost use Rattle.std.specs.Prelude.{◌≡◌, ℕ, ◌<◌, ◌≤◌, [], leng
 ghost use Rattle.eo_term.specs.Tree.{Op, Par, is_tall};
 ghost use Rattle.eo_term.specs.Memo.{told, TellsOnly};
 ghost use Rattle.eo_term.specs.Refused.{IsTall};
-ghost use Rattle.eo_term.specs.Terms.{Terms, tree_at, Grows, HasArity};
+ghost use Rattle.eo_term.specs.Terms.{Terms, tree_at, HasArity};
+ghost use Rattle.eo_term.specs.Growth.{Grows, tree_in};
 ghost use Rattle.eo_term.specs.Arguments.{arguments_of, count_of};
 ghost use Rattle.eo_pattern.specs.Matching.{put};
 ghost use Rattle.eo_pattern.specs.Slots.{held, AreBelow, Holds, IsPut, IsAssigned};
-ghost use Rattle.eo_pattern.specs.Steps.{IsStep};
+ghost use Rattle.eo_pattern.specs.Steps.{put_in, IsStep, IsInside, AreKnown};
 
 use crate::Subst;
 use eo_base::limits::PARAMETERS;
@@ -29,7 +30,6 @@ pub fn substitute(table: &mut Table, subst: &Subst, id: Id) -> Result<Id, TermRe
     ensures err { OnErr result (table.new ≡ table.old) }
     ensures holds { Holds subst.now table.old.trees table.new.trees }
     ensures grows { Grows table.old table.new }
-    ensures grown { (t : Terms) → Grows t table.old → Grows t table.new }
 {
     let mark = table.mark();
     let made = put_from(table, subst, id);
@@ -44,13 +44,12 @@ fn put_from(table: &mut Table, subst: &Subst, id: Id) -> Result<Id, TermRefused>
     requires live { id < length table.old.trees }
     requires below { AreBelow (length table.old.trees) subst.now }
     ensures live { IfOk result (λ i. i < length table.new.trees) }
-    ensures tree { IfOk result (λ i. tree_at table.new.trees i ≡ put (held table.old.trees subst.now) (tree_at table.old.trees id)) }
-    ensures tall { IsTall result → is_tall (put (held table.old.trees subst.now) (tree_at table.old.trees id)) ≡ true }
-    ensures low { IfOk result (λ _. is_tall (put (held table.old.trees subst.now) (tree_at table.old.trees id)) ≡ false) }
+    ensures tree { IfOk result (λ i. tree_in table.new i ≡ put_in table.old subst.now id) }
+    ensures tall { IsTall result → is_tall (put_in table.old subst.now id) ≡ true }
+    ensures low { IfOk result (λ _. is_tall (put_in table.old subst.now id) ≡ false) }
     ensures grows { Grows table.old table.new }
-    ensures grown { (t : Terms) → Grows t table.old → Grows t table.new }
 {
-    let _low = table.len();
+    table.laws();
     let assigned = subst.assigned();
     if table.parameters(id).is_apart(assigned) {
         return Ok(id);
@@ -72,11 +71,10 @@ fn put_walk(
     requires told { (k : ℕ) → told walk.old.memo k ≡ None }
     requires waiting { walk.old.waiting ≡ [] }
     ensures live { IfOk result (λ i. i < length table.new.trees) }
-    ensures tree { IfOk result (λ i. tree_at table.new.trees i ≡ put (held table.old.trees subst.now) (tree_at table.old.trees walk.old.top)) }
-    ensures tall { IsTall result → is_tall (put (held table.old.trees subst.now) (tree_at table.old.trees walk.old.top)) ≡ true }
-    ensures low { IfOk result (λ _. is_tall (put (held table.old.trees subst.now) (tree_at table.old.trees walk.old.top)) ≡ false) }
+    ensures tree { IfOk result (λ i. tree_in table.new i ≡ put_in table.old subst.now walk.old.top) }
+    ensures tall { IsTall result → is_tall (put_in table.old subst.now walk.old.top) ≡ true }
+    ensures low { IfOk result (λ _. is_tall (put_in table.old subst.now walk.old.top) ≡ false) }
     ensures grows { Grows table.old table.new }
-    ensures grown { (t : Terms) → Grows t table.old → Grows t table.new }
 {
     loop {
         match put_node(table, subst, assigned, walk.memo(), walk.top())? {
@@ -103,11 +101,10 @@ fn put_node(
     requires assigned { IsAssigned assigned.now subst.now }
     requires memo { TellsOnly (IsPut (held table.old.trees subst.now) table.old.trees) memo.now }
     ensures step { IfOk result (λ s. IsStep (held table.old.trees subst.now) table.old.trees memo.now id table.new.trees s) }
-    ensures tall { IsTall result → is_tall (put (held table.old.trees subst.now) (tree_at table.old.trees id)) ≡ true }
+    ensures tall { IsTall result → is_tall (put_in table.old subst.now id) ≡ true }
     ensures grows { Grows table.old table.new }
-    ensures grown { (t : Terms) → Grows t table.old → Grows t table.new }
 {
-    let _low = table.len();
+    table.laws();
     match table.node(id) {
         Node::Par(i) => Ok(Step::Made(put_par(table, subst, id, i))),
         Node::Var { name, ty } => {
@@ -117,46 +114,27 @@ fn put_node(
             let made = table.intern(Node::Var { name, ty: put })?;
             Ok(Step::Made(made))
         }
-        Node::App { fun, arg } => {
-            let Some(put_fun) = known(table, subst, assigned, memo, fun) else {
-                return Ok(Step::Part(fun));
-            };
-            let Some(put_arg) = known(table, subst, assigned, memo, arg) else {
-                return Ok(Step::Part(arg));
-            };
-            let made = table.intern(Node::App {
-                fun: put_fun,
-                arg: put_arg,
-            })?;
-            Ok(Step::Made(made))
-        }
-        Node::Arr { from, to } => {
-            let Some(put_from) = known(table, subst, assigned, memo, from) else {
-                return Ok(Step::Part(from));
-            };
-            let Some(put_to) = known(table, subst, assigned, memo, to) else {
-                return Ok(Step::Part(to));
-            };
-            let made = table.intern(Node::Arr {
-                from: put_from,
-                to: put_to,
-            })?;
-            Ok(Step::Made(made))
-        }
-        Node::Qar { par, ty, to } => {
-            let Some(put_ty) = known(table, subst, assigned, memo, ty) else {
-                return Ok(Step::Part(ty));
-            };
-            let Some(put_to) = known(table, subst, assigned, memo, to) else {
-                return Ok(Step::Part(to));
-            };
-            let made = table.intern(Node::Qar {
-                par,
-                ty: put_ty,
-                to: put_to,
-            })?;
-            Ok(Step::Made(made))
-        }
+        Node::App { fun, arg } => match known_two(table, subst, assigned, memo, id, fun, arg) {
+            Ok((fun, arg)) => {
+                let made = table.intern(Node::App { fun, arg })?;
+                Ok(Step::Made(made))
+            }
+            Err(part) => Ok(Step::Part(part)),
+        },
+        Node::Arr { from, to } => match known_two(table, subst, assigned, memo, id, from, to) {
+            Ok((from, to)) => {
+                let made = table.intern(Node::Arr { from, to })?;
+                Ok(Step::Made(made))
+            }
+            Err(part) => Ok(Step::Part(part)),
+        },
+        Node::Qar { par, ty, to } => match known_two(table, subst, assigned, memo, id, ty, to) {
+            Ok((ty, to)) => {
+                let made = table.intern(Node::Qar { par, ty, to })?;
+                Ok(Step::Made(made))
+            }
+            Err(part) => Ok(Step::Part(part)),
+        },
         Node::Op { code, count } => put_op(table, subst, assigned, memo, id, code, count as usize),
         Node::Con(_) => Ok(Step::Made(id)),
         Node::Num(_) => Ok(Step::Made(id)),
@@ -184,9 +162,8 @@ fn put_op(
     requires arity { HasArity code count }
     requires small { count ≤ 64 }
     ensures step { IfOk result (λ s. IsStep (held table.old.trees subst.now) table.old.trees memo.now id table.new.trees s) }
-    ensures tall { IsTall result → is_tall (put (held table.old.trees subst.now) (tree_at table.old.trees id)) ≡ true }
+    ensures tall { IsTall result → is_tall (put_in table.old subst.now id) ≡ true }
     ensures grows { Grows table.old table.new }
-    ensures grown { (t : Terms) → Grows t table.old → Grows t table.new }
 {
     let mut args = [TYPE; PARAMETERS];
     for i in 0..count {
@@ -200,6 +177,33 @@ fn put_op(
     Ok(Step::Made(made))
 }
 
+// What two parts of the term `id` become, or the first of them that has to be made before.
+fn known_two(
+    table: &Table,
+    subst: &Subst,
+    assigned: &ParamSet,
+    memo: &Memo,
+    id: Id,
+    first: Id,
+    second: Id,
+) -> Result<(Id, Id), Id>
+    requires live { id < length table.now.trees }
+    requires below { AreBelow (length table.now.trees) subst.now }
+    requires assigned { IsAssigned assigned.now subst.now }
+    requires memo { TellsOnly (IsPut (held table.now.trees subst.now) table.now.trees) memo.now }
+    requires first { IsInside (held table.now.trees subst.now) table.now.trees id first }
+    requires second { IsInside (held table.now.trees subst.now) table.now.trees id second }
+    ensures { AreKnown (held table.now.trees subst.now) table.now.trees memo.now id first second result }
+{
+    let Some(put_first) = known(table, subst, assigned, memo, first) else {
+        return Err(first);
+    };
+    let Some(put_second) = known(table, subst, assigned, memo, second) else {
+        return Err(second);
+    };
+    Ok((put_first, put_second))
+}
+
 // What the part of a term becomes, where that is known without its own parts.
 fn known(table: &Table, subst: &Subst, assigned: &ParamSet, memo: &Memo, id: Id) -> Option<Id>
     requires live { id < length table.now.trees }
@@ -207,7 +211,7 @@ fn known(table: &Table, subst: &Subst, assigned: &ParamSet, memo: &Memo, id: Id)
     requires assigned { IsAssigned assigned.now subst.now }
     requires memo { TellsOnly (IsPut (held table.now.trees subst.now) table.now.trees) memo.now }
     ensures live { IfSome result (λ i. i < length table.now.trees) }
-    ensures tree { IfSome result (λ i. tree_at table.now.trees i ≡ put (held table.now.trees subst.now) (tree_at table.now.trees id)) }
+    ensures tree { IfSome result (λ i. tree_in table.now i ≡ put_in table.now subst.now id) }
     ensures untold { IfNone result (told memo.now id ≡ None) }
 {
     if table.parameters(id).is_apart(*assigned) {
@@ -225,10 +229,10 @@ fn put_par(table: &Table, subst: &Subst, id: Id, i: u8) -> Id
     requires below { AreBelow (length table.now.trees) subst.now }
     requires tree { tree_at table.now.trees id ≡ Par i }
     ensures live { result < length table.now.trees }
-    ensures tree { tree_at table.now.trees result ≡ put (held table.now.trees subst.now) (tree_at table.now.trees id) }
-    ensures low { is_tall (put (held table.now.trees subst.now) (tree_at table.now.trees id)) ≡ false }
+    ensures tree { tree_in table.now result ≡ put_in table.now subst.now id }
+    ensures low { is_tall (put_in table.now subst.now id) ≡ false }
 {
-    let _low = table.len();
+    table.laws();
     match subst.get(i) {
         Some(term) => term,
         None => id,

@@ -1,145 +1,102 @@
-ghost use Rattle.std.specs.Prelude.{◌≡◌, ◌<◌, length, All, IfOk};
-ghost use Rattle.eo_term.specs.Tree.{Par};
-ghost use Rattle.eo_term.specs.Terms.{tree_at, Grows};
+mod world;
 
-use super::*;
-use eo_term::{FALSE, HEIGHT_LIMIT, Id, Node, TRUE, Table, TermRefused};
-use std::alloc::{AllocError, Global};
+use eo_term::{FALSE, HEIGHT_LIMIT, Id, TRUE, TermRefused};
+use std::alloc::Global;
 use std::test::Fail;
+use world::World;
 
-// Whether the parameter 0, as two patterns, matches two terms, and what it then stands for.
-fn match_twice(
-    alloc: Global,
-    table: &Table,
-    par: Id,
-    terms: [Id; 2],
-) -> Result<(bool, Option<Id>), AllocError>
-    requires par { par < length table.now.trees }
-    requires tree { tree_at table.now.trees par ≡ Par 0 }
-    requires terms { All (λ i. i < length table.now.trees) terms }
+// What a function tells of a new table. It alone owns one: each way out of a function that does is
+// dear to prove.
+fn tell<T, F: FnOnce(&mut World) -> Result<T, Fail>>(alloc: Global, f: F) -> Result<T, Fail>
+    requires { F.IsAlwaysCallable f }
 {
-    let mut subst = Subst::new(alloc)?;
-    subst.reserve(1, 1)?;
-    let matches = match_terms(table, &[par, par], &terms, &mut subst);
-    Ok((matches, subst.get(0)))
+    let mut world = World::new(alloc)?;
+    f(&mut world)
+}
+
+// Whether the parameter 0, as two patterns, matches equal terms, and what it then stands for.
+fn equal(world: &mut World) -> Result<(bool, Option<Id>), Fail> {
+    let par = world.par(0)?;
+    world.match_twice(par, TRUE, TRUE)
+}
+
+// The same for terms that differ.
+fn different(world: &mut World) -> Result<(bool, Option<Id>), Fail> {
+    let par = world.par(0)?;
+    world.match_twice(par, TRUE, FALSE)
 }
 
 #[test]
 fn a_repeated_parameter_stands_for_equal_trees(rt: HostRuntime) -> Result<(), Fail> {
-    let mut table = Table::new(rt.alloc())?;
-    let par = table.intern(Node::Par(0))?;
-    let equal = match_twice(rt.alloc(), &table, par, [TRUE, TRUE])?;
-    assert_eq!(rt; equal, (true, Some(TRUE)));
-    let different = match_twice(rt.alloc(), &table, par, [TRUE, FALSE])?;
-    assert_eq!(rt; different, (false, None));
+    assert_eq!(rt; tell(rt.alloc(), equal)?, (true, Some(TRUE)));
+    assert_eq!(rt; tell(rt.alloc(), different)?, (false, None));
     Ok(())
 }
 
-// What the pattern becomes with what its match with the term gives, if it matches.
-fn match_and_put(
-    alloc: Global,
-    table: &mut Table,
-    pattern: Id,
-    term: Id,
-) -> Result<Option<Id>, TermRefused>
-    requires pattern { pattern < length table.old.trees }
-    requires term { term < length table.old.trees }
-{
-    let mut subst = Subst::new(alloc)?;
-    let room = table.parameters(pattern).bound();
-    subst.reserve(room, table.height(pattern) as usize)?;
-    if match_terms(table, &[pattern], &[term], &mut subst) {
-        Ok(Some(substitute(table, &subst, pattern)?))
-    } else {
-        Ok(None)
-    }
+// Whether an application of parameters becomes the application that it matches.
+fn application(world: &mut World) -> Result<bool, Fail> {
+    let fun = world.par(0)?;
+    let arg = world.par(1)?;
+    let pattern = world.app(fun, arg)?;
+    let term = world.app(TRUE, FALSE)?;
+    Ok(world.match_and_put(pattern, term)? == Some(term))
 }
 
 #[test]
 fn a_pattern_becomes_the_term_that_it_matches(rt: HostRuntime) -> Result<(), Fail> {
-    let mut table = Table::new(rt.alloc())?;
-    let fun = table.intern(Node::Par(0))?;
-    let arg = table.intern(Node::Par(1))?;
-    let pattern = table.intern(Node::App { fun, arg })?;
-    let term = table.intern(Node::App {
-        fun: TRUE,
-        arg: FALSE,
-    })?;
-    assert_eq!(rt;
-        match_and_put(rt.alloc(), &mut table, pattern, term)?,
-        Some(term)
-    );
+    assert!(rt; tell(rt.alloc(), application)?);
     Ok(())
 }
 
 // The term, applied to itself, applied to itself, and so on: as a tree it has 2^levels leaves.
-fn tower(table: &mut Table, leaf: Id, levels: u32) -> Result<Id, TermRefused>
-    requires { leaf < length table.old.trees }
-    ensures live { IfOk result (λ i. i < length table.new.trees) }
-    ensures grows { Grows table.old table.new }
-{
+fn tower(world: &mut World, leaf: Id, levels: u32) -> Result<Id, Fail> {
     let mut id = leaf;
     for _ in 0..levels {
-        id = table.intern(Node::App { fun: id, arg: id })?;
+        id = world.app(id, id)?;
     }
     Ok(id)
 }
 
-// The term with the other term for the parameter 0.
-fn put_in(alloc: Global, table: &mut Table, term: Id, value: Id) -> Result<Id, TermRefused>
-    requires term { term < length table.old.trees }
-    requires value { value < length table.old.trees }
-    ensures grows { Grows table.old table.new }
-{
-    let _len = table.len();
-    let mut subst = Subst::new(alloc)?;
-    subst.reserve(1, 0)?;
-    subst.put(0, value);
-    substitute(table, &subst, term)
-}
-
-// Whether the value, put into a term of the greatest height, gives the same term over the value.
-fn is_put_in(alloc: Global, table: &mut Table, value: Id) -> Result<bool, TermRefused>
-    requires { value < length table.old.trees }
-{
-    let par = table.intern(Node::Par(0))?;
-    let term = tower(table, par, HEIGHT_LIMIT - 1)?;
-    let made = put_in(alloc, table, term, value)?;
-    let expected = tower(table, value, HEIGHT_LIMIT - 1)?;
-    Ok(made == expected)
+// Whether a number, put into a term of the greatest height, gives the same term over the number.
+fn tallest(world: &mut World) -> Result<bool, Fail> {
+    let par = world.par(0)?;
+    let term = tower(world, par, HEIGHT_LIMIT - 1)?;
+    let number = world.num(7)?;
+    let made = world.put_in(term, number)??;
+    Ok(made == tower(world, number, HEIGHT_LIMIT - 1)?)
 }
 
 #[test]
 fn a_term_of_the_greatest_height_is_put_in(rt: HostRuntime) -> Result<(), Fail> {
-    let mut table = Table::new(rt.alloc())?;
-    let value = table.intern(Node::Num(7))?;
-    assert!(rt; is_put_in(rt.alloc(), &mut table, value)?);
+    assert!(rt; tell(rt.alloc(), tallest)?);
     Ok(())
+}
+
+// Whether an application, put into a term of the greatest height, is refused as too tall.
+fn too_tall(world: &mut World) -> Result<bool, Fail> {
+    let par = world.par(0)?;
+    let term = tower(world, par, HEIGHT_LIMIT - 1)?;
+    let number = world.num(7)?;
+    let value = world.app(number, number)?;
+    Ok(matches!(world.put_in(term, value)?, Err(TermRefused::Tall)))
 }
 
 #[test]
 fn a_term_that_becomes_too_tall_is_refused(rt: HostRuntime) -> Result<(), Fail> {
-    let mut table = Table::new(rt.alloc())?;
-    let number = table.intern(Node::Num(7))?;
-    let value = tower(&mut table, number, 1)?;
-    assert!(rt;
-        matches!(
-            is_put_in(rt.alloc(), &mut table, value),
-            Err(TermRefused::Tall)
-        )
-    );
+    assert!(rt; tell(rt.alloc(), too_tall)?);
     Ok(())
+}
+
+// Whether a tower over a parameter becomes the tower over a constant that it matches.
+fn towers(world: &mut World) -> Result<bool, Fail> {
+    let par = world.par(0)?;
+    let pattern = tower(world, par, 60)?;
+    let term = tower(world, TRUE, 60)?;
+    Ok(world.match_and_put(pattern, term)? == Some(term))
 }
 
 #[test]
 fn shared_parts_are_looked_at_once(rt: HostRuntime) -> Result<(), Fail> {
-    let mut table = Table::new(rt.alloc())?;
-    let par = table.intern(Node::Par(0))?;
-    let pattern = tower(&mut table, par, 60)?;
-    let term = tower(&mut table, TRUE, 60)?;
-    assert_eq!(rt;
-        match_and_put(rt.alloc(), &mut table, pattern, term)?,
-        Some(term)
-    );
+    assert!(rt; tell(rt.alloc(), towers)?);
     Ok(())
 }

@@ -17,7 +17,6 @@ use Rattle.eo_sig.specs.Refused.{Tells as SigTells}
 use Rattle.eo_sig.specs.Reading.{signature, macros, read_named}
 use Rattle.eo_sig.specs.Signature.{Constant, Macro, Named, NamesConstant, NamesMacro, IsConstant, lookup, constant_at, is_reserved, constant_fault}
 use Rattle.eo_term.specs.Tree.{Tree, type_tree, tree_eq, is_value}
-use Rattle.eo_term.proofs.Equality.{tree_same, tree_refl}
 use Rattle.eo_names.specs.declared.refused.ElabRefused.{ElabRefused}
 use Rattle.eo_names.specs.Refused.{told as elab_told}
 use Rattle.eo_elab.specs.Declarations.{is_named_by_reference, is_reference_name, is_free_or_reference}
@@ -174,36 +173,28 @@ module _ (st : State) (d : Macro) where
 
 -- ---- repeats
 
-same_tree : (r : Bool) (a b : Tree) → (IsTrue r ↔ (a ≡ b)) → tree_eq a b ≡ r
-same_tree true a b h = subst (λ (t : Tree). tree_eq a t ≡ true) (h.0 refl) (tree_refl a)
-same_tree false a b h = not_true (tree_eq a b) (λ e. true≢false (sym (h.1 (tree_same a b e))))
-  where
-    not_true : (x : Bool) → (x ≡ true → ⊥) → x ≡ false
-    not_true true f = absurd (f refl)
-    not_true false f = refl
-
 -- a constant that is found is repeated where the types are the same
-pub repeats_found : (st : State) (d old : Constant) (k : ℕ) (n : Named) (r : Bool) → n ≡ NamesConstant k → constant_at st.signature k ≡ Some old → is_plain d.attribute ≡ true → old.from_reference ≡ true → (IsTrue r ↔ (old.type ≡ d.type)) → r ≡ repeats_constant st d (Some n)
+pub repeats_found : (st : State) (d old : Constant) (k : ℕ) (n : Named) (r : Bool) → n ≡ NamesConstant k → constant_at st.signature k ≡ Some old → is_plain d.attribute ≡ true → old.from_reference ≡ true → r ≡ tree_eq old.type d.type → r ≡ repeats_constant st d (Some n)
 repeats_found st d old k n r e at plain from h =
     sym
     (ap (λ m. repeats_constant st d (Some m)) e
     ∙ ap (λ o. is_plain d.attribute && option_map_or (λ (old : Constant). old.from_reference && tree_eq old.type d.type) o false) at
     ∙ ap (λ b. b && (old.from_reference && tree_eq old.type d.type)) plain
     ∙ ap (λ b. b && tree_eq old.type d.type) from
-    ∙ same_tree r old.type d.type h
+    ∙ sym h
     )
 
 pub same_count : {A B : Type 0} (f : A → B) (ps qs xs ys : List A) → xs ≡ ps → ys ≡ qs → nat_eq (length (map f ps)) (length (map f qs)) ≡ nat_eq (length xs) (length ys)
 same_count f ps qs xs ys e h = (λ i. nat_eq (length-map ps f i) (length-map qs f i)) ∙ (λ i. nat_eq (length (sym e i)) (length (sym h i)))
 
-pub repeats_macro_found : (st : State) (d old : Macro) (k : ℕ) (n : Named) (r : Bool) → n ≡ NamesMacro k → slice_get st.macros k ≡ Some old → old.from_reference ≡ true → nat_eq (length old.parameters) (length d.parameters) ≡ true → (IsTrue r ↔ (old.tree ≡ d.tree)) → r ≡ repeats_macro st d (Some n)
+pub repeats_macro_found : (st : State) (d old : Macro) (k : ℕ) (n : Named) (r : Bool) → n ≡ NamesMacro k → slice_get st.macros k ≡ Some old → old.from_reference ≡ true → nat_eq (length old.parameters) (length d.parameters) ≡ true → r ≡ tree_eq old.tree d.tree → r ≡ repeats_macro st d (Some n)
 repeats_macro_found st d old k n r e at from count h =
     sym
     (ap (λ m. repeats_macro st d (Some m)) e
     ∙ ap (λ o. option_map_or (λ (old : Macro). old.from_reference && nat_eq (length old.parameters) (length d.parameters) && tree_eq old.tree d.tree) o false) at
     ∙ ap (λ b. b && nat_eq (length old.parameters) (length d.parameters) && tree_eq old.tree d.tree) from
     ∙ ap (λ b. b && tree_eq old.tree d.tree) count
-    ∙ same_tree r old.tree d.tree h
+    ∙ sym h
     )
 
 -- ---- what is declared

@@ -3,56 +3,45 @@ use Rattle.std.proofs.Common.{◌≡◌, refl, ℕ, zero, suc, ◌<◌, ◌≤�
 use Rattle.std.specs.Prelude.{bytes_eq, nat_eq, ◌||◌, if◌then◌else◌}
 use Rattle.std.specs.List.{list_any}
 use Rattle.std.proofs.lemmas.List.{map-append}
-use Rattle.std.proofs.lemmas.Bool.{eqb-true, eq-eqb}
 use Rattle.std.proofs.lemmas.List.Elements.{All-head, All-tail, All-weaker, All-push}
+use Rattle.eo_base.proofs.Elements.{ids_more}
 use Rattle.eo_term.specs.Tree.{Tree, tree_eq, truth}
-use Rattle.eo_term.specs.Growth.{GrowsOn}
+use Rattle.eo_term.specs.Growth.{Grows}
 use Rattle.eo_term.specs.Terms.{Terms, tree_at, first_trees}
-use Rattle.eo_term.proofs.Equality.{tree_same, tree_refl}
 use Rattle.eo_sig.specs.Signature.{Entry, Macro, first_signature}
 use Rattle.eo_sig.specs.Reading.{Kept, IsBelow, Stays, Adds, AddsMacro, first_kept}
 use Rattle.eo_sig.specs.Reading.{signature as signature_of, macros as macros_of}
 use Rattle.eo_names.specs.declared.locals.LocalName.{LocalName}
 use Rattle.eo_names.specs.Contexts.{Context}
 use Rattle.eo_names.specs.Ready as walk
-use Rattle.eo_type.specs.Known.{Fits}
-use Rattle.eo_type.proofs.Fitting.{fits_grown, fits_more}
+use Rattle.eo_type.specs.Known.{Fits, Lasts}
 use Rattle.eo_run.specs.declared.held.Held.{Held}
-use Rattle.eo_run.specs.Ids.{has_id, with_id, Named, is_named, holds_false}
+use Rattle.eo_run.specs.Ids.{has_id, with_id, NamedId, is_named, holds_false}
 use Rattle.eo_run.specs.Held.{read_fact, state_of, IsWhole, Keeps}
 use Rattle.eo_run.specs.State.{first_state, is_live, has_false, with_entry, with_macro, with_fact, with_assertion}
 
 -- ---- facts
 
-pub live_named : (ts : List Tree) (facts : List Named) (name : List ℕ) → is_live (map (read_fact ts) facts) name ≡ is_named facts name
+pub live_named : (ts : List Tree) (facts : List NamedId) (name : List ℕ) → is_live (map (read_fact ts) facts) name ≡ is_named facts name
 live_named ts [] name = refl
 live_named ts (f ∷ fs) name = ap (λ b. bytes_eq f.0 name || b) (live_named ts fs name)
 
 -- ---- terms of which no two have the same tree
 
+-- the trees at two places are the same exactly where the places are
 abbrev pub AreDistinct : List Tree → Type 0
-AreDistinct ts = (i j : ℕ) → i < length ts → j < length ts → tree_at ts i ≡ tree_at ts j → i ≡ j
+AreDistinct ts = (i j : ℕ) → i < length ts → j < length ts → tree_eq (tree_at ts i) (tree_at ts j) ≡ nat_eq i j
 
-same_tests : (a b : Bool) → (a ≡ true → b ≡ true) → (b ≡ true → a ≡ true) → a ≡ b
-same_tests true b f g = sym (f refl)
-same_tests false true f g = g refl
-same_tests false false f g = refl
-
-module _ (ts : List Tree) (apart : AreDistinct ts) where
-  same_id : (i j : ℕ) → i < length ts → j < length ts → tree_eq (tree_at ts i) (tree_at ts j) ≡ nat_eq i j
-  same_id i j h k =
-      same_tests (tree_eq (tree_at ts i) (tree_at ts j)) (nat_eq i j) (λ e. eq-eqb i j (apart i j h k (tree_same (tree_at ts i) (tree_at ts j) e)))
-      (λ e. subst (λ (n : ℕ). tree_eq (tree_at ts i) (tree_at ts n) ≡ true) (eqb-true i j e) (tree_refl (tree_at ts i)))
-
+module _ (ts : List Tree) (equals : AreDistinct ts) where
   pub asserted_id : (ids : List ℕ) (i : ℕ) → i < length ts → All (λ j. j < length ts) ids → list_any (tree_eq (tree_at ts i)) (map (tree_at ts) ids) ≡ has_id ids i
   asserted_id [] i h a = refl
   asserted_id (j ∷ js) i h a =
-      (λ k. same_id i j h (All-head (λ j. j < length ts) j js a) k || asserted_id js i h (All-tail (λ j. j < length ts) j js a) k)
+      (λ k. equals i j h (All-head (λ j. j < length ts) j js a) k || asserted_id js i h (All-tail (λ j. j < length ts) j js a) k)
 
-  pub false_fact : (facts : List Named) → 3 < length ts → tree_at ts 3 ≡ truth false → All (λ (f : Named). f.1 < length ts) facts → has_false (map (read_fact ts) facts) ≡ holds_false facts
+  pub false_fact : (facts : List NamedId) → 3 < length ts → tree_at ts 3 ≡ truth false → All (λ (f : NamedId). f.1 < length ts) facts → has_false (map (read_fact ts) facts) ≡ holds_false facts
   false_fact [] l e a = refl
   false_fact (f ∷ fs) l e a =
-      (λ k. (ap (tree_eq (tree_at ts f.1)) (sym e) ∙ same_id f.1 3 (All-head (λ (f : Named). f.1 < length ts) f fs a) l) k || false_fact fs l e (All-tail (λ (f : Named). f.1 < length ts) f fs a) k)
+      (λ k. (ap (tree_eq (tree_at ts f.1)) (sym e) ∙ equals f.1 3 (All-head (λ (f : NamedId). f.1 < length ts) f fs a) l) k || false_fact fs l e (All-tail (λ (f : NamedId). f.1 < length ts) f fs a) k)
 
 -- the first terms
 
@@ -87,35 +76,33 @@ map_grown : {A : Type 0} (f g : A → Tree) (P : A → Type 0) → ((x : A) → 
 map_grown f g P h [] a = refl
 map_grown f g P h (x ∷ xs) a = (λ k. h x (All-head P x xs a) k ∷ map_grown f g P h xs (All-tail P x xs a) k)
 
-facts_grown : (ts us : List Tree) (n : ℕ) → ((i : ℕ) → i < n → tree_at us i ≡ tree_at ts i) → (fs : List Named) → All (λ (f : Named). f.1 < n) fs → map (read_fact us) fs ≡ map (read_fact ts) fs
+facts_grown : (ts us : List Tree) (n : ℕ) → ((i : ℕ) → i < n → tree_at us i ≡ tree_at ts i) → (fs : List NamedId) → All (λ (f : NamedId). f.1 < n) fs → map (read_fact us) fs ≡ map (read_fact ts) fs
 facts_grown ts us n h [] a = refl
-facts_grown ts us n h (f ∷ fs) a = (λ k. record { name = f.0; formula = h f.1 (All-head (λ (f : Named). f.1 < n) f fs a) k } ∷ facts_grown ts us n h fs (All-tail (λ (f : Named). f.1 < n) f fs a) k)
+facts_grown ts us n h (f ∷ fs) a = (λ k. record { name = f.0; formula = h f.1 (All-head (λ (f : NamedId). f.1 < n) f fs a) k } ∷ facts_grown ts us n h fs (All-tail (λ (f : NamedId). f.1 < n) f fs a) k)
 
-ids_below : (n m : ℕ) → n ≤ m → (is : List ℕ) → All (λ i. i < n) is → All (λ i. i < m) is
-ids_below n m l is a = All-weaker (λ i. i < n) (λ i. i < m) (λ i h. omega (arith, l, h)) is a
-
-named_below : (n m : ℕ) → n ≤ m → (fs : List Named) → All (λ (f : Named). f.1 < n) fs → All (λ (f : Named). f.1 < m) fs
-named_below n m l fs a = All-weaker (λ (f : Named). f.1 < n) (λ (f : Named). f.1 < m) (λ f h. omega (arith, l, h)) fs a
+named_below : (n m : ℕ) → n ≤ m → (fs : List NamedId) → All (λ (f : NamedId). f.1 < n) fs → All (λ (f : NamedId). f.1 < m) fs
+named_below n m l fs a = All-weaker (λ (f : NamedId). f.1 < n) (λ (f : NamedId). f.1 < m) (λ f h. omega (arith, l, h)) fs a
 
 module _ (h : Held) (whole : IsWhole h) where
   abbrev trees : List Tree
   trees = h.table.trees
 
   -- terms that come leave the state, and so do types that are found
-  module _ (t : Terms) (stays : Stays h.signature trees t.trees) (grows : GrowsOn h.table t) where
+  module _ (t : Terms) (stays : Stays h.signature trees t.trees) (grows : Grows h.table t) where
     state_table : state_of (record h { table = t }) ≡ state_of h
     state_table =
         let a = map_grown (tree_at t.trees) (tree_at trees) (λ i. i < length trees) grows.now.tree h.assertions whole.assertions in
         let f = facts_grown trees t.trees (length trees) grows.now.tree h.facts whole.facts in
         (λ k. record { signature = stays.signature k; macros = stays.macros k; assertions = a k; has_reference = h.has_reference; facts = f k; closed = h.closed; commands = h.commands })
 
-    pub keeps_types : (types : List (ℕ × ℕ)) → Fits (signature_of t.trees h.signature) t.trees types → Keeps h (record h { table = t; types = types })
-    keeps_types types fits = record {
+    pub keeps_types : (types : List (ℕ × ℕ)) → Fits (signature_of t.trees h.signature) t.trees types → Lasts types → Keeps h (record h { table = t; types = types })
+    keeps_types types fits lasts = record {
       whole = record {
         signature = stays.below;
-        assertions = ids_below (length trees) (length t.trees) grows.now.more_trees h.assertions whole.assertions;
+        assertions = ids_more (length trees) (length t.trees) grows.now.more_trees h.assertions whole.assertions;
         facts = named_below (length trees) (length t.trees) grows.now.more_trees h.facts whole.facts;
         types = fits;
+        lasts = lasts;
       };
       same = state_table;
       signature = refl;
@@ -123,7 +110,7 @@ module _ (h : Held) (whole : IsWhole h) where
     }
 
     pub keeps_table : Keeps h (record h { table = t })
-    keeps_table = keeps_types h.types (fits_grown h.signature h.table t whole.signature grows.now h.types whole.types)
+    keeps_table = keeps_types h.types (whole.lasts.grown h.signature h.table t grows.now (record { below = whole.signature; types = whole.types })).types whole.lasts
 
   module _ (k : Kept) (below : IsBelow (length trees) k) where
     pub whole_entry : (e : Entry) → Adds trees h.signature e k → IsWhole (record h { signature = k })
@@ -131,7 +118,8 @@ module _ (h : Held) (whole : IsWhole h) where
       signature = below;
       assertions = whole.assertions;
       facts = whole.facts;
-      types = subst (λ S. Fits S trees h.types) (sym adds.signature) (fits_more (signature_of trees h.signature) (e ∷ []) trees h.types whole.types);
+      types = subst (λ S. Fits S trees h.types) (sym adds.signature) (whole.lasts.longer (signature_of trees h.signature) (e ∷ []) trees whole.types);
+      lasts = whole.lasts;
     }
 
     pub whole_macro : (m : Macro) → AddsMacro trees h.signature m k → IsWhole (record h { signature = k })
@@ -140,6 +128,7 @@ module _ (h : Held) (whole : IsWhole h) where
       assertions = whole.assertions;
       facts = whole.facts;
       types = subst (λ S. Fits S trees h.types) (sym adds.signature) whole.types;
+      lasts = whole.lasts;
     }
 
     pub state_entry : (e : Entry) → Adds trees h.signature e k → state_of (record h { signature = k }) ≡ with_entry (state_of h) e
@@ -148,21 +137,22 @@ module _ (h : Held) (whole : IsWhole h) where
     pub state_macro : (m : Macro) → AddsMacro trees h.signature m k → state_of (record h { signature = k }) ≡ with_macro (state_of h) m
     state_macro m adds = (λ j. record { signature = adds.signature j; macros = adds.macros j; assertions = map (tree_at trees) h.assertions; has_reference = h.has_reference; facts = map (read_fact trees) h.facts; closed = h.closed; commands = h.commands })
 
-  module _ (name : List ℕ) (i : ℕ) (live : i < length trees) (facts : List Named) (is : facts ≡ h.facts ++ (name, i) ∷ []) where
+  module _ (name : List ℕ) (i : ℕ) (live : i < length trees) (facts : List NamedId) (is : facts ≡ h.facts ++ (name, i) ∷ []) where
     pub whole_fact : IsWhole (record h { facts = facts })
     whole_fact = record {
       signature = whole.signature;
       assertions = whole.assertions;
-      facts = subst (All (λ (f : Named). f.1 < length trees)) (sym is) (All-push (λ (f : Named). f.1 < length trees) h.facts (name, i) whole.facts live);
+      facts = subst (All (λ (f : NamedId). f.1 < length trees)) (sym is) (All-push (λ (f : NamedId). f.1 < length trees) h.facts (name, i) whole.facts live);
       types = whole.types;
+      lasts = whole.lasts;
     }
 
     pub state_fact : state_of (record h { facts = facts }) ≡ with_fact (state_of h) name (tree_at trees i)
     state_fact =
-        ap (λ (fs : List Named). state_of (record h { facts = fs })) is
+        ap (λ (fs : List NamedId). state_of (record h { facts = fs })) is
         ∙ (λ j. record { signature = signature_of trees h.signature; macros = macros_of trees h.signature; assertions = map (tree_at trees) h.assertions; has_reference = h.has_reference; facts = map-append (read_fact trees) h.facts ((name, i) ∷ []) j; closed = h.closed; commands = h.commands })
 
-  module _ (apart : AreDistinct trees) (i : ℕ) (live : i < length trees) (ids : List ℕ) (is : ids ≡ with_id h.assertions i) where
+  module _ (equals : AreDistinct trees) (i : ℕ) (live : i < length trees) (ids : List ℕ) (is : ids ≡ with_id h.assertions i) where
     abbrev more : Bool → List ℕ
     more b = if b then h.assertions else h.assertions ++ i ∷ []
 
@@ -176,6 +166,7 @@ module _ (h : Held) (whole : IsWhole h) where
       assertions = subst (All (λ j. j < length trees)) (sym is) (below_more (has_id h.assertions i));
       facts = whole.facts;
       types = whole.types;
+      lasts = whole.lasts;
     }
 
     state_more : (b : Bool) → state_of (record h { assertions = more b }) ≡ (if b then state_of h else record (state_of h) { assertions = map (tree_at trees) h.assertions ++ tree_at trees i ∷ [] })
@@ -186,7 +177,7 @@ module _ (h : Held) (whole : IsWhole h) where
     state_assertion =
         ap (λ (js : List ℕ). state_of (record h { assertions = js })) is
         ∙ state_more (has_id h.assertions i)
-        ∙ ap (λ b. if b then state_of h else record (state_of h) { assertions = map (tree_at trees) h.assertions ++ tree_at trees i ∷ [] }) (sym (asserted_id trees apart h.assertions i live whole.assertions))
+        ∙ ap (λ b. if b then state_of h else record (state_of h) { assertions = map (tree_at trees) h.assertions ++ tree_at trees i ∷ [] }) (sym (asserted_id trees equals h.assertions i live whole.assertions))
 
 -- ---- the first
 
@@ -206,10 +197,11 @@ state_first h closed t k s a r f c n =
       commands = n j;
     })
 
-pub whole_first : (h : Held) → h.table.trees ≡ first_trees → IsBelow 4 h.signature → h.assertions ≡ [] → h.facts ≡ [] → Fits (signature_of h.table.trees h.signature) h.table.trees h.types → IsWhole h
-whole_first h t b a f types = record {
+pub whole_first : (h : Held) → h.table.trees ≡ first_trees → IsBelow 4 h.signature → h.assertions ≡ [] → h.facts ≡ [] → Fits (signature_of h.table.trees h.signature) h.table.trees h.types → Lasts h.types → IsWhole h
+whole_first h t b a f types lasts = record {
   signature = subst (λ (ts : List Tree). IsBelow (length ts) h.signature) (sym t) b;
   assertions = subst (All (λ i. i < length h.table.trees)) (sym a) (All-none _);
-  facts = subst (All (λ (f : Named). f.1 < length h.table.trees)) (sym f) (All-none _);
+  facts = subst (All (λ (f : NamedId). f.1 < length h.table.trees)) (sym f) (All-none _);
   types = types;
+  lasts = lasts;
 }

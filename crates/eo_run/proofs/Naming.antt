@@ -3,20 +3,11 @@ use Rattle.std.proofs.Common.{◌≡◌, ℕ, Bool, true, false, cond, ◌||◌,
 use Rattle.std.specs.Prelude.{nat_eq}
 use Rattle.std.specs.Str.{bytes_eq}
 use Rattle.std.specs.Map.{lookup}
-use Rattle.std.proofs.lemmas.Slice.Eq.{bytes_eq-Decides}
-use Rattle.eo_run.specs.Ids.{Named, is_named, holds_false}
-
-same_tests : (a b : Bool) → (a ≡ true → b ≡ true) → (b ≡ true → a ≡ true) → a ≡ b
-same_tests true b f g = sym (f refl)
-same_tests false true f g = g refl
-same_tests false false f g = refl
-
-bytes_eq-flip : (x y : List ℕ) → bytes_eq x y ≡ bytes_eq y x
-bytes_eq-flip x y =
-    same_tests (bytes_eq x y) (bytes_eq y x) (λ h. (bytes_eq-Decides y x).1 (sym ((bytes_eq-Decides x y).0 h))) (λ h. (bytes_eq-Decides x y).1 (sym ((bytes_eq-Decides y x).0 h)))
+use Rattle.eo_base.proofs.Tests.{bytes_eq-flip}
+use Rattle.eo_run.specs.Ids.{NamedId, is_named, holds_false}
 
 module _ {V : Type 0} (items : V → List ℕ) (name : List ℕ) where
-  abbrev shown : List (V × ℕ) → List Named
+  abbrev shown : List (V × ℕ) → List NamedId
   shown es = map (λ (e : V × ℕ). (items e.0, e.1)) es
 
   abbrev test : V → Bool
@@ -40,7 +31,7 @@ module _ {V : Type 0} (items : V → List ℕ) (name : List ℕ) where
   lookup_unnamed es h = none_found (lookup test es) (lookup_named es ∙ h)
 
 -- one fact more
-pub holds_more : (facts : List Named) (f : Named) → (holds_false facts || nat_eq f.1 3) ≡ holds_false (facts ++ f ∷ [])
+pub holds_more : (facts : List NamedId) (f : NamedId) → (holds_false facts || nat_eq f.1 3) ≡ holds_false (facts ++ f ∷ [])
 holds_more [] f = by (nat_eq f.1 3)
   where
     by : (b : Bool) → (false || b) ≡ (b || false)

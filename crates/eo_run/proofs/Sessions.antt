@@ -11,7 +11,7 @@ use Rattle.eo_shape.specs.Words.{symbol_of}
 use Rattle.eo_shape.specs.Shapes.{Command, command_of}
 use Rattle.eo_term.specs.Tree.{Tree, bool_tree, truth, is_value, tree_eq}
 use Rattle.eo_type.specs.Types.{TypeOutcome, Typed, Untyped, TypeRange, TypeTall, on_typed, typed_if, type_of}
-use Rattle.eo_term.specs.Terms.{tree_at}
+use Rattle.eo_term.specs.Terms.{Terms, tree_at}
 use Rattle.eo_elab.specs.Meaning.{meaning}
 use Rattle.eo_names.specs.Names.{read_locals}
 use Rattle.eo_names.specs.declared.locals.LocalName.{LocalName}
@@ -268,13 +268,13 @@ module _ (st : State) where
   end-correct e f = ap (λ r. by_end r (has_false st.facts)) e ∙ ap (by_end true) f
 
 -- a type that is not found
-pub refuses_type : (st : State) (v : Tree) (ts : List Tree) (x : TypeRefused) → Answers ts (Err x) (type_of st.signature v) → Refuses (typed st v) (of_type x)
-refuses_type st v ts kind.NumberRange h = (typed-range st v h, λ q. absurd cc)
-refuses_type st v ts kind.Tall h = (typed-tall st v h, λ q. absurd cc)
-refuses_type st v ts (kind.Memory e) h = (tt, tt)
+pub refuses_type : (st : State) (v : Tree) (t : Terms) (x : TypeRefused) → Answers t (Err x) (type_of st.signature v) → Refuses (typed st v) (of_type x)
+refuses_type st v t kind.NumberRange h = (typed-range st v h, λ q. absurd cc)
+refuses_type st v t kind.Tall h = (typed-tall st v h, λ q. absurd cc)
+refuses_type st v t (kind.Memory e) h = (tt, tt)
 
-pub outcome-none : (ts : List Tree) (o : Option ℕ) (m : TypeOutcome Tree) → o ≡ None → Answers ts (Ok o) m → m ≡ Untyped
-outcome-none ts o m e h = subst (λ (x : Option ℕ). Answers ts (Ok x) m) e h
+pub outcome-none : (t : Terms) (o : Option ℕ) (m : TypeOutcome Tree) → o ≡ None → Answers t (Ok o) m → m ≡ Untyped
+outcome-none t o m e h = subst (λ (x : Option ℕ). Answers t (Ok x) m) e h
 
-pub outcome-some : (ts : List Tree) (o : Option ℕ) (m : TypeOutcome Tree) (u : ℕ) → o ≡ Some u → Answers ts (Ok o) m → m ≡ Typed (tree_at ts u)
-outcome-some ts o m u e h = subst (λ (x : Option ℕ). Answers ts (Ok x) m) e h
+pub outcome-some : (t : Terms) (o : Option ℕ) (m : TypeOutcome Tree) (u : ℕ) → o ≡ Some u → Answers t (Ok o) m → m ≡ Typed (tree_at t.trees u)
+outcome-some t o m u e h = (subst (λ (x : Option ℕ). Answers t (Ok x) m) e h).typed

@@ -14,12 +14,12 @@ with_id ids i = if has_id ids i then ids else ids ++ i ∷ []
 -- ---- facts
 
 -- a name and a term
-abbrev pub Named : Type 0
-Named = List ℕ × ℕ
+abbrev pub NamedId : Type 0
+NamedId = List ℕ × ℕ
 
-abbrev pub is_named : List Named → List ℕ → Bool
-is_named facts name = list_any (λ (f : Named). bytes_eq f.0 name) facts
+abbrev pub is_named : List NamedId → List ℕ → Bool
+is_named facts name = list_any (λ (f : NamedId). bytes_eq f.0 name) facts
 
 -- whether the term 3, which is `false`, is one of the formulas
-abbrev pub holds_false : List Named → Bool
-holds_false facts = list_any (λ (f : Named). nat_eq f.1 3) facts
+abbrev pub holds_false : List NamedId → Bool
+holds_false facts = list_any (λ (f : NamedId). nat_eq f.1 3) facts

@@ -1,5 +1,5 @@
 -- What is answered for a file that is not read to its end.
-use Rattle.std.specs.Prelude.{◌≡◌, ℕ, List, Option, Some, IfSome, IsSome, Result, Ok, Err, slice_get, ⊤}
+use Rattle.std.specs.Prelude.{◌≡◌, ℕ, false, List, Option, Some, None, IfSome, IsSome, Result, Ok, Err, slice_get, ⊤}
 use Rattle.eo_base.specs.declared.Place.{Place}
 use Rattle.eo_io.specs.Library.{Files}
 use Rattle.eo_run.specs.State.{State}
@@ -7,6 +7,7 @@ use Rattle.eo_run.specs.Run.{run_file}
 use Rattle.eo_run.specs.Check.{file_end, checked, verdict}
 use Rattle.eo_run.specs.Verdict.{Refusal}
 use Rattle.eo_run.specs.Answer.{Denotes, Answers}
+use Rattle.eo_run.specs.declared.CheckJob.{CheckJob}
 use Rattle.eo_run.specs.declared.Verdict.{Verdict}
 use Rattle.eo_run.specs.declared.Verdict.TheVariants as answer
 use Rattle.eo_run.specs.declared.reading.Stop.{Stop}
@@ -26,6 +27,12 @@ RefusesRun files path from old paths (answer.Refused fault) = (refusal : Refusal
 RefusesRun files path from old paths answer.ReadFault = ⊤
 RefusesRun files path from old paths answer.OutOfMemory = ⊤
 RefusesRun files path from old paths v = ⊥
+
+-- a job with a reference file, with no file to be included, that is not closed
+pub record IsPlainJob (job : CheckJob) : Type 0 where
+  pub reference : IsSome job.reference
+  pub include : job.include ≡ None
+  pub rules : job.closed ≡ false
 
 -- An answer that this check may give. The file of a refusal is one of the paths.
 abbrev pub IsCheckAnswer : List (List ℕ) → Verdict → Type 0

@@ -1,10 +1,9 @@
 //! The check of a proof against a reference file.
 ghost use Rattle.std.specs.Prelude.{◌≡◌, ◌≢◌, ◌<◌, ◌≤◌, ℕ, [], vec_len, None, false};
 ghost use Rattle.std.specs.Prelude.{Ok, unwrap_or, IsSome, IfOk, IfErr, OnOk, length};
-ghost use Rattle.eo_run.specs.Answer.{Answers, AnswerHasCause, FileInRange};
-ghost use Rattle.eo_run.specs.Check.{verdict};
+ghost use Rattle.eo_run.specs.Answer.{AnswerHasCause, FileInRange};
 ghost use Rattle.eo_run.specs.Reading.{LibraryStays};
-ghost use Rattle.eo_run.specs.Judging.{stop_verdict, IsCheckAnswer, RunsPath, IsPathAnswer, AnswersFiles, AnswersProof};
+ghost use Rattle.eo_run.specs.Judging.{stop_verdict, IsPlainJob, IsCheckAnswer, RunsPath, IsPathAnswer, AnswersFiles, AnswersProof};
 ghost use Rattle.eo_run.specs.State.{first_state, begin_reference};
 ghost use Rattle.eo_run.specs.Stepping.{IsMemory};
 
@@ -42,19 +41,14 @@ pub fn check_files<L: Library>(
     files: &mut L,
     paths: &mut Paths,
 ) -> Verdict
-    requires reference { IsSome job.now.reference }
-    requires include { job.now.include ≡ None }
-    requires closed_rules { job.now.closed ≡ false }
+    requires job { IsPlainJob job.now }
     requires no_paths { paths.old ≡ [] }
     requires none_open { L.open_files files.old ≡ [] }
     ensures verdict { AnswersFiles (L.told files.old) (unwrap_or job.now.reference []) job.now.proof paths.new result }
     ensures cause { AnswerHasCause result (L.told files.old) (L.faults files.old) (L.faults files.new) }
+    ensures kind { IsCheckAnswer paths.new result }
     ensures place { FileInRange paths.new result }
-    ensures no_load { (commands : ℕ) → result ≢ Verdict.Loaded commands }
-    ensures complete { result ≢ Verdict.Incomplete }
-    ensures same { L.told files.new ≡ L.told files.old }
-    ensures closed { L.open_files files.new ≡ [] }
-    ensures later { L.faults files.old ≤ L.faults files.new }
+    ensures stays { LibraryStays L.told L.open_files L.faults files.old files.new }
 {
     match &job.reference {
         None => unreachable!(),

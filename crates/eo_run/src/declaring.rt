@@ -8,6 +8,7 @@ ghost use Rattle.eo_elab.specs.Declaring.{MayRepeat, MayBeMacro};
 ghost use Rattle.eo_elab.specs.Worlds.{context_in};
 ghost use Rattle.eo_run.specs.Held.{state_of, IsWhole};
 ghost use Rattle.eo_run.specs.Step as step;
+ghost use Rattle.eo_run.specs.Step.{declare_parameterized as declared_over};
 ghost use Rattle.eo_run.specs.Stepping.{Does};
 
 use crate::Refused;
@@ -88,7 +89,7 @@ impl Held {
     ) -> Result<(), Refused>
         requires { IsWhole self.old }
         ensures whole { IsWhole self.new }
-        ensures does { Does result (step.declare_parameterized (state_of self.old) name.now params.now ty.now (shape_of shape.now)) self.new }
+        ensures does { Does result (declared_over (state_of self.old) name.now params.now ty.now (shape_of shape.now)) self.new }
     {
         let d = declared_parameterized(
             self.alloc,
@@ -147,6 +148,7 @@ impl Held {
         ensures whole { IsWhole self.new }
         ensures does { Does result (step.typed_constant (state_of self.old) (read_constant self.old.table.trees d)) self.new }
     {
+        d.laws();
         if !self.table.is_value(d.ty) {
             return Err(Refused::Fault(FaultName::Stuck));
         }

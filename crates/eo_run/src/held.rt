@@ -2,6 +2,8 @@
 ghost use Rattle.std.specs.Prelude.{◌≡◌, ◌<◌, Ok, not, if◌then◌else◌, length, IfOk, IfErr};
 ghost use Rattle.eo_term.specs.Tree.{truth as tree_of_truth};
 ghost use Rattle.eo_term.specs.Growth.{tree_in};
+ghost use Rattle.eo_type.specs.Known.{type_at};
+ghost use Rattle.eo_type.specs.Outcomes.{Answers};
 ghost use Rattle.eo_run.specs.Held.{state_of, IsWhole, Keeps};
 ghost use Rattle.eo_run.specs.State.{first_state, is_asserted, has_false, with_assertion};
 ghost use Rattle.eo_run.specs.Step.{is_free_fact, value, typed, formula, assume as assumed, assert as asserted, asserted_truth};
@@ -16,7 +18,7 @@ use eo_sexp::Sexp;
 use eo_shape::symbol;
 use eo_sig::{Signature, is_reserved};
 use eo_term::{FALSE, Id, TRUE, Table};
-use eo_type::{Types, is_constant};
+use eo_type::{TypeRefused, Types, is_constant};
 use std::alloc::{AllocError, Global};
 
 /// The number of the constant `Type`.
@@ -50,11 +52,15 @@ impl Held {
         ensures whole { IfOk result IsWhole }
         ensures state { IfOk result (λ h. state_of h ≡ first_state closed) }
     {
+        let table = Table::new(alloc)?;
+        let signature = Signature::new(alloc)?;
+        let types = Types::new(alloc)?;
+        types.laws();
         Ok(Held {
             alloc,
-            table: Table::new(alloc)?,
-            signature: Signature::new(alloc)?,
-            types: Types::new(alloc)?,
+            table,
+            signature,
+            types,
             assertions: Assertions::new(alloc),
             has_reference: false,
             facts: Facts::new(alloc),
@@ -151,13 +157,25 @@ impl Held {
         ensures gives { GivesKind number result (typed (state_of self.old) (tree_in self.old.table id)) }
         ensures keeps { Keeps self.old self.new }
     {
-        let Some(ty) = self.types.type_of(&self.signature, &mut self.table, id)? else {
+        let Some(ty) = self.type_of(id)? else {
             return Err(Refused::Fault(FaultName::IllTyped));
         };
         if !self.table.is_value(ty) {
             return Err(Refused::Fault(FaultName::IllTyped));
         }
         Ok(is_constant(&self.table, ty, number))
+    }
+
+    // The type of a term, if it has one.
+    fn type_of(&mut self, id: Id) -> Result<Option<Id>, TypeRefused>
+        requires whole { IsWhole self.old }
+        requires live { id < length self.old.table.trees }
+        ensures answers { Answers self.new.table result (type_at self.old.signature self.old.table id) }
+        ensures keeps { Keeps self.old self.new }
+    {
+        let ty = self.types.type_of(&self.signature, &mut self.table, id);
+        self.types.laws();
+        ty
     }
 
     // The value of a term.

@@ -142,7 +142,7 @@ list-opened-open bytes ns n os at h =
 
 -- ---- more bytes
 
-slice-append : (bytes more : List ℕ) (from to : ℕ) → from ≤ to → to ≤ length bytes → slice_range (bytes ++ more) from to ≡ slice_range bytes from to
+pub slice-append : (bytes more : List ℕ) (from to : ℕ) → from ≤ to → to ≤ length bytes → slice_range (bytes ++ more) from to ≡ slice_range bytes from to
 slice-append bytes more from to p h =
     let n : to - from ≤ length (drop from bytes) = omega (arith, length-drop from bytes) in
     ap (take (to - from)) (drop-append-le from bytes more (omega arith)) ∙ take-append-le (to - from) (drop from bytes) more n

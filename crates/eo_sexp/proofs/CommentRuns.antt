@@ -1,10 +1,10 @@
 -- Runs of bytes that stay inside of a comment.
-use Rattle.std.proofs.Common.{◌≡◌, ◌≢◌, refl, ℕ, suc, ◌+◌, ◌≤◌, ◌<◌, true, false, not, List, [], ◌∷◌, ◌++◌, length, length-append, length-take-le, take, All, sym, ap, ◌∙◌, subst, arith}
+use Rattle.std.proofs.Common.{◌≡◌, ◌≢◌, ℕ, suc, ◌+◌, ◌≤◌, ◌<◌, true, false, not, List, [], ◌∷◌, ◌++◌, length, length-append, length-take-le, take, All, sym, ap, ◌∙◌, subst, arith}
 use Rattle.std.proofs.lemmas.List.Elements.{All-head, All-tail, All-weaker}
 use Rattle.eo_base.specs.Limits.{Limits}
 use Rattle.eo_sexp.specs.declared.reader.Place.TheVariants as place
 use Rattle.eo_sexp.specs.declared.reader.Reader.{Reader}
-use Rattle.eo_sexp.specs.Lexicon.{is_line_end, pass, pass_byte, Passed}
+use Rattle.eo_sexp.specs.Lexicon.{is_line_end, pass, Passed}
 use Rattle.eo_sexp.specs.Built.{Built}
 use Rattle.eo_sexp.specs.Reader.{Held, held, IsReader, gap_reading, RunsTo}
 use Rattle.eo_sexp.proofs.RunSteps.{plain-spot}

@@ -10,8 +10,8 @@ use Rattle.eo_sexp.specs.declared.incremental.State.{State}
 use Rattle.eo_sexp.specs.declared.incremental.State.TheVariants as state
 use Rattle.eo_sexp.specs.declared.incremental.Machine.{Machine}
 use Rattle.eo_sexp.specs.Built.{Built, nothing}
-use Rattle.eo_sexp.specs.Texts.{Phase, Command, End, Fault, SoFar, Known, More, Held, spot_after}
-use Rattle.eo_sexp.specs.Collecting.{Collecting, Within, AtCommand, Failed, NoMemory, here_of, start_of, IsWithin, IsLive, ready, becomes, waiting, on_more, fed_from, fed_with, fed_answer, HasNoFault, HasRoom, Feeds}
+use Rattle.eo_sexp.specs.Texts.{Phase, spot_after}
+use Rattle.eo_sexp.specs.Collecting.{Collecting, Within, AtCommand, Failed, NoMemory, here_of, start_of, IsWithin, IsLive, ready, fed_from, fed_with, fed_answer, HasNoFault, HasRoom, Feeds}
 use Rattle.eo_sexp.specs.Machine.{phase_of, meaning_at, meaning, IsPlaced, IsSoundAt, IsSound, TakesByte, TakesBytes, answer_at, answer_of, FeedsByte, GoesOver, StopsIn}
 use Rattle.eo_sexp.proofs.Feeding.{joins_pieces}
 use Rattle.eo_sexp.proofs.Counting.{counts_pieces}

@@ -11,7 +11,7 @@ use Rattle.eo_sexp.specs.Commands.{Whole, Refused, front, atom, sexp, command}
 use Rattle.eo_sexp.specs.Texts.{Phase, Start, AfterUnsat, InPair, AfterPair, Plain, hold, is_parenthesis, is_unsat, in_pair, in_pair_at, if_pair, begins_pair, before_pair, if_unsat, settled, settle, is_extra, known, from_token, from_front, answer, spot_after, next_spot}
 use Rattle.eo_sexp.specs.Collecting.{Within, Failed, becomes, waiting, on_more, fed_from}
 use Rattle.eo_sexp.specs.Machine.{IsProofStart, IsFirst}
-use Rattle.eo_sexp.proofs.Joined.{at_byte}
+use Rattle.eo_sexp.proofs.Passing.{at_byte}
 use Rattle.eo_sexp.proofs.Resuming.{StandsStill, pass-front}
 use Rattle.eo_sexp.proofs.Settled.{held_moved, settle-moved}
 use Rattle.eo_sexp.proofs.Feeding.{state_of}

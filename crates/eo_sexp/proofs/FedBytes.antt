@@ -11,7 +11,7 @@ use Rattle.eo_sexp.specs.Commands.{Reading, Whole, Refused, Cut, front, command}
 use Rattle.eo_sexp.specs.Texts.{Phase, Start, AfterUnsat, InPair, AfterPair, Plain, after, Held, hold, is_unsat, in_pair, in_pair_at, if_pair, begins_pair, before_pair, if_unsat, settled, settle, is_extra, known, from_token, from_front, answer, spot_after, placed}
 use Rattle.eo_sexp.specs.Collecting.{Within, AtCommand, Failed, becomes, waiting, on_more, fed_from}
 use Rattle.eo_sexp.specs.Machine.{IsProofStart, IsFirst}
-use Rattle.eo_sexp.proofs.Joined.{at_byte}
+use Rattle.eo_sexp.proofs.Passing.{at_byte}
 use Rattle.eo_sexp.proofs.Resuming.{StandsStill, pass-front}
 use Rattle.eo_sexp.proofs.Settled.{held_moved}
 use Rattle.eo_sexp.proofs.Feeding.{state_of, state-ahead}

@@ -39,3 +39,6 @@ pub mod PlainTables
 pub mod TokenRuns
 pub mod CommentRuns
 pub mod PassRuns
+mod AheadRuns
+mod PartsOf
+mod BlankRuns

@@ -30,7 +30,7 @@ atom-stands Word a = tt
 atom-stands c a = absurd a
 
 module _ (limits : Limits) where
-  reading-gap : (r : Held) (at : ℕ) (more : List ℕ) → r.place ≡ place.Gap → reading limits r at more ≡ gap_reading limits r.frames (pass false at more).rest
+  pub reading-gap : (r : Held) (at : ℕ) (more : List ℕ) → r.place ≡ place.Gap → reading limits r at more ≡ gap_reading limits r.frames (pass false at more).rest
   unfolding place_reading
   reading-gap r at more e = ap (λ p. place_reading limits r.frames p r.from r.text at more) e
 

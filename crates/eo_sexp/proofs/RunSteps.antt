@@ -71,7 +71,7 @@ module _ (limits : Limits) where
             ∙ g.reads more;
       }
 
-  runs-one : (c v d : Built) (s u : Reader) (x : ℕ) (ys : List ℕ) → length c.bytes < limits.command → v.bytes ≡ c.bytes → d ≡ with_byte v x → Turns limits (held c s) (length c.bytes) x turn.Goes (held (with_byte v x) u) →
+  pub runs-one : (c v d : Built) (s u : Reader) (x : ℕ) (ys : List ℕ) → length c.bytes < limits.command → v.bytes ≡ c.bytes → d ≡ with_byte v x → Turns limits (held c s) (length c.bytes) x turn.Goes (held (with_byte v x) u) →
       RunsTo limits c s (x ∷ ys) 1 (line_feeds x) d u
   runs-one c v d s u x ys f same new t =
       let b : d.bytes ≡ c.bytes ++ x ∷ [] = ap (λ (w : Built). w.bytes) new ∙ ap (λ bs. bs ++ x ∷ []) same in

@@ -14,3 +14,4 @@ pub mod Nodes
 pub mod Built
 pub mod Buffers
 pub mod Pairs
+pub mod Parts

@@ -3,6 +3,7 @@ use Rattle.std.specs.Prelude.{◌≡◌, ℕ, ◌+◌, ◌-◌, ◌<◌, ◌≤�
 use Rattle.std.specs.List.{slice_range}
 use Rattle.eo_sexp.specs.Sexp.{Sexp, Atom, Listed, NoSexp}
 use Rattle.eo_sexp.specs.Sexp.{sexps_of}
+use Rattle.eo_sexp.specs.declared.Kind.{Kind}
 use Rattle.eo_sexp.specs.declared.lent.Node.{Node}
 use Rattle.eo_sexp.specs.declared.lent.Node.TheVariants as node
 
@@ -10,6 +11,10 @@ use Rattle.eo_sexp.specs.declared.lent.Node.TheVariants as node
 abbrev pub token_text : List ℕ → (delimited : Bool) → (from to : ℕ) → List ℕ
 token_text bytes true from to = slice_range bytes (from + 1) (to - 1)
 token_text bytes false from to = slice_range bytes from to
+
+-- the atom of these bytes that the token is
+abbrev pub token_atom : List ℕ → Kind → (delimited : Bool) → (from to : ℕ) → Sexp
+token_atom bytes k delimited from to = Atom k (token_text bytes delimited from to) (record { from = from; to = to })
 
 -- the s-expressions that the nodes are, read from the last node on
 abbrev pub trees : List ℕ → List Node → List Sexp

@@ -1,5 +1,5 @@
 -- What a reader of a command that is begun keeps, and what its turns do.
-use Rattle.std.specs.Prelude.{◌≡◌, ℕ, suc, ◌+◌, ◌-◌, ◌<◌, ◌≤◌, Bool, true, false, nat_le, List, [], ◌∷◌, ◌++◌, length, map, take, drop, get_or, Some, None}
+use Rattle.std.specs.Prelude.{◌≡◌, ℕ, suc, ◌+◌, ◌-◌, ◌<◌, ◌≤◌, Bool, true, false, nat_le, List, [], ◌∷◌, ◌++◌, length, map, take, drop, get_or, All, Some, None}
 use Rattle.eo_base.specs.Limits.{Limits}
 use Rattle.eo_sexp.specs.declared.reader.Place.{Place}
 use Rattle.eo_sexp.specs.declared.reader.Place.TheVariants as place
@@ -15,7 +15,7 @@ use Rattle.eo_sexp.specs.OpenLists as nest
 use Rattle.eo_sexp.specs.Built.{OpenList, Built, with_byte}
 use Rattle.eo_sexp.specs.declared.token.Token.{Token}
 use Rattle.eo_sexp.specs.declared.token.Token.TheVariants as token
-use Rattle.eo_sexp.specs.Token.{token_class, opening, IsToken, token_size, atom_kind, atom_text}
+use Rattle.eo_sexp.specs.Token.{token_class, opening, IsToken, token_size, is_plain, atom_kind, atom_text}
 
 -- A reader with its buffer: the open lists, the innermost first; what is whole; and the token begun, without its delimiter.
 pub record Held : Type 0 where
@@ -59,6 +59,16 @@ EndsAt r token.Quoted at to = (r.from + (1 + length r.text) ≡ at) × (to ≡ a
 pub record IsWhole (new : Built) (s : Sexp) : Type 0 where
   pub done : new.done ≡ s ∷ []
   pub outside : new.open_lists ≡ []
+
+-- the token t begins with the byte x
+pub record FirstOf (x : ℕ) (t : Token) : Type 0 where
+  pub class : class x ≡ token_class t
+  pub begun : t ≡ token.Text true → ⊥
+
+-- the same where the next byte may begin one
+pub record IsFirstOf (r : Reader) (x : ℕ) (t : Token) : Type 0 where
+  pub gap : r.place ≡ place.Gap
+  pub first : FirstOf x t
 
 module _ (limits : Limits) where
   -- the innermost list, where its next child may begin
@@ -147,6 +157,15 @@ module _ (limits : Limits) where
   -- a command begins with the byte x
   abbrev pub Begins : (x : ℕ) → (new : Held) → Type 0
   Begins x new = IsReader new 1 × ((more : List ℕ) → sexp limits (class x) (record { at = 0; bytes = x ∷ more }) ≡ reading new 1 more)
+
+  -- a token t that begins at the front of `rest` may be the next child of the innermost list, and so many of its bytes are plain but for the first
+  pub record IsAhead (b : Built) (t : Token) (rest : List ℕ) (n : ℕ) : Type 0 where
+    pub room : is_full b.open_lists ≡ false
+    pub some : 0 < n
+    pub more : n < length rest
+    pub plain : All (λ x. is_plain t x ≡ true) (take (n - 1) (drop 1 rest))
+    pub short : n ≤ limits.token
+    pub fits : length b.bytes + n < limits.command
 
   -- So many bytes of `rest` are taken behind those of the buffer b, with so many line feeds. None of them decides.
   pub record RunsTo (b : Built) (r : Reader) (rest : List ℕ) (n lines : ℕ) (c : Built) (s : Reader) : Type 0 where

@@ -1,7 +1,7 @@
 //! The bytes of a command that is begun, and its parts.
-ghost use Rattle.std.specs.Prelude.{◌≡◌, ◌<◌, ◌≤◌, ◌+◌, ◌^◌, ℕ, ◌∷◌, [], ◌++◌, length, reverse, OnOk, IfOk};
-ghost use Rattle.eo_sexp.specs.Sexp.{Atom};
-ghost use Rattle.eo_sexp.specs.Nodes.{token_text, HasText, first_of};
+ghost use Rattle.std.specs.Prelude.{◌≡◌, ◌<◌, ◌≤◌, ◌+◌, ◌^◌, ℕ, ◌∷◌, [], ◌++◌, length, take, reverse, OnOk, IfOk};
+ghost use Rattle.eo_sexp.specs.Nodes.{token_atom, HasText, first_of};
+ghost use Rattle.eo_sexp.specs.Parts.{IsPart};
 ghost use Rattle.eo_sexp.specs.Built.{nothing, with_child, closed, opened, width_of};
 
 use crate::Kind;
@@ -9,8 +9,10 @@ use crate::lent::{Node, Sexp, first};
 use std::alloc::{AllocError, Global};
 use std::marker::Model;
 
+mod appending;
 mod counting;
 
+use appending::append;
 use counting::count_child;
 
 // The most nodes, beyond which memory is wanting. A command has fewer bytes.
@@ -105,11 +107,13 @@ impl Buffer {
         Ok(())
     }
 
-    /// Keeps these bytes too.
-    pub(crate) fn extend(&mut self, more: &[u8]) -> Result<(), AllocError>
-        ensures { OnOk result (self.new ≡ record self.old { bytes = self.old.bytes ++ more.now }) }
+    /// Keeps the first `n` of these bytes too.
+    #[inline(always)]
+    pub(crate) fn extend(&mut self, more: &[u8], n: usize) -> Result<(), AllocError>
+        requires { n ≤ length more.now }
+        ensures { OnOk result (self.new ≡ record self.old { bytes = self.old.bytes ++ take n more.now }) }
     {
-        self.bytes.extend_from_slice(more)?;
+        append(&mut self.bytes, more, n)?;
         Ok(())
     }
 
@@ -123,7 +127,7 @@ impl Buffer {
     ) -> Result<(), AllocError>
         requires text { HasText self.old.bytes delimited from to }
         requires short { to < 2 ^ 32 }
-        ensures { OnOk result (self.new ≡ with_child self.old (Atom kind (token_text self.old.bytes delimited from to) (record { from = from; to = to }))) }
+        ensures { OnOk result (self.new ≡ with_child self.old (token_atom self.old.bytes kind delimited from to)) }
     {
         if self.nodes.len() >= MOST {
             return Err(AllocError);
@@ -144,7 +148,7 @@ impl Buffer {
         requires short { to < 2 ^ 32 }
         requires none { self.old.done ≡ [] }
         requires outside { self.old.open_lists ≡ [] }
-        ensures { self.new ≡ with_child self.old (Atom kind (token_text self.old.bytes delimited from to) (record { from = from; to = to })) }
+        ensures { self.new ≡ with_child self.old (token_atom self.old.bytes kind delimited from to) }
     {
         self.nodes.clear();
         self.nodes.push_reserved(Node::Atom {
@@ -207,5 +211,13 @@ impl Buffer {
         ensures { result ≡ first_of self.now.done }
     {
         first(self.bytes.as_slice(), self.nodes.as_slice())
+    }
+
+    /// A law: what is whole is made of parts of the bytes.
+    pub(crate) fn parts_law(&self)
+        requires { self.now.open_lists ≡ [] }
+        ensures { IsPart self.now.bytes (first_of self.now.done) }
+    {
+        let _count = self.nodes.len();
     }
 }

@@ -1,12 +1,21 @@
 //! Commands of a file that comes in pieces.
-ghost use Rattle.std.specs.Prelude.{◌≡◌, ℕ, ◌∷◌, [], ◌++◌, ◌+◌, ◌-◌, ◌<◌, ◌≤◌, ◌^◌, length, IfOk, Bool, OnOk, IsTrue, ◌≢◌, ◌⊎◌, codes, bytes_eq, false, true, take, IfErr};
+ghost use Rattle.std.specs.Prelude.{◌≡◌, ℕ, ◌∷◌, [], ◌++◌, ◌+◌, ◌-◌, ◌<◌, ◌≤◌, ◌^◌, length, IfOk};
+ghost use Rattle.std.specs.Prelude.{Bool, OnOk, IsTrue, ◌≢◌, ◌⊎◌, codes, bytes_eq, false, true};
+ghost use Rattle.std.specs.Prelude.{take, IfErr};
 ghost use Rattle.eo_base.specs.Limits.{limits};
 ghost use Rattle.eo_base.specs.Faults.{number};
 ghost use Rattle.eo_sexp.specs.Lexicon.{class, Open, Close};
 ghost use Rattle.eo_sexp.specs.Texts.{AfterPair, Start, after as phase_after, next_spot};
-ghost use Rattle.eo_sexp.specs.Collecting.{Collecting, new_collector, HasRoom, Feeds, HasMemory, Finishes, IsLive, start_of, here_of, IsAtCommand, IsWithin, Holds, ready};
+ghost use Rattle.eo_sexp.specs.Collecting.{Collecting, new_collector, HasRoom, Feeds, HasMemory};
+ghost use Rattle.eo_sexp.specs.Collecting.{Finishes, IsLive, start_of, here_of, IsAtCommand};
+ghost use Rattle.eo_sexp.specs.Collecting.{IsWithin, Holds, ready};
+ghost use Rattle.eo_sexp.specs.Parts.{HoldsParts};
 ghost use Rattle.eo_sexp.specs.Built.{nothing};
-ghost use Rattle.eo_sexp.specs.Machine.{phase_of, meaning, IsSound, IsBegun, IsPairFact, IsPlaced, IsFirst, TakesByte, Leaves, Keeps, Completes, Lengthens, ClosesCommand, earlier_fault, list_state, answer_of, FeedsByte, TakesBytes, Turned, GoesOver, StopsIn, Finishing};
+ghost use Rattle.eo_sexp.specs.Machine.{phase_of, meaning, IsSound, IsBegun, IsPairFact, IsPlaced};
+ghost use Rattle.eo_sexp.specs.Machine.{IsFirst, TakesByte, Leaves, Keeps, Completes, Lengthens};
+ghost use Rattle.eo_sexp.specs.Machine.{ClosesCommand, earlier_fault, list_state, answer_of};
+ghost use Rattle.eo_sexp.specs.Machine.{FeedsByte, TakesBytes, Turned, GoesOver, StopsIn};
+ghost use Rattle.eo_sexp.specs.Machine.{Finishing};
 ghost use Rattle.eo_sexp.specs.Reader.{IsAtom};
 ghost use Rattle.eo_sexp.specs.Token.{class_of};
 
@@ -482,7 +491,8 @@ impl Machine {
         requires within { IsWithin (meaning self.old) }
         requires room { self.old.here.offset + length rest.now ≤ 2 ^ 64 - 2 }
         ensures goes { IfOk result (λ n. GoesOver self.old first rest.now n self.new) }
-        ensures stops { IfErr result (λ f. (self.new.state ≡ State.NoMemory) × (f ≡ Fed.Memory) ⊎ StopsIn self.old first rest.now f self.new) }
+        ensures stops { IfErr result (λ f. (self.new.state ≡ State.NoMemory) × (f ≡ Fed.Memory)
+            ⊎ StopsIn self.old first rest.now f self.new) }
     {
         match self.state {
             State::Begun => {}
@@ -591,6 +601,14 @@ impl Machine {
         self.begun.first()
     }
 
+    fn parts_law(&self)
+        requires sound { IsSound self.now }
+        requires command { IsAtCommand (meaning self.now) }
+        ensures { HoldsParts (meaning self.now) }
+    {
+        self.begun.parts_law();
+    }
+
     // The place of the command begun or answered last, or of the fault.
     fn start(&self) -> Spot
         ensures { IsLive (meaning self.now) → result ≡ start_of (meaning self.now) }
@@ -670,6 +688,15 @@ impl Collector {
         ensures { Holds self.now result }
     {
         self.machine.command()
+    }
+
+    /// A law: the text of an atom of the command is the part of the command's bytes at its span,
+    /// without its bars or quotes.
+    pub fn parts_law(&self)
+        requires { IsAtCommand self.now }
+        ensures { HoldsParts self.now }
+    {
+        self.machine.parts_law();
     }
 
     /// The place of the first byte of the command begun or answered last, else of the next byte.

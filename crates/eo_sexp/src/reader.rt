@@ -1,17 +1,20 @@
 //! The command begun, a byte at a time.
-ghost use Rattle.std.specs.Prelude.{◌≡◌, ℕ, ◌+◌, ◌<◌, ◌≤◌, ◌^◌, [], length, IfOk, OnOk, suc, if◌then◌else◌, ◌==◌};
+ghost use Rattle.std.specs.Prelude.{◌≡◌, ℕ, ◌+◌, ◌<◌, ◌≤◌, ◌^◌, [], length, get_or, IfOk, IfSome};
+ghost use Rattle.std.specs.Prelude.{IsTrue, OnOk, suc, true, false, if◌then◌else◌, ◌==◌};
 ghost use Rattle.eo_base.specs.Limits.{limits};
-ghost use Rattle.eo_sexp.specs.Nodes.{token_text, HasText};
-ghost use Rattle.eo_sexp.specs.Sexp.{Atom};
+ghost use Rattle.eo_sexp.specs.Nodes.{token_atom, HasText};
 ghost use Rattle.eo_sexp.specs.Built.{Built, nothing, with_byte, with_child};
-ghost use Rattle.eo_sexp.specs.Token.{class_of, atom_kind};
-ghost use Rattle.eo_sexp.specs.Reader.{held, IsAtom, AddsChild, ClosesList, is_full, IsReader, Turns, Begins, BeginsToken, Ends, EndsAt, atom_of, text_at, is_delimited, RunsTo, Runs};
+ghost use Rattle.eo_sexp.specs.Token.{class_of, atom_kind, is_plain};
+ghost use Rattle.eo_sexp.specs.Reader.{held, IsAtom, AddsChild, ClosesList, is_full, IsReader};
+ghost use Rattle.eo_sexp.specs.Reader.{Turns, Begins, BeginsToken, Ends, EndsAt, atom_of, text_at};
+ghost use Rattle.eo_sexp.specs.Reader.{is_delimited, FirstOf, IsFirstOf, IsAhead, RunsTo, StopsAt};
+ghost use Rattle.eo_sexp.specs.Reader.{Runs};
 ghost use Rattle.eo_sexp.specs.Lexicon.{Open, class, is_line_end};
 
 use crate::Kind;
 use crate::buffer::Buffer;
-use crate::classes::{Class, classify, is_line_end};
-use crate::plain::{comment_run, plain_run};
+use crate::classes::{Class, classify, is_line_end, is_word};
+use crate::plain::{blank_run, comment_run, plain_run};
 use crate::token::{Token, TokenTurn, kind_of, may_end, token_turn};
 use eo_base::FaultName;
 use eo_base::limits::{COMMAND, NESTING, TOKEN, WIDTH};
@@ -68,7 +71,8 @@ fn add_atom(
     requires text { HasText buffer.old.bytes delimited from to }
     requires short { to < 2 ^ 32 }
     ensures bytes { OnOk result (buffer.new.bytes ≡ buffer.old.bytes) }
-    ensures added { IfOk result (λ whole. AddsChild limits buffer.old (Atom kind (token_text buffer.old.bytes delimited from to) (record { from = from; to = to })) buffer.new whole) }
+    ensures added { IfOk result (λ whole.
+        AddsChild limits buffer.old (token_atom buffer.old.bytes kind delimited from to) buffer.new whole) }
 {
     buffer.add_atom(kind, delimited, from, to)?;
     Ok(buffer.depth() == 0)
@@ -119,6 +123,52 @@ fn smaller(a: usize, b: usize) -> usize
     ensures b { result ≤ b }
 {
     if a < b { a } else { b }
+}
+
+// Keeps the byte behind the first `n` of `rest`, where it does not decide.
+#[inline(always)]
+fn keep(buffer: &mut Buffer, rest: &[u8], n: usize, turn: ReaderTurn) -> Result<Run, AllocError>
+    requires { n < length rest.now }
+    ensures moves { IfOk result (λ k. k.turn ≡ ReaderTurn.Goes → 0 < k.taken) }
+    ensures runs { IfOk result (λ k. (b : Built) (r s : Reader) → length b.bytes + n < limits.command →
+        StopsAt limits b r rest.now n 0 turn buffer.old s → Runs limits b r rest.now k.taken k.lines k.turn buffer.new s) }
+{
+    match turn {
+        ReaderTurn::Goes => {
+            let x = rest[n];
+            buffer.push(x)?;
+            Ok(Run {
+                taken: n + 1,
+                lines: line_feeds(x),
+                turn: ReaderTurn::Goes,
+            })
+        }
+        turn => Ok(Run {
+            taken: n,
+            lines: 0,
+            turn,
+        }),
+    }
+}
+
+// Whether a word begins with the byte x.
+#[inline(always)]
+fn begins_word(x: u8) -> bool
+    ensures { IsTrue result → FirstOf x Token.Word }
+{
+    is_word(x)
+}
+
+// The quoted symbol or the string that begins with the byte x.
+#[inline(always)]
+fn first_of_token(x: u8) -> Option<Token>
+    ensures { IfSome result (λ t. FirstOf x t) }
+{
+    match x {
+        b'|' => Some(Token::Quoted),
+        b'"' => Some(Token::Text { closed: false }),
+        _ => None,
+    }
 }
 
 impl Reader {
@@ -196,21 +246,26 @@ impl Reader {
         ensures counts { IfOk result (λ r. (r.lines ≤ r.taken) × (r.taken ≤ length rest.now)) }
         ensures runs { IfOk result (λ r. Runs limits buffer.old self.old rest.now r.taken r.lines r.turn buffer.new self.new) }
     {
+        let room = COMMAND.saturating_sub(buffer.bytes().len());
+        let most = smaller(rest.len(), room);
+        self.run_within(buffer, &rest[..most])
+    }
+
+    // The same where the command has room for all these bytes.
+    fn run_within(&mut self, buffer: &mut Buffer, rest: &[u8]) -> Result<Run, AllocError>
+        requires reader { IsReader limits (held buffer.old self.old) (length buffer.old.bytes) }
+        requires room { length buffer.old.bytes + length rest.now ≤ 2 ^ 24 }
+        ensures counts { IfOk result (λ r. (r.lines ≤ r.taken) × (r.taken ≤ length rest.now)) }
+        ensures runs { IfOk result (λ r. Runs limits buffer.old self.old rest.now r.taken r.lines r.turn buffer.new self.new) }
+    {
         let mut taken = self.run_plain(buffer, rest)?;
         let mut lines = 0;
         while taken < rest.len() {
-            let x = rest[taken];
-            let at = buffer.bytes().len();
-            if at >= COMMAND {
-                break;
-            }
-            match self.turn(buffer, at, x)? {
-                ReaderTurn::Goes => {
-                    buffer.push(x)?;
-                    lines += line_feeds(x);
-                    taken += 1;
-                    taken += self.run_plain(buffer, &rest[taken..])?;
-                }
+            let step = self.step(buffer, &rest[taken..])?;
+            taken += step.taken;
+            lines += step.lines;
+            match step.turn {
+                ReaderTurn::Goes => taken += self.run_plain(buffer, &rest[taken..])?,
                 turn => return Ok(Run { taken, lines, turn }),
             }
         }
@@ -219,6 +274,186 @@ impl Reader {
             lines,
             turn: ReaderTurn::Goes,
         })
+    }
+
+    // Takes a word at the front of `rest` where one begins and ends in it, with the byte behind it; or
+    // else as `step_other`.
+    #[inline(always)]
+    fn step(&mut self, buffer: &mut Buffer, rest: &[u8]) -> Result<Run, AllocError>
+        requires reader { IsReader limits (held buffer.old self.old) (length buffer.old.bytes) }
+        requires room { length buffer.old.bytes + length rest.now ≤ 2 ^ 24 }
+        requires some { 0 < length rest.now }
+        ensures moves { IfOk result (λ r. r.turn ≡ ReaderTurn.Goes → 0 < r.taken) }
+        ensures runs { IfOk result (λ r. Runs limits buffer.old self.old rest.now r.taken r.lines r.turn buffer.new self.new) }
+    {
+        if self.begins_word(rest[0]) {
+            let n = self.ahead(buffer, Token::Word, rest);
+            if n > 0 {
+                let at = buffer.bytes().len();
+                return self.take_word(buffer, at, n, rest);
+            }
+        }
+        self.step_other(buffer, rest)
+    }
+
+    // Takes spaces, or a quoted symbol or a string at the front of `rest` where one begins and ends in
+    // it, or else the first byte.
+    #[inline(always)]
+    fn step_other(&mut self, buffer: &mut Buffer, rest: &[u8]) -> Result<Run, AllocError>
+        requires reader { IsReader limits (held buffer.old self.old) (length buffer.old.bytes) }
+        requires room { length buffer.old.bytes + length rest.now ≤ 2 ^ 24 }
+        requires some { 0 < length rest.now }
+        ensures moves { IfOk result (λ r. r.turn ≡ ReaderTurn.Goes → 0 < r.taken) }
+        ensures runs { IfOk result (λ r. Runs limits buffer.old self.old rest.now r.taken r.lines r.turn buffer.new self.new) }
+    {
+        if rest[0] == b' ' && self.place == Place::Gap {
+            return self.take_blanks(buffer, rest);
+        }
+        let at = buffer.bytes().len();
+        match self.begins(rest[0]) {
+            Some(token) => {
+                let n = self.ahead(buffer, token, rest);
+                if n > 0 {
+                    let turn = self.turn_behind(buffer, token, at, n, rest)?;
+                    return keep(buffer, rest, n, turn);
+                }
+            }
+            None => {}
+        }
+        let turn = self.turn(buffer, at, rest[0])?;
+        keep(buffer, rest, 0, turn)
+    }
+
+    // Takes the spaces at the front of `rest`.
+    #[inline(always)]
+    fn take_blanks(&self, buffer: &mut Buffer, rest: &[u8]) -> Result<Run, AllocError>
+        requires reader { IsReader limits (held buffer.old self.now) (length buffer.old.bytes) }
+        requires gap { self.now.place ≡ Place.Gap }
+        requires room { length buffer.old.bytes + length rest.now ≤ 2 ^ 24 }
+        requires some { 0 < length rest.now }
+        requires first { get_or rest.now 0 0 ≡ 32 }
+        ensures moves { IfOk result (λ r. r.turn ≡ ReaderTurn.Goes → 0 < r.taken) }
+        ensures runs { IfOk result (λ r. Runs limits buffer.old self.now rest.now r.taken r.lines r.turn buffer.new self.now) }
+    {
+        let taken = blank_run(rest);
+        buffer.extend(rest, taken)?;
+        Ok(Run {
+            taken,
+            lines: 0,
+            turn: ReaderTurn::Goes,
+        })
+    }
+
+    // Whether a word begins with the byte x.
+    #[inline(always)]
+    fn begins_word(&self, x: u8) -> bool
+        ensures { IsTrue result → IsFirstOf self.now x Token.Word }
+    {
+        match self.place {
+            Place::Gap => begins_word(x),
+            _ => false,
+        }
+    }
+
+    // The quoted symbol or the string that begins with the byte x, where one may.
+    #[inline(always)]
+    fn begins(&self, x: u8) -> Option<Token>
+        ensures { IfSome result (λ t. IsFirstOf self.now x t) }
+    {
+        match self.place {
+            Place::Gap => first_of_token(x),
+            _ => None,
+        }
+    }
+
+    // How many bytes come before the one at which such a token may end, where that is in `rest` and
+    // the token may be added; else 0.
+    #[inline(always)]
+    fn ahead(&self, buffer: &Buffer, token: Token, rest: &[u8]) -> usize
+        requires room { length buffer.now.bytes + length rest.now ≤ 2 ^ 24 }
+        requires some { 0 < length rest.now }
+        ensures ahead { 0 < result → IsAhead limits buffer.now token rest.now result }
+        ensures ends { 0 < result → is_plain token (get_or rest.now result 0) ≡ false }
+    {
+        if is_full(buffer) {
+            return 0;
+        }
+        let most = smaller(rest.len() - 1, TOKEN);
+        let n = plain_run(token, &rest[1..]) + 1;
+        if n <= most { n } else { 0 }
+    }
+
+    // Takes a word of `n` bytes and the byte behind it.
+    #[inline(always)]
+    fn take_word(
+        &mut self,
+        buffer: &mut Buffer,
+        at: usize,
+        n: usize,
+        rest: &[u8],
+    ) -> Result<Run, AllocError>
+        requires reader { IsReader limits (held buffer.old self.old) at }
+        requires at { length buffer.old.bytes ≡ at }
+        requires first { IsFirstOf self.old (get_or rest.now 0 0) Token.Word }
+        requires ahead { IsAhead limits buffer.old Token.Word rest.now n }
+        requires ends { is_plain Token.Word (get_or rest.now n 0) ≡ false }
+        ensures moves { IfOk result (λ r. r.turn ≡ ReaderTurn.Goes → 0 < r.taken) }
+        ensures runs { IfOk result (λ r. Runs limits buffer.old self.old rest.now r.taken r.lines r.turn buffer.new self.new) }
+    {
+        if rest[n] == b' ' {
+            buffer.extend(rest, n + 1)?;
+            buffer.add_atom(kind_of(&rest[..n]), false, at, at + n)?;
+            return Ok(Run {
+                taken: n + 1,
+                lines: 0,
+                turn: ReaderTurn::Goes,
+            });
+        }
+        let turn = self.turn_word(buffer, at, n, rest)?;
+        keep(buffer, rest, n, turn)
+    }
+
+    // Takes a word of `n` bytes, and tells what the byte behind it does.
+    #[inline(always)]
+    fn turn_word(
+        &mut self,
+        buffer: &mut Buffer,
+        at: usize,
+        n: usize,
+        rest: &[u8],
+    ) -> Result<ReaderTurn, AllocError>
+        requires reader { IsReader limits (held buffer.old self.old) at }
+        requires at { length buffer.old.bytes ≡ at }
+        requires first { IsFirstOf self.old (get_or rest.now 0 0) Token.Word }
+        requires ahead { IsAhead limits buffer.old Token.Word rest.now n }
+        requires ends { is_plain Token.Word (get_or rest.now n 0) ≡ false }
+        ensures { IfOk result (λ t. StopsAt limits buffer.old self.old rest.now n 0 t buffer.new self.new) }
+    {
+        buffer.extend(rest, n)?;
+        buffer.add_atom(kind_of(&rest[..n]), false, at, at + n)?;
+        self.turn_gap(buffer, at + n, rest[n])
+    }
+
+    // Takes the first `n` bytes of a token, and tells what the byte behind them does.
+    #[inline(always)]
+    fn turn_behind(
+        &mut self,
+        buffer: &mut Buffer,
+        token: Token,
+        at: usize,
+        n: usize,
+        rest: &[u8],
+    ) -> Result<ReaderTurn, AllocError>
+        requires reader { IsReader limits (held buffer.old self.old) at }
+        requires at { length buffer.old.bytes ≡ at }
+        requires first { IsFirstOf self.old (get_or rest.now 0 0) token }
+        requires ahead { IsAhead limits buffer.old token rest.now n }
+        ensures { IfOk result (λ t. StopsAt limits buffer.old self.old rest.now n 0 t buffer.new self.new) }
+    {
+        self.place = Place::Token(token);
+        self.from = at;
+        buffer.extend(rest, n)?;
+        self.turn_token(buffer, token, at + n, rest[n])
     }
 
     // Takes the bytes at the front of `rest` that leave a token or a comment as it is, but no line
@@ -247,7 +482,7 @@ impl Reader {
         let most = smaller(rest.len(), COMMAND.saturating_sub(buffer.bytes().len()));
         let run = comment_run(&rest[..most]);
         if run > 0 {
-            buffer.extend(&rest[..run])?;
+            buffer.extend(rest, run)?;
         }
         Ok(run)
     }
@@ -268,7 +503,7 @@ impl Reader {
         let most = smaller(rest.len(), more);
         let run = plain_run(token, &rest[..most]);
         if run > 0 {
-            buffer.extend(&rest[..run])?;
+            buffer.extend(rest, run)?;
         }
         Ok(run)
     }
@@ -314,7 +549,8 @@ impl Reader {
         requires at { length buffer.old.bytes ≡ at }
         requires room { at < 2 ^ 31 }
         ensures bytes { OnOk result (buffer.new.bytes ≡ buffer.old.bytes) }
-        ensures turns { IfOk result (λ t. (x : ℕ) → class x ≡ Open → Turns limits (held buffer.old self.old) at x t (held (with_byte buffer.new x) self.new)) }
+        ensures turns { IfOk result (λ t. (x : ℕ) → class x ≡ Open →
+            Turns limits (held buffer.old self.old) at x t (held (with_byte buffer.new x) self.new)) }
     {
         if buffer.depth() >= NESTING {
             return Ok(ReaderTurn::Fault(FaultName::Nesting));

@@ -1,7 +1,7 @@
 //! The shape of parameters.
-ghost use Rattle.std.specs.Prelude.{◌≡◌, ◌<◌, List, ◌∷◌, Some, length, is_some, option_map, option_and_then};
+ghost use Rattle.std.specs.Prelude.{◌≡◌, ◌<◌, List, ◌∷◌, Some, length, is_some, option_map};
 ghost use Rattle.eo_sexp.specs.Sexp.{Sexp};
-ghost use Rattle.eo_shape.specs.Parameters.{shaped_parameter};
+ghost use Rattle.eo_shape.specs.Parameters.{shaped_parameter, AddsMark};
 ghost use Rattle.eo_shape.specs.Reading.{read_parameter};
 ghost use Rattle.eo_shape.specs.Shapes.{every, parameter_of, parameters_of, with_marks};
 
@@ -123,7 +123,7 @@ fn with_marks<'a>(parameter: ParameterShape<'a>, marks: &Children<'_>) -> Option
 
 /// The parameter with one mark more, which it does not have.
 fn with_mark<'a>(parameter: ParameterShape<'a>, mark: &Sexp<'_>) -> Option<ParameterShape<'a>>
-    ensures { (rest : List Sexp) → with_marks (read_parameter parameter.entry) (mark.now ∷ rest) ≡ option_and_then (λ p. with_marks p rest) (option_map read_parameter result) }
+    ensures { AddsMark (read_parameter parameter.entry) mark.now (option_map read_parameter result) }
 {
     if is_keyword(mark, b":implicit") && !parameter.implicit {
         return Some(ParameterShape {

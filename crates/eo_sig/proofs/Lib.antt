@@ -1,5 +1,5 @@
 mod Vectors
-pub mod Grows
+pub mod Longer
 pub mod Suite
 pub mod SuiteFaults
 pub mod Tables

@@ -1,10 +1,11 @@
 -- A signature is the same over two lists of trees that have the same below a bound of what it keeps.
+use Rattle.eo_base.proofs.Elements.{ids_more}
 use Rattle.std.proofs.Common.{◌≡◌, ℕ, ◌<◌, ◌≤◌, List, [], ◌∷◌, length, take, map, Option, Some, None, All, refl, sym, ap, ◌∙◌, arith}
 use Rattle.std.specs.Prelude.{option_map}
 use Rattle.std.proofs.lemmas.List.{get_or-take}
 use Rattle.std.proofs.lemmas.List.Elements.{All-head, All-tail, All-weaker}
 use Rattle.eo_term.specs.Tree.{Tree, Con}
-use Rattle.eo_term.specs.Terms.{Terms, tree_at, SameTrees, Grows}
+use Rattle.eo_term.specs.Terms.{Terms, tree_at, SameTrees, Since}
 use Rattle.eo_sig.specs.declared.records.Param.{Param}
 use Rattle.eo_sig.specs.declared.records.Attribute as code_attribute
 use Rattle.eo_sig.specs.declared.records.Attribute.TheVariants as attribute
@@ -92,7 +93,7 @@ module _ (n : ℕ) (ts us : List Tree) (s : SameTrees n ts us) where
   macros_same k h = map_same (MacroBelow n) (read_macro us) (read_macro ts) macro_same k.macros h.macros
 
 -- in a table that has grown
-module _ (old new : Terms) (k : Kept) (h : IsBelow (length old.trees) k) (g : Grows old new) where
+module _ (old new : Terms) (k : Kept) (h : IsBelow (length old.trees) k) (g : Since old new) where
   pub signature_grown : signature new.trees k ≡ signature old.trees k
   signature_grown = signature_same (length old.trees) old.trees new.trees (record { at = g.tree }) k h
 
@@ -111,9 +112,6 @@ macros_cut n ts us k h e =
 -- what is below n is below a greater number
 params_more : (n m : ℕ) → n ≤ m → (ps : List Param) → All (λ (p : Param). p.ty < n) ps → All (λ (p : Param). p.ty < m) ps
 params_more n m l ps h = All-weaker (λ (p : Param). p.ty < n) (λ (p : Param). p.ty < m) (λ p g. omega arith) ps h
-
-ids_more : (n m : ℕ) → n ≤ m → (is : List ℕ) → All (λ i. i < n) is → All (λ i. i < m) is
-ids_more n m l is h = All-weaker (λ i. i < n) (λ i. i < m) (λ i g. omega arith) is h
 
 attribute_more : (n m : ℕ) → n ≤ m → (a : code_attribute.Attribute) → AttributeBelow n a → AttributeBelow m a
 attribute_more n m l attribute.Plain h = tt
@@ -158,11 +156,11 @@ below_more n m k l h = record {
   macros = All-weaker (MacroBelow n) (MacroBelow m) (λ d g. record { params = params_more n m l d.params g.params; tree = omega (arith, g.tree); few = g.few }) k.macros h.macros;
 }
 
-pub below_grown : (old new : Terms) (k : Kept) → Grows old new → IsBelow (length old.trees) k → IsBelow (length new.trees) k
+pub below_grown : (old new : Terms) (k : Kept) → Since old new → IsBelow (length old.trees) k → IsBelow (length new.trees) k
 below_grown old new k g h = below_more (length old.trees) (length new.trees) k g.more_trees h
 
 -- where the table grows
-pub stays_grown : (k : Kept) (old new : Terms) → IsBelow (length old.trees) k → Grows old new → Stays k old.trees new.trees
+pub stays_grown : (k : Kept) (old new : Terms) → IsBelow (length old.trees) k → Since old new → Stays k old.trees new.trees
 stays_grown k old new h g = record { signature = signature_grown old new k h g; macros = macros_grown old new k h g; below = below_grown old new k g h }
 
 -- where it is cut at a place above all that is kept, whatever stands behind it then

@@ -1,10 +1,11 @@
 -- Tables of names beside the list of declarations.
+use Rattle.eo_base.proofs.Elements.{slice_get_left, slice_get_seam}
 use Rattle.std.proofs.Common.{◌≡◌, ℕ, zero, suc, ◌+◌, Bool, not, cond, List, [], ◌∷◌, ◌++◌, length, map, position, slice_get, get_or, Option, Some, None, All, refl, sym, ap, ap₂, ◌∙◌, subst}
 use Rattle.std.specs.List.{filter_map, position_or_len, cons_option}
 use Rattle.std.specs.Prelude.{option_map, nat_lt}
 use Rattle.std.specs.Borrow.{Bor}
 use Rattle.std.specs.Option.{option_or, option_copied, IsSome}
-use Rattle.std.proofs.lemmas.List.{map-append, append-nil}
+use Rattle.std.proofs.lemmas.List.{length-map, map-append, append-nil}
 use Rattle.std.proofs.lemmas.List.Elements.{filter_map-append, All-head, All-tail}
 use Rattle.std.proofs.lemmas.Option.{none-some, same_Some, slice_get-map}
 use Rattle.eo_lit.specs.declared.LiteralClass.{LiteralClass}
@@ -32,15 +33,6 @@ position_same p f g xs ys e =
 pub map_twice : {X Y Z : Type 0} (g : Y → Z) (f : X → Y) (h : X → Z) → ((x : X) → g (f x) ≡ h x) → (xs : List X) → map g (map f xs) ≡ map h xs
 map_twice g f h e [] = refl
 map_twice g f h e (x ∷ xs) = λ i. e x i ∷ map_twice g f h e xs i
-
-pub slice_get_left : {X : Type 0} (xs ys : List X) (i : ℕ) (x : X) → slice_get xs i ≡ Some x → slice_get (xs ++ ys) i ≡ Some x
-slice_get_left [] ys i x p = absurd (none-some x p)
-slice_get_left (z ∷ zs) ys zero x p = p
-slice_get_left (z ∷ zs) ys (suc i) x p = slice_get_left zs ys i x p
-
-pub slice_get_seam : {X : Type 0} (xs : List X) (y : X) (ys : List X) → slice_get (xs ++ y ∷ ys) (length xs) ≡ Some y
-slice_get_seam [] y ys = refl
-slice_get_seam (x ∷ xs) y ys = slice_get_seam xs y ys
 
 -- the element at a place
 pub get_of_some : {X : Type 0} (xs : List X) (i : ℕ) (x d : X) → slice_get xs i ≡ Some x → get_or xs i d ≡ x
@@ -113,12 +105,8 @@ module _ {V : Type 0} (items : V → List ℕ) where
           by None h = h
           by (Some w) h = ap (λ ws. w ∷ ws) h
 
-pub length_map : {X Y : Type 0} (f : X → Y) (xs : List X) → length (map f xs) ≡ length xs
-length_map f [] = refl
-length_map f (x ∷ xs) = ap suc (length_map f xs)
-
 pub table_length : {V : Type 0} (items : V → List ℕ) (pick : Declared → Option (List ℕ)) (es : List Declared) (names : List (V × ℕ)) → IsTable items pick es names → length names ≡ length (filter_map pick es)
-table_length items pick es names h = sym (length_map (λ e. items e.0) names) ∙ ap length (table_names items pick es names h)
+table_length items pick es names h = sym (length-map names (λ e. items e.0)) ∙ ap length (table_names items pick es names h)
 
 -- Declarations of one kind, in the table of their names.
 module _ {D : Type 0} (own : Declared → Option D) (name : D → List ℕ) where

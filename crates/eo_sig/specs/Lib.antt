@@ -1,6 +1,7 @@
 pub mod Signature
 pub mod Code
 pub mod Reading
+pub mod Parts
 pub mod Held
 pub mod Refused
 pub mod Usable

@@ -1,11 +1,10 @@
+-- A signature: the kinds of declarations and their parts, looking them up by number or by name, and what a declaration may hold.
 use Rattle.std.specs.Prelude.{◌≡◌, ℕ, suc, Bool, true, false, not, ◌&&◌, ◌||◌, if◌then◌else◌, nat_eq, nat_lt, bytes_eq, codes, List, [], ◌∷◌, ◌++◌, drop, Option, Some, None, is_none, option_map, option_and_then, option_to_list, slice_get, filter_map, position}
 use Rattle.std.specs.List.{list_all, list_any, starts_with}
 use Rattle.std.specs.Option.{option_or}
 use Rattle.eo_base.specs.declared.FaultName.{FaultName}
 use Rattle.eo_base.specs.declared.FaultName.TheVariants.{BadPattern, UnboundParam, Redeclared}
-use Rattle.eo_term.specs.declared.OpName.{OpName}
-use Rattle.eo_term.specs.declared.OpCode.{OpCode}
-use Rattle.eo_term.specs.Tree.{Tree, Con, Num, Bits, Str, Par, Var, App, Arr, Qar, Op, Trees, NoTree, More, type_tree, bool_tree, is_value, is_plain, occurs_in, occurs_openly, uses_only}
+use Rattle.eo_term.specs.Tree.{Tree, Con, Num, Bits, Str, Par, Var, App, Arr, Qar, Op, type_tree, bool_tree, is_value, is_plain, occurs_in, occurs_openly, uses_only}
 pub use Rattle.eo_term.specs.Tree.{may_type_use, may_be_type, all_may_be_type}
 use Rattle.eo_lit.specs.declared.LiteralClass.{LiteralClass}
 use Rattle.eo_lit.specs.declared.LiteralClass.TheVariants.{Numeral, Binary, String}

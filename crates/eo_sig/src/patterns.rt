@@ -4,7 +4,8 @@ ghost use Rattle.std.specs.List.{list_all};
 ghost use Rattle.eo_term.specs.Tree.{Tree, is_plain, uses_only, occurs_in};
 ghost use Rattle.eo_term.specs.Terms.{tree_at};
 ghost use Rattle.eo_sig.specs.Signature as sig;
-ghost use Rattle.eo_sig.specs.Reading.{read_case, read_rule, read_premises, read_pair, read_parameter, CaseBelow, RuleBelow, SomeBelow, PremisesBelow};
+ghost use Rattle.eo_sig.specs.Parts.{parameters_in, pairs_in, uses_only_both, Solves};
+ghost use Rattle.eo_sig.specs.Reading.{read_case, read_rule, read_premises, CaseBelow, RuleBelow, SomeBelow, PremisesBelow};
 ghost use Rattle.eo_term.specs.ParamSet.{has, AddsAll};
 
 use crate::{Case, Param, PremiseShape, RuleDecl};
@@ -159,7 +160,7 @@ fn add_premises(table: &Table, premises: &PremiseShape, known: &mut ParamSet)
 // first.
 fn solve(table: &Table, params: &[Param], known: &mut ParamSet)
     requires { All (λ p. p.ty < length table.now.trees) params.now }
-    ensures { (patterns : List Tree) → ((j : ℕ) → has known.old j ≡ occurs_in j patterns) → (j : ℕ) → has known.new j ≡ sig.known patterns 0 (map (read_parameter table.now.trees) params.now) j }
+    ensures { Solves table.now params.now known.old known.new }
 {
     let mut i = params.len();
     while i > 0 {
@@ -174,7 +175,7 @@ fn solve(table: &Table, params: &[Param], known: &mut ParamSet)
 // Whether both sides of each pair use only parameters of the set.
 fn pairs_use_only(table: &Table, known: &ParamSet, pairs: &[(Id, Id)]) -> bool
     requires { All (λ (q : ℕ × ℕ). (q.0 < length table.now.trees) × (q.1 < length table.now.trees)) pairs.now }
-    ensures { result ≡ list_all (λ q. uses_only (has known.now) q.0 && uses_only (has known.now) q.1) (map (read_pair table.now.trees) pairs.now) }
+    ensures { result ≡ list_all (uses_only_both (has known.now)) (pairs_in table.now pairs.now) }
 {
     for (a, b) in pairs {
         if !(table.uses_only(known, *a) && table.uses_only(known, *b)) {

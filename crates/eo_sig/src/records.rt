@@ -2,6 +2,7 @@
 ghost use Rattle.std.specs.Prelude.{◌≡◌, length};
 ghost use Rattle.std.specs.Option.{option_copied};
 ghost use Rattle.eo_sig.specs.Signature.{constant_may_hold};
+ghost use Rattle.eo_sig.specs.Growth.{Lasts};
 ghost use Rattle.eo_sig.specs.Reading.{const_of, program_decl_of, rule_decl_of, read_constant, ConstBelow};
 
 use crate::types::{may_fold, may_type};
@@ -59,6 +60,13 @@ pub struct ConstDecl {
 }
 
 impl ConstDecl {
+    /// It is the same constant where the table grows. A call costs nothing: it tells a proof this.
+    pub fn laws(&self)
+        ensures { Lasts self.now }
+    {
+        let _ty = self.ty;
+    }
+
     /// Whether its type and its parameters' types hold no operator that a declared type may not
     /// hold, and its terminator, if it has one, is a value. Its terms are terms of the table.
     pub fn may_hold(&self, table: &Table) -> bool

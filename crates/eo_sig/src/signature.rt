@@ -3,7 +3,10 @@ ghost use Rattle.std.specs.Prelude.{◌≡◌, ℕ, ◌<◌, ◌≤◌, List, []
 ghost use Rattle.eo_term.specs.Tree.{Tree};
 ghost use Rattle.eo_term.specs.Terms.{first_trees};
 ghost use Rattle.eo_sig.specs.Signature as sig;
-ghost use Rattle.eo_sig.specs.Reading.{signature, macros, constants_of, rules_of, IsBelow, IsWithin, first_kept, first_constant, with_entry, read_named};
+ghost use Rattle.eo_sig.specs.Parts.{lookup_in};
+ghost use Rattle.eo_sig.specs.Reading.{signature, macros, constants_of, rules_of, IsBelow, IsWithin};
+ghost use Rattle.eo_sig.specs.Reading.{first_kept, first_constant, with_entry, read_named};
+ghost use Rattle.eo_sig.specs.Growth.{StaysUnder};
 ghost use Rattle.eo_sig.specs.Usable.{IsUsable};
 
 mod declaring;
@@ -64,7 +67,8 @@ impl Model for Signature {
 
     ghost view = { λ a. record { entries = a.entries.items; macros = map (λ e. e.1) a.macros.entries } };
 
-    ghost invariant = { λ a. IsKept (λ w. w.items) a.entries.items a.constants.entries a.programs.entries a.rules.entries a.macros.entries a.numeral a.binary a.string };
+    ghost invariant = { λ a. IsKept (λ w. w.items) a.entries.items a.constants.entries a.programs.entries a.rules.entries a.macros.entries
+        a.numeral a.binary a.string };
 }
 
 impl Signature {
@@ -85,10 +89,17 @@ impl Signature {
         Ok(s)
     }
 
+    /// It stays what it is where the table grows. A call costs nothing: it tells a proof this.
+    pub fn laws(&self)
+        ensures { StaysUnder self.now }
+    {
+        let _count = self.entries.len();
+    }
+
     /// What the name stands for among constants, macros and programs, which share one space of
     /// names.
     pub fn lookup(&self, name: &[u8]) -> Option<Entry>
-        ensures named { (ts : List Tree) → option_map read_named result ≡ sig.lookup (signature ts self.now) (macros ts self.now) name.now }
+        ensures named { (ts : List Tree) → option_map read_named result ≡ lookup_in ts self.now name.now }
         ensures within { IfSome result (λ e. IsWithin self.now e) }
     {
         match self.constants.get_index_of(name) {
@@ -184,7 +195,7 @@ impl Signature {
     {
         let d = ConstDecl {
             name: Name::new(self.alloc, name)?,
-            params: Params::new(self.alloc)?,
+            params: Params::new(self.alloc),
             ty,
             attribute: Attribute::Plain,
             from_reference: false,

@@ -1,42 +1,48 @@
 //! What declared types and terminators may hold.
-ghost use Rattle.std.specs.Prelude.{◌≡◌, ◌<◌, List, length, not, is_none, All, map};
+ghost use Rattle.std.specs.Prelude.{◌≡◌, ℕ, ◌<◌, List, length, not, is_none, All};
 ghost use Rattle.std.specs.List.{list_any};
+ghost use Rattle.eo_term.specs.Growth.{tree_in};
+ghost use Rattle.eo_term.specs.ParamSet.{has};
 ghost use Rattle.eo_term.specs.Tree.{Tree, occurs_openly};
-ghost use Rattle.eo_term.specs.Terms.{tree_at};
 ghost use Rattle.eo_sig.specs.Signature as sig;
-ghost use Rattle.eo_sig.specs.Reading.{read_parameter, read_attribute, AttributeBelow};
+ghost use Rattle.eo_sig.specs.Parts.{parameters_in, Splits};
+ghost use Rattle.eo_sig.specs.Reading.{read_attribute, AttributeBelow};
 
 use crate::{Attribute, Param};
-use eo_term::{Id, Node, Table};
+use eo_term::{Id, Node, ParamSet, Table};
 
-/// Whether the parameter occurs outside every operator in the type of an argument of a constant of
-/// this type.
-pub(crate) fn is_open_in_arguments(table: &Table, par: usize, id: Id) -> bool
-    requires { id < length table.now.trees }
-    ensures { result ≡ list_any (occurs_openly par) (sig.argument_types (tree_at table.now.trees id)) }
+// The parameters that occur outside every operator in the type of an argument of a constant of this
+// type. The table keeps them with each term, those of the result among them: so the arguments are
+// asked one by one.
+fn open_in_arguments(table: &Table, ty: Id) -> ParamSet
+    requires { ty < length table.now.trees }
+    ensures { (j : ℕ) → has result j ≡ list_any (occurs_openly j) (sig.argument_types (tree_in table.now ty)) }
 {
-    match table.node(id) {
-        Node::Con(_) => false,
-        Node::Num(_) => false,
-        Node::Bits { .. } => false,
-        Node::Str(_) => false,
-        Node::Par(_) => false,
-        Node::Var { .. } => false,
-        Node::App { .. } => false,
-        Node::Arr { from, to } => {
-            table.open_parameters(from).has(par) || is_open_in_arguments(table, par, to)
-        }
-        Node::Qar { ty, to, .. } => {
-            table.open_parameters(ty).has(par) || is_open_in_arguments(table, par, to)
-        }
-        Node::Op { .. } => false,
+    let mut found = ParamSet::new();
+    let mut rest = ty;
+    while let Some((argument, to)) = first_argument(table, rest) {
+        found.add_all(table.open_parameters(argument));
+        rest = to;
+    }
+    found
+}
+
+// The type of the first argument of a constant of this type, and the type of what it gives then.
+fn first_argument(table: &Table, ty: Id) -> Option<(Id, Id)>
+    requires { ty < length table.now.trees }
+    ensures { Splits table.now ty result }
+{
+    match table.node(ty) {
+        Node::Arr { from, to } => Some((from, to)),
+        Node::Qar { ty: from, to, .. } => Some((from, to)),
+        _ => None,
     }
 }
 
 /// Whether the types of the parameters may be declared.
 pub(crate) fn may_type(table: &Table, params: &[Param]) -> bool
     requires { All (λ p. p.ty < length table.now.trees) params.now }
-    ensures { result ≡ sig.may_type (map (read_parameter table.now.trees) params.now) }
+    ensures { result ≡ sig.may_type (parameters_in table.now params.now) }
 {
     for p in params {
         if !table.may_be_type(p.ty) {
@@ -52,24 +58,19 @@ pub(crate) fn may_fold(table: &Table, attribute: &Attribute) -> bool
     ensures { result ≡ sig.may_fold (read_attribute table.now.trees attribute.now) }
 {
     match *attribute {
-        Attribute::RightNil(n) => table.is_value(n),
-        Attribute::LeftNil(n) => table.is_value(n),
-        Attribute::Plain => true,
-        Attribute::Right => true,
-        Attribute::Left => true,
-        Attribute::Chain(_) => true,
-        Attribute::Pairs(_) => true,
-        Attribute::Binder(_) => true,
+        Attribute::RightNil(n) | Attribute::LeftNil(n) => table.is_value(n),
+        _ => true,
     }
 }
 
 /// Whether each implicit parameter occurs in the type of an argument, outside every operator.
 pub(crate) fn implicit_occur(table: &Table, ty: Id, params: &[Param]) -> bool
     requires ty { ty < length table.now.trees }
-    ensures { result ≡ sig.implicit_occur (sig.argument_types (tree_at table.now.trees ty)) 0 (map (read_parameter table.now.trees) params.now) }
+    ensures { result ≡ sig.implicit_occur (sig.argument_types (tree_in table.now ty)) 0 (parameters_in table.now params.now) }
 {
+    let open = open_in_arguments(table, ty);
     for (i, p) in params.iter().enumerate() {
-        if p.implicit && !is_open_in_arguments(table, i, ty) {
+        if p.implicit && !open.has(i) {
             return false;
         }
     }
@@ -80,14 +81,5 @@ pub(crate) fn implicit_occur(table: &Table, ty: Id, params: &[Param]) -> bool
 pub(crate) fn ends_at_right(attribute: &Attribute) -> bool
     ensures { (ts : List Tree) → result ≡ not (is_none (sig.terminator_of (read_attribute ts attribute.now))) }
 {
-    match attribute {
-        Attribute::RightNil(_) => true,
-        Attribute::LeftNil(_) => false,
-        Attribute::Plain => false,
-        Attribute::Right => false,
-        Attribute::Left => false,
-        Attribute::Chain(_) => false,
-        Attribute::Pairs(_) => false,
-        Attribute::Binder(_) => false,
-    }
+    matches!(attribute, Attribute::RightNil(_))
 }

@@ -1,16 +1,15 @@
 -- The entries that a table begins with.
-use Rattle.std.proofs.Common.{◌≡◌, ℕ, zero, suc, ◌+◌, ◌<◌, inl, inr, true, false, List, [], ◌∷◌, ◌++◌, length, get_or, slice_get, Some, All, refl, sym, ap, ◌∙◌, subst, arith}
+use Rattle.std.proofs.Common.{◌≡◌, ℕ, zero, suc, ◌<◌, true, false, List, [], ◌∷◌, ◌++◌, length, get_or, slice_get, Some, All, refl, sym, ap, ◌∙◌, subst, arith}
 use Rattle.std.proofs.lemmas.List.Elements.{All-nil}
 use Rattle.std.proofs.lemmas.Option.{none-some, same_Some}
 use Rattle.eo_term.specs.declared.node.Node.TheVariants as node
-use Rattle.eo_term.specs.Keys.{Root, IsNew}
+use Rattle.eo_term.specs.Keys.{Root}
 use Rattle.eo_term.specs.declared.node.Info.{Info}
 use Rattle.eo_term.specs.ParamSet.{has}
 use Rattle.eo_term.specs.Tree.{Tree, Con}
 use Rattle.eo_base.specs.Characters.{AreCharacters}
 use Rattle.eo_term.specs.Terms.{tree_at, tree_of, trees_at, PartsBelow, TextsBelow, HasArguments, IsProper, AreApart, first_trees}
 use Rattle.eo_term.specs.Held.{tree_of_root, trees_after, trees_of, Tells, IsEntry, Holds, IsSound}
-use Rattle.eo_term.proofs.Grown.{slice_get_push}
 
 -- the root of a constant
 pub record IsConstant (n : ℕ) (k : Root) : Type 0 where
@@ -20,23 +19,6 @@ pub record IsConstant (n : ℕ) (k : Root) : Type 0 where
 -- the entries are constants below n
 abbrev pub AreConstants : ℕ → List (Root × Info) → Type 0
 AreConstants n es = (i : ℕ) (e : Root × Info) → slice_get es i ≡ Some e → (m : ℕ) × (m < n) × (e.0.node ≡ node.Con m)
-
-pub no_constants : (es : List (Root × Info)) → es ≡ [] → AreConstants 0 es
-no_constants es e i f p = absurd (none-some f (sym (ap (λ fs. slice_get fs i) e) ∙ p))
-
-pub one_constant : (n : ℕ) (es fs : List (Root × Info)) (is : List ℕ) (s : Info) → AreConstants n es → fs ≡ es ++ (record { node = node.Con n; args = is }, s) ∷ [] → AreConstants (n + 1) fs
-one_constant n es fs is s h e i f p =
-    elim (slice_get_push es (record { node = node.Con n; args = is }, s) i f (sym (ap (λ gs. slice_get gs i) e) ∙ p)) [
-      | inl q ↦ let g = h i f q.1 in (g.0, omega (arith, g.1), g.2)
-      | inr q ↦ (n, omega arith, ap (λ (g : Root × Info). g.0.node) q.1)
-    ]
-
-pub constant_new : (n : ℕ) (es : List (Root × Info)) (is : List ℕ) → AreConstants n es → IsNew es (node.Con n) is
-constant_new n es is h i e p q =
-    let g = h i e p in
-    let both : node.Con g.0 ≡ node.Con n = sym g.2 ∙ ap (λ (r : Root). r.node) q in
-    let same : g.0 ≡ n = cc in
-    omega (arith, g.1)
 
 -- what is known of a leaf without parameters
 pub record IsLeaf (s : Info) : Type 0 where

@@ -1,10 +1,10 @@
 -- A table that has grown has grown from whatever it had grown from.
-use Rattle.eo_term.specs.Terms.{Terms, Grows}
-use Rattle.eo_term.specs.Growth.{GrowsOn}
-use Rattle.eo_term.proofs.Grown.{grows_refl, grows_trans}
+use Rattle.eo_term.specs.Terms.{Terms, Since}
+use Rattle.eo_term.specs.Growth.{Grows}
+use Rattle.eo_term.proofs.Grown.{since_refl, since_trans}
 
-pub grows_on : (old new : Terms) → Grows old new → GrowsOn old new
-grows_on old new g = record { now = g; since = λ t h. grows_trans t old new h g }
+pub grows_from : (old new : Terms) → Since old new → Grows old new
+grows_from old new g = record { now = g; since = λ t h. since_trans t old new h g }
 
-pub grows_on_refl : (t : Terms) → GrowsOn t t
-grows_on_refl t = record { now = grows_refl t; since = λ s h. h }
+pub grows_refl : (t : Terms) → Grows t t
+grows_refl t = record { now = since_refl t; since = λ s h. h }

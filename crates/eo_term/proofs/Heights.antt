@@ -6,7 +6,7 @@ use Rattle.eo_term.specs.declared.OpCode.{OpCode}
 use Rattle.eo_term.specs.Tree.{Tree, Trees, Var, App, Op, NoTree, More, height, height_all, is_tall}
 use Rattle.eo_term.specs.Arguments.{count_of, argument_at}
 
-higher : (t u : Tree) → height t ≤ height u → is_tall t ≡ true → is_tall u ≡ true
+pub higher : (t u : Tree) → height t ≤ height u → is_tall t ≡ true → is_tall u ≡ true
 higher t u h e = let l = ltb-true height_limit (height t) e in lt-ltb height_limit (height u) (omega (arith, h, l))
 
 pub tall_type : (s : List ℕ) (t : Tree) → is_tall t ≡ true → is_tall (Var s t) ≡ true

@@ -2,7 +2,7 @@
 use Rattle.std.proofs.Common.{◌≡◌, ℕ, suc, pos, ◌<◌, ◌≤◌, List, [], ◌∷◌, ◌++◌, length, get_or, map, take, position, slice_get, Option, Some, None, IfSome, IfNone, is_some, inl, inr, refl, sym, ap, ◌∙◌, subst, arith, length-append}
 use Rattle.std.specs.Map.{keys_of, lookup}
 use Rattle.std.proofs.lemmas.List.{get_or-take, length-map, length-take-le, map-append, take-map}
-use Rattle.std.proofs.lemmas.Option.{slice_get_within, slice_get-get_or, get_or_from_slice_get}
+use Rattle.std.proofs.lemmas.Option.{slice_get-get_or, get_or_from_slice_get}
 use Rattle.eo_term.specs.declared.OpCode.{OpCode}
 use Rattle.eo_term.specs.declared.node.Node.{Node}
 use Rattle.eo_term.specs.declared.node.Node.TheVariants as node
@@ -13,7 +13,7 @@ use Rattle.eo_term.specs.declared.node.Key.TheVariants as key
 use Rattle.eo_term.specs.declared.node.Info.{Info}
 use Rattle.eo_term.specs.declared.nodes.Nodes.{Nodes}
 use Rattle.eo_term.specs.Terms.{AreApart, HasArguments}
-use Rattle.eo_term.specs.Keys.{literal_node, literal_at, list_at, root_of, UsesOnly, literals_of, lists_of, list_items, ages_of, entries_of, IsOld, IsNumbered, HasNumber, IsKeyed, IsKept, IsKeyOf, IsMore, IsNew, HasRootAt, IsCut, Root, applied}
+use Rattle.eo_term.specs.Keys.{literal_node, literal_at, list_at, root_of, UsesOnly, literals_of, lists_of, list_items, ages_of, entries_of, IsOld, IsNumbered, IsKeyed, IsKept, IsKeyOf, IsMore, IsNew, HasRootAt, IsCut, Root}
 use Rattle.eo_term.specs.contracts.node.KeyPartialEq.TheImpl as key_eq
 use Rattle.eo_term.proofs.Apart.{one_place}
 use Rattle.eo_term.proofs.Exact.{key_exact, key_same}
@@ -160,21 +160,6 @@ module _ (m n : Nodes) (k : IsKept m) (g : IsMore m n) where
 no_arguments : (a : Literal) (is : List ℕ) → HasArguments (literal_node a) is → is ≡ []
 no_arguments (literal.Num z) is h = h
 no_arguments (literal.Bits w v) is h = h
-
--- the key of a literal that has a number, and that of an operator whose arguments have one
-pub literal_key : (n : Nodes) (i l : ℕ) (a : Literal) (d : Node) (is : List ℕ) → d ≡ literal_node a → HasArguments d is → HasNumber i (literals_of n) (ages_of n.literals.entries) a l
-    → IsKeyOf n d is (key.Literal l) × IsKeyed n i (key.Literal l)
-literal_key n i l a d is s h c =
-    let at : literal_at (literals_of n) l ≡ a = get_or_from_slice_get (literals_of n) l a (literal.Num (pos 0)) c.at in
-    let none : is ≡ [] = no_arguments a is (subst (λ e. HasArguments e is) s h) in
-    (record { live = slice_get_within (literals_of n) l a c.at; root = λ k. record { node = (ap literal_node at ∙ sym s) k; args = sym none k } }, c.old)
-
-pub applied_key : (n : Nodes) (i l : ℕ) (c : OpCode) (j : ℕ) (d : Node) (is : List ℕ) → d ≡ node.Op c j → HasNumber i (lists_of n) (ages_of n.lists.entries) is l
-    → IsKeyOf n d is (applied c j l) × IsKeyed n i (applied c j l)
-applied_key n i l (OpCode.Builtin o) j d is s c =
-    (record { live = slice_get_within (lists_of n) l is c.at; root = λ k. record { node = sym s k; args = get_or_from_slice_get (lists_of n) l is [] c.at k } }, c.old)
-applied_key n i l (OpCode.Prog p) j d is s c =
-    (record { live = slice_get_within (lists_of n) l is c.at; root = λ k. record { node = sym s k; args = get_or_from_slice_get (lists_of n) l is [] c.at k } }, c.old)
 
 pub length-entries : (n : Nodes) → length (entries_of n) ≡ length n.keys.entries
 length-entries n = length-map n.keys.entries (λ (e : Key × Info). (root_of (literals_of n) (lists_of n) e.0, e.1))

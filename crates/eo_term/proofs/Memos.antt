@@ -1,11 +1,8 @@
 -- What a memo tells.
-use Rattle.std.proofs.Common.{◌≡◌, ℕ, Bool, true, false, nat_eq, List, Some, None, if◌then◌else◌, refl, sym, ◌∙◌, subst}
+use Rattle.std.proofs.Common.{◌≡◌, ℕ, Bool, true, false, nat_eq, List, Some, if◌then◌else◌, refl, sym, ◌∙◌, subst}
 use Rattle.std.proofs.lemmas.Bool.{eqb-true}
-use Rattle.std.proofs.lemmas.Option.{none-some, same_Some}
+use Rattle.std.proofs.lemmas.Option.{same_Some}
 use Rattle.eo_term.specs.Memo.{told, TellsOnly}
-
-pub tells_nothing : (R : ℕ → ℕ → Type 0) (m : List (ℕ × ℕ)) → ((k : ℕ) → told m k ≡ None) → TellsOnly R m
-tells_nothing R m n k v e = absurd (none-some v (sym (n k) ∙ e))
 
 pub tells_more : (R : ℕ → ℕ → Type 0) (m n : List (ℕ × ℕ)) (i j : ℕ) → ((k : ℕ) → told n k ≡ (if nat_eq i k then Some j else told m k)) → TellsOnly R m → R i j → TellsOnly R n
 tells_more R m n i j f h r k v e = by_test (nat_eq i k) refl (sym (f k) ∙ e)

@@ -1,4 +1,5 @@
 -- Things that stand once each, with numbers and with how many terms there were when each came.
+use Rattle.eo_base.proofs.Elements.{slice_get_left, slice_get_seam}
 use Rattle.std.proofs.Common.{◌≡◌, ◌≢◌, ℕ, zero, suc, ◌-◌, ◌<◌, ◌≤◌, inl, inr, Bool, true, false, cond, List, [], ◌∷◌, ◌++◌, length, map, get_or, take, slice_get, position, Option, Some, None, IfSome, IfNone, Result, Ok, Err, OnErr, refl, sym, ap, ◌∙◌, subst, arith, length-append, is_some, true≢false}
 use Rattle.std.specs.Map.{keys_of, lookup}
 use Rattle.std.proofs.Math.ListN.{get_or-append}
@@ -6,17 +7,8 @@ use Rattle.std.proofs.Math.Seq.{get_or-append_seam}
 use Rattle.std.proofs.lemmas.Bool.{cases_lt}
 use Rattle.std.proofs.lemmas.List.{get_or-take, length-take-le, length-map, map-append}
 use Rattle.std.proofs.lemmas.List.Quantifiers.{all_pairs_push, position-Some}
-use Rattle.std.proofs.lemmas.Option.{none-some, same_Some, slice_get_within, slice_get-get_or, get_or_from_slice_get}
+use Rattle.std.proofs.lemmas.Option.{none-some, same_Some, slice_get-get_or, get_or_from_slice_get}
 use Rattle.eo_term.specs.Keys.{ages_of, IsOld, IsNumbered, HasNumber, IsAbsent, Numbers, IsCut}
-
-pub slice_get_left : {X : Type 0} (xs ys : List X) (i : ℕ) (x : X) → slice_get xs i ≡ Some x → slice_get (xs ++ ys) i ≡ Some x
-slice_get_left [] ys i x p = absurd (none-some x p)
-slice_get_left (z ∷ zs) ys zero x p = p
-slice_get_left (z ∷ zs) ys (suc i) x p = slice_get_left zs ys i x p
-
-pub slice_get_seam : {X : Type 0} (xs : List X) (y : X) (ys : List X) → slice_get (xs ++ y ∷ ys) (length xs) ≡ Some y
-slice_get_seam [] y ys = refl
-slice_get_seam (x ∷ xs) y ys = slice_get_seam xs y ys
 
 pub slice_get_at_map : {X Y : Type 0} (f : X → Y) (xs : List X) (i : ℕ) (x : X) → slice_get xs i ≡ Some x → slice_get (map f xs) i ≡ Some (f x)
 slice_get_at_map f [] i x p = absurd (none-some x p)
@@ -80,14 +72,6 @@ module _ {K X : Type 0} (f : K → X) (x : X) (test : K → Bool) (exact : (k : 
   not_there es a = lookup_none test es (λ i e p t. a i (slice_get_at_map (λ e. f e.0) es i e p ∙ ap Some (exact e.0 t)))
 
 module _ {X : Type 0} (n : ℕ) (xs : List X) (ages : List ℕ) (h : IsNumbered n xs ages) where
-  pub numbers_refl : Numbers n xs ages xs ages
-  numbers_refl = record { numbered = h; same = λ l x p. p; aged = λ l m p. p }
-
-  pub has_found : (x : X) (l : ℕ) → slice_get xs l ≡ Some x → HasNumber n xs ages x l
-  has_found x l p =
-      let within : l < length ages = omega (arith, slice_get_within xs l x p, h.long) in
-      record { at = p; old = (within, h.low l within) }
-
   low_pushed : (i : ℕ) → i < length (ages ++ n ∷ []) → get_or (ages ++ n ∷ []) i 0 ≤ n
   low_pushed i l =
       elim (cases_lt i (length ages)) [

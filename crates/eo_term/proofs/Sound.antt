@@ -15,7 +15,7 @@ use Rattle.eo_term.specs.Arguments.{count_of, arguments_of, argument_at}
 use Rattle.eo_base.specs.Characters.{AreCharacters}
 use Rattle.eo_term.specs.Terms.{tree_at, text_at, tree_of, trees_at, PartsBelow, TextsBelow, HasArguments, HasCount, SameTrees, first_trees, Terms, Interned, InternedText}
 use Rattle.eo_term.specs.Held.{tree_of_root, trees_of, Tells, IsOver, IsEntry, HasRoot, Holds, IsSound}
-use Rattle.eo_term.proofs.Grown.{grows_of, grows_refl, slice_get_push, SameTexts, SameTrees-append, SameTexts-append, SameTexts-refl, SameTrees-refl, tree_of_root-same, trees_of-push, trees_after-texts}
+use Rattle.eo_term.proofs.Grown.{since_of, since_refl, slice_get_push, SameTexts, SameTrees-append, SameTexts-append, SameTexts-refl, SameTrees-refl, tree_of_root-same, trees_of-push, trees_after-texts}
 use Rattle.eo_term.proofs.Apart.{one_root, nothing_new}
 
 pub slice_get_some : {X : Type 0} (xs : List X) (i : ℕ) → i < length xs → (x : X) × (slice_get xs i ≡ Some x)
@@ -173,7 +173,7 @@ module _ (es : List (Root × Info)) (xs : List (List ℕ)) (h : IsSound es xs) w
   pub Interned-found : (k : Root) (s : Info) (i : ℕ) → slice_get es i ≡ Some (k, s) → Interned (shown es xs) (tree_of_root (trees_of xs es) xs k) i (shown es xs)
   Interned-found k s i p =
       let f = found_tree es xs k s i h p in
-      record { live = f.0; tree = f.1; texts = refl; known = λ c. refl; grown = inl refl; grows = grows_refl (shown es xs); apart = h.apart }
+      record { live = f.0; tree = f.1; texts = refl; known = λ c. refl; grown = inl refl; grows = since_refl (shown es xs); apart = h.apart }
 
   module _ (k : Root) (s : Info) (over : IsOver (length (trees_of xs es)) (length xs) k) (tells : Tells (tree_of_root (trees_of xs es) xs k) s) (low : s.height ≤ HEIGHT_LIMIT)
       (none : (i : ℕ) (e : Root × Info) → slice_get es i ≡ Some e → e.0 ≡ k → ⊥) where
@@ -188,13 +188,13 @@ module _ (es : List (Root × Info)) (xs : List (List ℕ)) (h : IsSound es xs) w
           texts = refl;
           known = λ c. ap (λ us. record { trees = us; texts = xs }) (nothing_new ts (trees_of xs (es ++ (k, s) ∷ [])) (tree_of_root ts xs k) apart (inr grown) c);
           grown = inr grown;
-          grows = grows_of (shown es xs) (shown (es ++ (k, s) ∷ []) xs) (ap (take (length ts)) grown ∙ take-append_seam ts (tree_of_root ts xs k ∷ [])) (take-length xs) (omega (arith, ap length grown, length-append ts (tree_of_root ts xs k ∷ []))) (omega arith);
+          grows = since_of (shown es xs) (shown (es ++ (k, s) ∷ []) xs) (ap (take (length ts)) grown ∙ take-append_seam ts (tree_of_root ts xs k ∷ [])) (take-length xs) (omega (arith, ap length grown, length-append ts (tree_of_root ts xs k ∷ []))) (omega arith);
           apart = apart;
         }
 
 module _ (es : List (Root × Info)) (xs : List (List ℕ)) (h : IsSound es xs) (w : List ℕ) (good : AreCharacters w) where
   pub InternedText-found : (i : ℕ) → i < length xs → text_at xs i ≡ w → InternedText (shown es xs) w i (shown es xs)
-  InternedText-found i l e = record { live = l; text = e; trees = refl; known = λ c. refl; grown = inl refl; grows = grows_refl (shown es xs); apart = h.texts_apart }
+  InternedText-found i l e = record { live = l; text = e; trees = refl; known = λ c. refl; grown = inl refl; grows = since_refl (shown es xs); apart = h.texts_apart }
 
   pub InternedText-push : ((i : ℕ) → i < length xs → text_at xs i ≡ w → ⊥) → InternedText (shown es xs) w (length xs) (shown es (xs ++ w ∷ []))
   InternedText-push absent =
@@ -205,7 +205,7 @@ module _ (es : List (Root × Info)) (xs : List (List ℕ)) (h : IsSound es xs) (
         trees = g.0;
         known = λ c. λ j. record { trees = g.0 j; texts = nothing_new xs (xs ++ w ∷ []) w g.1.texts_apart (inr refl) c j };
         grown = inr refl;
-        grows = grows_of (shown es xs) (shown es (xs ++ w ∷ [])) (ap (take (length (trees_of xs es))) g.0 ∙ take-length (trees_of xs es)) (take-append_seam xs (w ∷ [])) (omega (arith, ap length g.0)) (omega (arith, length-append xs (w ∷ [])));
+        grows = since_of (shown es xs) (shown es (xs ++ w ∷ [])) (ap (take (length (trees_of xs es))) g.0 ∙ take-length (trees_of xs es)) (take-append_seam xs (w ∷ [])) (omega (arith, ap length g.0)) (omega (arith, length-append xs (w ∷ [])));
         apart = g.1.texts_apart;
       }
 

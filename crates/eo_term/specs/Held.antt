@@ -1,6 +1,7 @@
 -- How a table holds its terms.
 use Rattle.std.specs.Prelude.{◌≡◌, ℕ, ◌<◌, ◌≤◌, List, [], ◌∷◌, ◌++◌, length, take, slice_get, All, Some}
 use Rattle.eo_term.specs.declared.node.Info.{Info}
+use Rattle.eo_term.specs.declared.node.Node.{Node}
 use Rattle.eo_term.specs.declared.table.TheConstants.{HEIGHT_LIMIT}
 use Rattle.eo_term.specs.ParamSet.{has}
 use Rattle.eo_term.specs.Tree.{Tree, height, is_value, is_closed, is_plain, may_be_type, occurs, occurs_openly}
@@ -56,6 +57,10 @@ pub record Holds (ts : List Tree) (es : List (Root × Info)) (xs : List (List �
 
 abbrev pub IsSound : List (Root × Info) → List (List ℕ) → Type 0
 IsSound es xs = Holds (trees_of xs es) es xs
+
+-- the tree of a node with these arguments, over a table
+abbrev pub tree_over : Terms → Node → List ℕ → Tree
+tree_over t d is = tree_of t.trees t.texts d (trees_at t.trees is)
 
 -- the term has that root
 pub record HasRoot (t : Terms) (i : ℕ) (r : Root) : Type 0 where

@@ -1,5 +1,5 @@
 -- How a table keeps the roots of its terms: each under a small key, in which a literal and a list of arguments have numbers of their own.
-use Rattle.std.specs.Prelude.{◌≡◌, ℕ, suc, pos, Vec, ◌<◌, ◌≤◌, List, [], length, map, slice_get, slice_index_or, Some}
+use Rattle.std.specs.Prelude.{◌≡◌, ◌+◌, ℕ, suc, pos, Vec, ◌<◌, ◌≤◌, List, [], ◌∷◌, ◌++◌, ◌⊎◌, length, map, slice_get, slice_index_or, Some}
 use Rattle.std.specs.Map.{keys_of}
 use Rattle.std.specs.Global.{Global}
 use Rattle.indexmap.specs.IndexMap.{spare}
@@ -113,9 +113,23 @@ pub record HasRoom (n : ℕ) (t : Nodes) : Type 0 where
   pub literals : n ≤ spare t.literals
   pub lists : n ≤ spare t.lists
 
+-- n more terms take no memory after one whose key is made, where that one still takes its entry
+abbrev pub HasKeyRoom : ℕ → Nodes → Type 0
+HasKeyRoom n t = (n + 1 ≤ spare t.keys) × (n ≤ spare t.literals) × (n ≤ spare t.lists)
+
 -- the entry at a place has that root
 abbrev pub HasRootAt : List (Root × Info) → ℕ → Node → List ℕ → Type 0
 HasRootAt es i d is = (s : Info) × (slice_get es i ≡ Some (record { node = d; args = is }, s))
+
+-- the root is new, and stands at the end
+pub record IsAdded (es : List (Root × Info)) (r : Root) (s : Info) (i : ℕ) (fs : List (Root × Info)) : Type 0 where
+  pub new : IsNew es r.node r.args
+  pub last : i ≡ length es
+  pub entries : fs ≡ es ++ (r, s) ∷ []
+
+-- the root has the place i: it was there and nothing changed, or it is added
+abbrev pub IsPut : List (Root × Info) → Node → List ℕ → Info → ℕ → List (Root × Info) → Type 0
+IsPut es d is s i fs = (HasRootAt es i d is × (fs ≡ es)) ⊎ IsAdded es (record { node = d; args = is }) s i fs
 
 -- the key's numbers are used, and it stands for that root
 pub record IsKeyOf (n : Nodes) (d : Node) (is : List ℕ) (k : Key) : Type 0 where
@@ -147,6 +161,13 @@ pub record Numbers {X : Type 0} (n : ℕ) (xs : List X) (ages : List ℕ) (ys : 
   pub same : (l : ℕ) (x : X) → slice_get xs l ≡ Some x → slice_get ys l ≡ Some x
   pub aged : (l m : ℕ) → IsOld ages m l → IsOld bges m l
 
+-- the same of literals, and of lists of arguments, by their entries
+abbrev pub MoreLiterals : ℕ → List (Literal × ℕ) → List (Literal × ℕ) → Type 0
+MoreLiterals n es fs = Numbers n (keys_of es) (ages_of es) (keys_of fs) (ages_of fs)
+
+abbrev pub MoreLists : ℕ → List (Vec ℕ Global × ℕ) → List (Vec ℕ Global × ℕ) → Type 0
+MoreLists n es fs = Numbers n (list_items es) (ages_of es) (list_items fs) (ages_of fs)
+
 -- the first k are those that came when there were fewer than n terms
 pub record IsCut (ages : List ℕ) (n k : ℕ) : Type 0 where
   pub within : k ≤ length ages
@@ -156,5 +177,5 @@ pub record IsCut (ages : List ℕ) (n k : ℕ) : Type 0 where
 -- the literals and the lists of n are those of m, and perhaps more
 pub record IsMore (m n : Nodes) : Type 0 where
   pub keys : n.keys ≡ m.keys
-  pub literals : Numbers (length m.keys.entries) (literals_of m) (ages_of m.literals.entries) (literals_of n) (ages_of n.literals.entries)
-  pub lists : Numbers (length m.keys.entries) (lists_of m) (ages_of m.lists.entries) (lists_of n) (ages_of n.lists.entries)
+  pub literals : MoreLiterals (length m.keys.entries) m.literals.entries n.literals.entries
+  pub lists : MoreLists (length m.keys.entries) m.lists.entries n.lists.entries

@@ -177,7 +177,7 @@ pub record IsMark (t : Terms) (m : ℕ × ℕ) : Type 0 where
   pub among : All (HasTextsOf (take m.1 t.texts)) (take m.0 t.trees)
 
 -- The table has grown: each term and each text is what it was, and each mark is one.
-pub record Grows (old new : Terms) : Type 0 where
+pub record Since (old new : Terms) : Type 0 where
   pub trees : take (length old.trees) new.trees ≡ old.trees
   pub texts : take (length old.texts) new.texts ≡ old.texts
   pub more_trees : length old.trees ≤ length new.trees
@@ -197,7 +197,7 @@ pub record Interned (old : Terms) (t : Tree) (i : ℕ) (new : Terms) : Type 0 wh
   pub texts : new.texts ≡ old.texts
   pub known : Contains old.trees t → new ≡ old
   pub grown : (new.trees ≡ old.trees) ⊎ (new.trees ≡ old.trees ++ t ∷ [])
-  pub grows : Grows old new
+  pub grows : Since old new
   pub apart : AreApart new.trees
 
 -- The table new holds the text w under the number i. It is as before, or has that text in addition, at the end.
@@ -207,5 +207,5 @@ pub record InternedText (old : Terms) (w : List ℕ) (i : ℕ) (new : Terms) : T
   pub trees : new.trees ≡ old.trees
   pub known : Contains old.texts w → new ≡ old
   pub grown : (new.texts ≡ old.texts) ⊎ (new.texts ≡ old.texts ++ w ∷ [])
-  pub grows : Grows old new
+  pub grows : Since old new
   pub apart : AreApart new.texts

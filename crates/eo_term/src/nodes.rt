@@ -3,7 +3,7 @@ ghost use Rattle.std.specs.Prelude.{◌≡◌, ℕ, ◌+◌, ◌<◌, ◌≤◌,
 ghost use Rattle.std.specs.Map.{keys_of};
 ghost use Rattle.indexmap.specs.IndexMap.{spare};
 ghost use Rattle.eo_term.specs.Terms.{HasArguments};
-ghost use Rattle.eo_term.specs.Keys.{IsRoot, root_of, literal_node, literal_at, list_at, UsesOnly, literals_of, lists_of, list_items, ages_of, entries_of, IsKeyed, IsKept, IsMore, IsKeyOf, IsAt, HasRootAt, IsNew, HasRoom, IsNumbered, HasNumber, Numbers, IsAbsent, IsCut, IsShape, applied};
+ghost use Rattle.eo_term.specs.Keys.{IsRoot, root_of, literal_node, literal_at, list_at, UsesOnly, literals_of, lists_of, list_items, ages_of, entries_of, IsKeyed, IsKept, IsMore, IsKeyOf, IsAt, IsNew, IsPut, HasRoom, IsNumbered, HasNumber, MoreLiterals, MoreLists, HasKeyRoom, IsAbsent, IsCut, IsShape, applied};
 
 use crate::node::{Info, Key, Literal};
 use crate::{Id, Node, OpCode};
@@ -65,32 +65,49 @@ impl Nodes {
         (node, args, *info)
     }
 
-    // The term with that root, if there is one.
-    pub(crate) fn find(&self, node: &Node, args: &[Id]) -> Option<usize>
-        requires kept { IsKept self.now }
+    // The place of the term with that root, which is added at the end where it is not there.
+    pub(crate) fn intern(
+        &mut self,
+        alloc: Global,
+        node: &Node,
+        args: &[Id],
+        info: Info,
+    ) -> Result<usize, AllocError>
+        requires kept { IsKept self.old }
         requires args { HasArguments node.now args.now }
-        ensures yes { IfSome result (λ i. HasRootAt (entries_of self.now) i node.now args.now) }
-        ensures no { IfNone result (IsNew (entries_of self.now) node.now args.now) }
+        ensures kept { IsKept self.new }
+        ensures ok { IfOk result (λ i. IsPut (entries_of self.old) node.now args.now info i (entries_of self.new)) }
+        ensures err { OnErr result (entries_of self.new ≡ entries_of self.old) }
     {
-        let key = self.find_key(node, args)?;
-        self.keys.get_index_of(&key)
+        let key = self.key_of(alloc, node, args)?;
+        match self.keys.get_index_of(&key) {
+            Some(at) => Ok(at),
+            None => {
+                let at = self.keys.len();
+                self.keys.insert(key, info)?;
+                Ok(at)
+            }
+        }
     }
 
-    // The key of that root, if its literal or its arguments are there.
-    fn find_key(&self, node: &Node, args: &[Id]) -> Option<Key>
-        requires { HasArguments node.now args.now }
-        ensures yes { IfSome result (λ k. IsKeyOf self.now node.now args.now k) }
-        ensures no { IfNone result ((k : Key) → IsKeyOf self.now node.now args.now k → ⊥) }
+    // The key of that root, as `make_key` answers it. The arguments are copied where they are not
+    // there.
+    fn key_of(&mut self, alloc: Global, node: &Node, args: &[Id]) -> Result<Key, AllocError>
+        requires kept { IsKept self.old }
+        requires args { HasArguments node.now args.now }
+        ensures more { IsMore self.old self.new }
+        ensures key { IfOk result (λ k. IsKeyOf self.new node.now args.now k × IsKeyed self.new (length self.new.keys.entries) k) }
     {
+        let terms = self.keys.len();
         match shape_of(node) {
-            Shape::Known(key) => Some(key),
+            Shape::Known(key) => Ok(key),
             Shape::Literal(literal) => {
-                let number = find_literal(&self.literals, literal)?;
-                Some(Key::Literal(number))
+                let number = number_literal(&mut self.literals, literal, terms)?;
+                Ok(Key::Literal(number))
             }
             Shape::Applied { code, count } => {
-                let number = find_list(&self.lists, args)?;
-                Some(applied(code, count, number))
+                let number = number_copy(&mut self.lists, alloc, args, terms)?;
+                Ok(applied(code, count, number))
             }
         }
     }
@@ -116,7 +133,7 @@ impl Nodes {
         requires args { HasArguments node args.items }
         ensures more { IsMore self.old self.new }
         ensures key { IfOk result (λ k. IsKeyOf self.new node args.items k × IsKeyed self.new (length self.new.keys.entries) k) }
-        ensures room { (n : ℕ) → HasRoom (n + 1) self.old → IsOk result × (n + 1 ≤ spare self.new.keys) × (n ≤ spare self.new.literals) × (n ≤ spare self.new.lists) }
+        ensures room { (n : ℕ) → HasRoom (n + 1) self.old → IsOk result × HasKeyRoom n self.new }
     {
         let terms = self.keys.len();
         match shape_of(&node) {
@@ -270,7 +287,7 @@ fn number_literal(
 ) -> Result<usize, AllocError>
     requires { IsNumbered terms (keys_of literals.old.entries) (ages_of literals.old.entries) }
     ensures number { IfOk result (HasNumber terms (keys_of literals.new.entries) (ages_of literals.new.entries) literal) }
-    ensures more { Numbers terms (keys_of literals.old.entries) (ages_of literals.old.entries) (keys_of literals.new.entries) (ages_of literals.new.entries) }
+    ensures more { MoreLiterals terms literals.old.entries literals.new.entries }
     ensures succeeds { 0 < spare literals.old → IsOk result }
     ensures room { spare literals.old ≤ spare literals.new + 1 }
 {
@@ -292,18 +309,52 @@ fn number_list(
 ) -> Result<usize, AllocError>
     requires { IsNumbered terms (list_items lists.old.entries) (ages_of lists.old.entries) }
     ensures number { IfOk result (HasNumber terms (list_items lists.new.entries) (ages_of lists.new.entries) args.items) }
-    ensures more { Numbers terms (list_items lists.old.entries) (ages_of lists.old.entries) (list_items lists.new.entries) (ages_of lists.new.entries) }
+    ensures more { MoreLists terms lists.old.entries lists.new.entries }
     ensures succeeds { 0 < spare lists.old → IsOk result }
     ensures room { spare lists.old ≤ spare lists.new + 1 }
 {
     match find_list(lists, args.as_slice()) {
         Some(number) => Ok(number),
+        None => add_list(lists, args, terms),
+    }
+}
+
+// The same, where the list is copied to be added.
+fn number_copy(
+    lists: &mut IndexMap<Vec<Id>, usize>,
+    alloc: Global,
+    args: &[Id],
+    terms: usize,
+) -> Result<usize, AllocError>
+    requires { IsNumbered terms (list_items lists.old.entries) (ages_of lists.old.entries) }
+    ensures number { IfOk result (HasNumber terms (list_items lists.new.entries) (ages_of lists.new.entries) args.now) }
+    ensures more { MoreLists terms lists.old.entries lists.new.entries }
+{
+    match find_list(lists, args) {
+        Some(number) => Ok(number),
         None => {
-            let number = lists.len();
-            lists.insert(args, terms)?;
-            Ok(number)
+            let owned = args.to_vec(alloc)?;
+            add_list(lists, owned, terms)
         }
     }
+}
+
+// The number of a list of arguments that is not there, and is added.
+fn add_list(
+    lists: &mut IndexMap<Vec<Id>, usize>,
+    args: Vec<Id>,
+    terms: usize,
+) -> Result<usize, AllocError>
+    requires numbered { IsNumbered terms (list_items lists.old.entries) (ages_of lists.old.entries) }
+    requires absent { IsAbsent (list_items lists.old.entries) args.items }
+    ensures number { IfOk result (HasNumber terms (list_items lists.new.entries) (ages_of lists.new.entries) args.items) }
+    ensures more { MoreLists terms lists.old.entries lists.new.entries }
+    ensures succeeds { 0 < spare lists.old → IsOk result }
+    ensures room { spare lists.old ≤ spare lists.new + 1 }
+{
+    let number = lists.len();
+    lists.insert(args, terms)?;
+    Ok(number)
 }
 
 // How many literals came when there were fewer than so many terms.

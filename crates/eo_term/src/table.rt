@@ -2,12 +2,12 @@
 ghost use Rattle.std.specs.Prelude.{◌≡◌, ℕ, ◌+◌, ◌<◌, ◌≤◌, ◌↔◌, ◌&&◌, ◌||◌, nat_eq, [], ◌∷◌, length, take, true, false, IsTrue, All, IfOk, OnOk, OnErr, slice_index_or};
 ghost use Rattle.eo_base.specs.Characters.{AreCharacters};
 ghost use Rattle.eo_term.specs.ParamSet.{has};
-ghost use Rattle.eo_term.specs.Tree.{height, height_all, is_tall, is_value, is_closed, all_closed, is_plain, may_type_use, may_be_type, all_may_be_type, occurs, occurs_in_all, occurs_openly, uses_only, NoTree, Op, App};
+ghost use Rattle.eo_term.specs.Tree.{height, height_all, is_tall, is_value, is_closed, all_closed, is_plain, may_type_use, may_be_type, all_may_be_type, occurs, occurs_in_all, occurs_openly, uses_only, tree_eq, NoTree, Op, App};
 ghost use Rattle.eo_term.specs.Arguments.{count_of, arguments_of, argument_at};
-ghost use Rattle.eo_term.specs.Growth.{IsTable};
-ghost use Rattle.eo_term.specs.Terms.{Terms, tree_at, text_at, trees_at, tree_of, PartsBelow, TextsBelow, IsPlain, HasCount, HasArity, IsProper, AreApart, AreLow, HaveOlderParts, Grows, Interned, InternedText, IsMark, first_trees};
+ghost use Rattle.eo_term.specs.Growth.{IsTable, Grows};
+ghost use Rattle.eo_term.specs.Terms.{Terms, tree_at, text_at, trees_at, tree_of, PartsBelow, TextsBelow, IsPlain, HasCount, HasArity, IsProper, AreLow, Interned, InternedText, IsMark, first_trees};
 ghost use Rattle.eo_term.specs.Refused.{IsTall};
-ghost use Rattle.eo_term.specs.Held.{Tells, IsOver, HasRoot};
+ghost use Rattle.eo_term.specs.Held.{Tells, IsOver, HasRoot, tree_over};
 
 use crate::node::Info;
 use crate::nodes::Nodes;
@@ -17,6 +17,7 @@ use std::alloc::{AllocError, Global};
 use std::hash::{BuildHasherDefault, DefaultHasher};
 use std::marker::Model;
 
+mod low;
 mod release;
 
 /// The greatest height of a term.
@@ -93,12 +94,7 @@ impl Table {
 
     /// How many terms there are. The constants 0 to 3 are always there.
     pub fn len(&self) -> usize
-        ensures len { result ≡ length self.now.trees }
-        ensures apart { AreApart self.now.trees }
-        ensures same { (i j : ℕ) → i < length self.now.trees → j < length self.now.trees → tree_at self.now.trees i ≡ tree_at self.now.trees j → i ≡ j }
-        ensures older { HaveOlderParts self.now.trees }
-        ensures low { AreLow self.now.trees }
-        ensures first { take 4 self.now.trees ≡ first_trees }
+        ensures { result ≡ length self.now.trees }
     {
         self.nodes.len()
     }
@@ -150,7 +146,8 @@ impl Table {
     pub fn is_same(&self, a: Id, b: Id) -> bool
         requires first { a < length self.now.trees }
         requires second { b < length self.now.trees }
-        ensures { IsTrue result ↔ (tree_at self.now.trees a ≡ tree_at self.now.trees b) }
+        ensures tells { IsTrue result ↔ (tree_at self.now.trees a ≡ tree_at self.now.trees b) }
+        ensures equals { result ≡ tree_eq (tree_at self.now.trees a) (tree_at self.now.trees b) }
     {
         let _ = &self.nodes;
         a.number == b.number
@@ -251,7 +248,6 @@ impl Table {
         ensures text { IfOk result (λ t. InternedText self.old chars.now t self.new) }
         ensures err { OnErr result (self.new ≡ self.old) }
         ensures grows { Grows self.old self.new }
-        ensures grown { (t : Terms) → Grows t self.old → Grows t self.new }
     {
         match self.texts.get_index_of(chars) {
             Some(number) => Ok(TextId { number }),
@@ -279,7 +275,6 @@ impl Table {
         ensures tall { IsTall result ↔ (is_tall (tree_of self.old.trees self.old.texts node NoTree) ≡ true) }
         ensures err { OnErr result (self.new ≡ self.old) }
         ensures grows { Grows self.old self.new }
-        ensures grown { (t : Terms) → Grows t self.old → Grows t self.new }
     {
         let info = self.info_of(&node);
         if info.height > HEIGHT_LIMIT {
@@ -300,7 +295,6 @@ impl Table {
         ensures tall { IsTall result ↔ (is_tall (Op code (trees_at self.old.trees args.now)) ≡ true) }
         ensures err { OnErr result (self.new ≡ self.old) }
         ensures grows { Grows self.old self.new }
-        ensures grown { (t : Terms) → Grows t self.old → Grows t self.new }
     {
         let info = self.info_of_op(code, args);
         if info.height > HEIGHT_LIMIT {
@@ -414,22 +408,14 @@ impl Table {
     // The term with this root, of which `info` is known.
     fn add(&mut self, node: Node, args: &[Id], info: Info) -> Result<Id, AllocError>
         requires over { IsOver (length self.old.trees) (length self.old.texts) (record { node = node; args = args.now }) }
-        requires tells { Tells (tree_of self.old.trees self.old.texts node (trees_at self.old.trees args.now)) info }
+        requires tells { Tells (tree_over self.old node args.now) info }
         requires low { info.height ≤ HEIGHT_LIMIT }
-        ensures interned { IfOk result (λ i. Interned self.old (tree_of self.old.trees self.old.texts node (trees_at self.old.trees args.now)) i self.new) }
+        ensures interned { IfOk result (λ i. Interned self.old (tree_over self.old node args.now) i self.new) }
         ensures err { OnErr result (self.new ≡ self.old) }
         ensures grows { Grows self.old self.new }
-        ensures grown { (t : Terms) → Grows t self.old → Grows t self.new }
     {
-        match self.nodes.find(&node, args) {
-            Some(number) => Ok(Id { number }),
-            None => {
-                let number = self.nodes.len();
-                let args = args.to_vec(self.alloc)?;
-                self.nodes.add(node, args, info)?;
-                Ok(Id { number })
-            }
-        }
+        let number = self.nodes.intern(self.alloc, &node, args, info)?;
+        Ok(Id { number })
     }
 }
 

@@ -1,12 +1,10 @@
 -- Assignments that hold nothing, and parameters of arguments.
-use Rattle.std.proofs.Common.{◌≡◌, ℕ, zero, suc, ◌<◌, Bool, true, false, ◌||◌, List, [], ◌∷◌, Option, Some, None, slice_get, All, refl, sym, ap, subst, arith}
+use Rattle.std.proofs.Common.{◌≡◌, ℕ, zero, suc, List, [], ◌∷◌, Option, Some, None, slice_get, All, refl, sym, ap, subst}
 use Rattle.std.specs.Option.{option_flatten, option_map}
 use Rattle.std.proofs.lemmas.List.Elements.{All-head, All-tail, All-weaker}
 use mathlib.Core.Path.{fun_ext}
-use Rattle.eo_term.specs.Tree.{Tree, Trees, NoTree, More, occurs, occurs_in_all}
+use Rattle.eo_term.specs.Tree.{Tree}
 use Rattle.eo_term.specs.Terms.{tree_at}
-use Rattle.eo_term.specs.Arguments.{count_of, argument_at}
-use Rattle.eo_term.proofs.Values.{clash}
 use Rattle.eo_pattern.specs.Matching.{Assignment, empty, Matches, matching}
 use Rattle.eo_pattern.specs.Slots.{Slots, SlotBelow, AreBelow, AreEmpty, held}
 use Rattle.eo_pattern.proofs.Match.{matching_matches}

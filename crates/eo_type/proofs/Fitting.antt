@@ -5,14 +5,16 @@ use Rattle.std.specs.Map.{lookup}
 use Rattle.std.proofs.lemmas.List.Elements.{All-head, All-tail, All-cons, All-nil, All-weaker}
 use Rattle.std.proofs.lemmas.Bool.Decides.{Decides-eqb}
 use Rattle.indexmap.specs.IndexMap.{insert_entry}
-use Rattle.eo_term.specs.Terms.{Terms, Grows, tree_at}
+use Rattle.eo_term.specs.Terms.{Terms, Since, tree_at}
+use Rattle.eo_term.specs.Growth.{Grows}
 use Rattle.eo_sig.specs.Signature.{Signature}
 use Rattle.eo_term.specs.Tree.{Tree}
 use Rattle.eo_sig.specs.Reading.{Kept, signature, IsBelow}
-use Rattle.eo_sig.proofs.Same.{signature_grown}
+use Rattle.eo_sig.specs.Growth.{GrowsUnder}
+use Rattle.eo_sig.proofs.Same.{signature_grown, below_grown, stays_grown, stays_trans}
 use Rattle.eo_type.specs.Types.{Typed, type_of}
-use Rattle.eo_type.specs.Known.{IsFit, Fits, type_at}
-use Rattle.eo_type.proofs.Grows.{type_of_more}
+use Rattle.eo_type.specs.Known.{IsFit, Fits, Fit, Lasts, type_at}
+use Rattle.eo_type.proofs.Longer.{type_of_more}
 
 -- one more pair
 pub all_insert : (P : ℕ × ℕ → Type 0) (es : List (ℕ × ℕ)) (k v : ℕ) → All P es → P (k, v) → All P (insert_entry eqb es k v)
@@ -54,26 +56,40 @@ lookup_contains (e ∷ es) k = by (eqb k e.0) refl (later (lookup (eqb k) es) (l
     by true q rest = (0, omega arith, ap (λ (j : ℕ). (j, e.1)) (sym ((Decides-eqb k e.0).0 q)))
     by false q rest = rest
 
-module _ (k : Kept) (old new : Terms) (below : IsBelow (length old.trees) k) (g : Grows old new) where
+module _ (k : Kept) (old new : Terms) (below : IsBelow (length old.trees) k) (g : Since old new) where
   -- a type stays
-  pub type_grown : (i : ℕ) → i < length old.trees → type_at k new.trees i ≡ type_at k old.trees i
+  pub type_grown : (i : ℕ) → i < length old.trees → type_at k new i ≡ type_at k old i
   type_grown i l = let s = signature_grown old new k below g in let t = g.tree i l in λ j. type_of (s j) (t j)
 
-  fit_grown : (e : ℕ × ℕ) → IsFit (signature old.trees k) old.trees e → IsFit (signature new.trees k) new.trees e
-  fit_grown e f = record {
+  pair_grown : (e : ℕ × ℕ) → IsFit (signature old.trees k) old.trees e → IsFit (signature new.trees k) new.trees e
+  pair_grown e f = record {
     term = omega (arith, f.term, g.more_trees);
     type = omega (arith, f.type, g.more_trees);
     typed = type_grown e.0 f.term ∙ f.typed ∙ ap Typed (sym (g.tree e.1 f.type));
   }
 
   -- and so do all that are kept
-  pub fits_grown : (types : List (ℕ × ℕ)) → Fits (signature old.trees k) old.trees types → Fits (signature new.trees k) new.trees types
-  fits_grown types h = All-weaker (IsFit (signature old.trees k) old.trees) (IsFit (signature new.trees k) new.trees) fit_grown types h
+  fits_grown : (types : List (ℕ × ℕ)) → Fits (signature old.trees k) old.trees types → Fits (signature new.trees k) new.trees types
+  fits_grown types h = All-weaker (IsFit (signature old.trees k) old.trees) (IsFit (signature new.trees k) new.trees) pair_grown types h
 
   -- a type that was found in the old table is one to keep in the new one
-  pub fit_kept : (i u : ℕ) → i < length old.trees → u < length new.trees → type_at k old.trees i ≡ Typed (tree_at new.trees u) → IsFit (signature new.trees k) new.trees (i, u)
+  pub fit_kept : (i u : ℕ) → i < length old.trees → u < length new.trees → type_at k old i ≡ Typed (tree_at new.trees u) → IsFit (signature new.trees k) new.trees (i, u)
   fit_kept i u l m e = record { term = omega (arith, l, g.more_trees); type = m; typed = type_grown i l ∙ e }
 
+-- a table that grows leaves all that fits
+pub fit_grown : (k : Kept) (old new : Terms) (known : List (ℕ × ℕ)) → Since old new → Fit k old known → Fit k new known
+fit_grown k old new known g f = record { below = below_grown old new k g f.below; types = fits_grown k old new f.below g known f.types }
+
+pub grows_under_on : (k : Kept) (old now new : Terms) → GrowsUnder k old now → Grows now new → GrowsUnder k old new
+grows_under_on k old now new u g =
+    record {
+      table = record { now = g.since old u.table.now; since = λ t h. g.since t (u.table.since t h) };
+      stays = stays_trans k old.trees now.trees new.trees u.stays (stays_grown k now new u.stays.below g.now);
+    }
+
 -- types that were found stay right in a longer signature
-pub fits_more : (S later : Signature) (ts : List Tree) (types : List (ℕ × ℕ)) → Fits S ts types → Fits (S ++ later) ts types
+fits_more : (S later : Signature) (ts : List Tree) (types : List (ℕ × ℕ)) → Fits S ts types → Fits (S ++ later) ts types
 fits_more S later ts types h = All-weaker (IsFit S ts) (IsFit (S ++ later) ts) (λ e f. record { term = f.term; type = f.type; typed = type_of_more S later (tree_at ts e.0) (tree_at ts e.1) f.typed }) types h
+
+pub lasts : (known : List (ℕ × ℕ)) → Lasts known
+lasts known = record { grown = λ k old new g f. fit_grown k old new known g f; longer = λ S later ts h. fits_more S later ts known h }

@@ -1,19 +1,15 @@
 -- Settling makes no tree taller.
 use Rattle.std.proofs.Common.{◌≡◌, ℕ, ◌+◌, ◌≤◌, max, Bool, true, false, ◌&&◌, if◌then◌else◌, List, [], ◌∷◌, map, Option, Some, None, refl, sym, ap, ◌∙◌, true≢false, arith}
 use Rattle.std.specs.List.{list_all}
-use Rattle.std.proofs.lemmas.Bool.{lt-ltb, ltb-true}
-use Rattle.eo_base.specs.Limits.{height_limit}
 use Rattle.eo_term.specs.declared.OpName.{OpName}
 use Rattle.eo_term.specs.declared.OpCode.{OpCode}
 use Rattle.eo_term.specs.Tree.{Tree, Con, Num, Bits, Str, Par, Var, App, Arr, Qar, Op, Trees, NoTree, More, truth, to_trees, height, height_all, is_tall, is_closed, is_value, tree_eq}
 use Rattle.eo_term.specs.Terms.{tree_at, trees_at}
+use Rattle.eo_term.proofs.Heights.{higher}
 use Rattle.eo_term.proofs.Values.{clash}
 use Rattle.eo_ops.specs.Operators.{Literal, Boolean, Number, BitString, Text, OpAnswer, Gives, IsStuck, IsOutOfRange, op_value, literal_tree, answer_map, kind_value, is_variable, on_literals, literals, tree_op_value}
 use Rattle.eo_type.specs.Types.{TypeOutcome, Typed, Untyped, TypeRange, TypeTall, on_typed, typed_if, typed_answer, op_in_type, settled_op, settle, settle_all}
 use Rattle.eo_type.proofs.SettleLemmas.{is_typed, typed_inj, typed_before, typed_if_gives}
-
-higher : (t u : Tree) → height t ≤ height u → is_tall t ≡ true → is_tall u ≡ true
-higher t u h e = let l = ltb-true height_limit (height t) e in lt-ltb height_limit (height u) (omega (arith, h, l))
 
 pub lower : (t u : Tree) → height u ≤ height t → is_tall t ≡ false → is_tall u ≡ false
 lower t u h e = by (is_tall u) refl

@@ -1,6 +1,6 @@
 mod Vectors
 pub mod SettleLemmas
-pub mod Grows
+pub mod Longer
 pub mod Walk
 pub mod Heights
 pub mod SettleSteps

@@ -1,14 +1,16 @@
 -- Settling part by part.
 use Rattle.std.proofs.Common.{◌≡◌, ℕ, zero, suc, ◌<◌, ◌≤◌, Bool, true, false, List, [], ◌∷◌, length, map, take, get_or, if◌then◌else◌, nat_eq, Some, None, refl, sym, ap, ◌∙◌, subst, arith}
-use Rattle.std.specs.Prelude.{Result, Ok, Err, Option, IfSome, IfNone}
+use Rattle.std.specs.Prelude.{Result, Ok, Err, Option}
 use Rattle.std.specs.List.{list_all}
 use Rattle.eo_term.specs.declared.OpCode.{OpCode}
 use Rattle.eo_term.specs.Tree.{Tree, Con, Num, Bits, Str, Par, Var, App, Arr, Qar, Op, Trees, NoTree, More, to_trees, is_tall, is_closed, is_plain}
 use Rattle.eo_term.specs.Memo.{told, TellsOnly}
 use Rattle.eo_term.proofs.Memos.{tells_more, tells_weaker}
-use Rattle.eo_type.specs.Steps.{IsMade, IsNext}
-use Rattle.eo_type.specs.Parts.{IsSettled}
-use Rattle.eo_term.specs.Terms.{Terms, Grows, tree_at}
+use Rattle.eo_term.specs.Growth.{tree_in}
+use Rattle.eo_term.specs.declared.walk.Step.{Step}
+use Rattle.std.specs.Result.{IsErrAnd}
+use Rattle.eo_type.specs.Steps.{IsSettled, IsNext, Knows, GivesStep}
+use Rattle.eo_term.specs.Terms.{Terms, Since, tree_at}
 use Rattle.eo_term.specs.Arguments.{count_of, argument_at}
 use Rattle.eo_term.proofs.Equality.{both}
 use Rattle.eo_term.proofs.Values.{clash}
@@ -16,7 +18,7 @@ use Rattle.eo_type.specs.declared.refused.TypeRefused.{TypeRefused}
 use Rattle.eo_type.specs.declared.refused.TypeRefused.TheVariants as refused
 use Rattle.eo_type.specs.declared.refused.Stop.{Stop}
 use Rattle.eo_type.specs.Types.{Typed, TypeTall, on_typed, op_in_type, settled_op, settle, settle_all, if_not_tall, settled}
-use Rattle.eo_type.specs.Outcomes.{Answers, IsTall, Stops}
+use Rattle.eo_type.specs.Outcomes.{Answers, IsTall, IsTyped, Stops}
 use Rattle.eo_type.proofs.Walk.{stops_first}
 use Rattle.eo_type.proofs.Heights.{settle_low, settle_all_low, never_tall}
 
@@ -34,42 +36,47 @@ settle_plain (Qar i t b) h = let p = settle_plain t (both h).0 in let q = settle
 settle_plain (Op c ts) h = clash h
 
 -- what a memo tells stays
-pub settles_grown : (old new : Terms) (m : List (ℕ × ℕ)) → Grows old new → TellsOnly (IsSettled old.trees) m → TellsOnly (IsSettled new.trees) m
+pub settles_grown : (old new : Terms) (m : List (ℕ × ℕ)) → Since old new → TellsOnly (IsSettled old) m → TellsOnly (IsSettled new) m
 settles_grown old new m g t =
-    tells_weaker (IsSettled old.trees) (IsSettled new.trees) m (λ k v p. record {
+    tells_weaker (IsSettled old) (IsSettled new) m (λ k v p. record {
       term = omega (arith, p.term, g.more_trees);
       made = omega (arith, p.made, g.more_trees);
       typed = ap settle (g.tree k p.term) ∙ p.typed ∙ ap Typed (sym (g.tree v p.made));
     }) t
 
 -- what a memo tells of a term
-pub told_settled : (ts : List Tree) (m : List (ℕ × ℕ)) (k : ℕ) (o : Option ℕ) → o ≡ told m k → TellsOnly (IsSettled ts) m → IfSome o (λ v. v < length ts) × (IfSome o (λ v. settle (tree_at ts k) ≡ Typed (tree_at ts v)) × IfNone o (told m k ≡ None))
-told_settled ts m k None e h = (tt, (tt, sym e))
-told_settled ts m k (Some v) e h = let p = h k v (sym e) in (p.made, (p.typed, tt))
+pub told_settled : (t : Terms) (m : List (ℕ × ℕ)) (k : ℕ) (o : Option ℕ) → o ≡ told m k → TellsOnly (IsSettled t) m → Knows t m k o
+told_settled t m k None e h = sym e
+told_settled t m k (Some v) e h = let p = h k v (sym e) in record { live = p.made; typed = p.typed }
 
 -- what stops the term k stops the term id
-abbrev pub StopsAll : List Tree → ℕ → ℕ → Type 0
-StopsAll ts id k = (e : Stop) → Stops e (settle (tree_at ts k)) → Stops e (settle (tree_at ts id))
+abbrev pub StopsAll : Terms → ℕ → ℕ → Type 0
+StopsAll t id k = (e : Stop) → Stops e (settle (tree_in t k)) → Stops e (settle (tree_in t id))
 
 -- a step of the walk for the term id, at the term k, with the table old at its start, mid before the step and new after it
-module _ (old mid new : Terms) (id k : ℕ) (g : Grows old mid) (r : StopsAll old.trees id k) (l : k < length old.trees) where
-  pub step_stops : (e : Stop) → Stops e (settle (tree_at mid.trees k)) → Stops e (settle (tree_at old.trees id))
+module _ (old mid new : Terms) (id k : ℕ) (g : Since old mid) (r : StopsAll old id k) (l : k < length old.trees) where
+  pub step_stops : (e : Stop) → Stops e (settle (tree_in mid k)) → Stops e (settle (tree_in old id))
   step_stops e h = r e (subst (λ (t : Tree). Stops e (settle t)) (g.tree k l) h)
 
-  pub step_part : (m : List (ℕ × ℕ)) (p : ℕ) → IsNext mid.trees m k p → StopsAll old.trees id p
+  pub step_part : (m : List (ℕ × ℕ)) (p : ℕ) → IsNext mid m k p → StopsAll old id p
   step_part m p n e h = step_stops e (n.stops e (subst (λ (t : Tree). Stops e (settle t)) (sym (g.tree p (omega (arith, n.older, l)))) h))
 
-  pub step_made : (v : ℕ) → k ≡ id → IsMade mid.trees k new.trees v → IsMade old.trees id new.trees v
-  step_made v e p = record { live = p.live; typed = ap (λ j. settle (tree_at old.trees j)) (sym e) ∙ ap settle (sym (g.tree k l)) ∙ p.typed }
+  pub step_made : (v : ℕ) → k ≡ id → IsTyped new (settle (tree_in mid k)) v → IsTyped new (settle (tree_in old id)) v
+  step_made v e p = record { live = p.live; typed = ap (λ j. settle (tree_in old j)) (sym e) ∙ ap settle (sym (g.tree k l)) ∙ p.typed }
 
-  pub step_kept : (v : ℕ) (m n : List (ℕ × ℕ)) → Grows mid new → ((j : ℕ) → told n j ≡ (if nat_eq k j then Some v else told m j)) → TellsOnly (IsSettled mid.trees) m → IsMade mid.trees k new.trees v → TellsOnly (IsSettled new.trees) n
+  pub step_kept : (v : ℕ) (m n : List (ℕ × ℕ)) → Since mid new → ((j : ℕ) → told n j ≡ (if nat_eq k j then Some v else told m j)) → TellsOnly (IsSettled mid) m → IsTyped new (settle (tree_in mid k)) v → TellsOnly (IsSettled new) n
   step_kept v m n w f t p =
       let live : k < length mid.trees = omega (arith, l, g.more_trees) in
-      tells_more (IsSettled new.trees) m n k v f (settles_grown mid new m w t) (record {
+      tells_more (IsSettled new) m n k v f (settles_grown mid new m w t) (record {
         term = omega (arith, live, w.more_trees);
         made = p.live;
         typed = ap settle (w.tree k live) ∙ p.typed;
       })
+
+-- the exit of a `?` gives what stops it
+pub gives_step_stop : (old new : Terms) (m : List (ℕ × ℕ)) (k : ℕ) (r : Result Step Stop) (e : Stop) → IsErrAnd r (λ s. s ≡ e) → Stops e (settle (tree_in old k)) → GivesStep old m k new r
+gives_step_stop old new m k (Ok s) e q h = absurd q
+gives_step_stop old new m k (Err s) e q h = subst (λ u. Stops u (settle (tree_in old k))) (sym q) h
 
 -- what is made of settled parts is low
 pub var_low : (t u v : Tree) (s : List ℕ) → Var s u ≡ t → settle u ≡ Typed v → is_tall t ≡ false → is_tall (Var s v) ≡ false
@@ -121,11 +128,11 @@ pub op_low : (c : OpCode) (t : Tree) (ts : Trees) (us : List Tree) → Op c ts �
 op_low c t ts us e p l = settle_all_low c ts us p (ap is_tall e ∙ l)
 
 -- no settled term is too tall
-pub answers_low : (ts : List Tree) (r : Result (Option ℕ) TypeRefused) (t : Tree) → Answers ts r (settle t) → IsTall r → ⊥
-answers_low ts (Ok o) t h l = l
-answers_low ts (Err refused.NumberRange) t h l = l
-answers_low ts (Err refused.Tall) t h l = never_tall t h
-answers_low ts (Err (refused.Memory e)) t h l = l
+pub answers_low : (t : Terms) (r : Result (Option ℕ) TypeRefused) (u : Tree) → Answers t r (settle u) → IsTall r → ⊥
+answers_low t (Ok o) u h l = l
+answers_low t (Err refused.NumberRange) u h l = l
+answers_low t (Err refused.Tall) u h l = never_tall u h
+answers_low t (Err (refused.Memory e)) u h l = l
 
 -- A type with values put in.
 

@@ -1,10 +1,11 @@
 //! Types of applications: an argument's type is matched, and what is found is put in.
 ghost use Rattle.std.specs.Prelude.{◌≡◌, ℕ, ◌<◌, [], ◌∷◌, length, true, None, Some, IsTrue, IsFalse, IfOk, IfErr, OnOk};
-ghost use Rattle.eo_term.specs.Terms.{Terms, tree_at, Grows};
-ghost use Rattle.eo_pattern.specs.Matching.{empty, assign, put, matching};
+ghost use Rattle.eo_term.specs.Growth.{tree_in, Grows};
+ghost use Rattle.eo_pattern.specs.Matching.{assign, put};
 ghost use Rattle.eo_pattern.specs.Slots.{held, AreBelow, AreEmpty};
-ghost use Rattle.eo_type.specs.Types.{Typed, settled, applied};
-ghost use Rattle.eo_type.specs.Outcomes.{Stops};
+ghost use Rattle.eo_type.specs.Types.{settled, applied};
+ghost use Rattle.eo_type.specs.Outcomes.{Gives};
+ghost use Rattle.eo_type.specs.Parts.{matched_in};
 
 use crate::refused::Stop;
 use crate::settling::settle_term;
@@ -23,11 +24,8 @@ pub(crate) fn applied(
     requires fun { fun < length table.old.trees }
     requires ty { ty < length table.old.trees }
     requires arg { arg < length table.old.trees }
-    ensures live { IfOk result (λ i. i < length table.new.trees) }
-    ensures typed { IfOk result (λ i. applied (tree_at table.old.trees fun) (tree_at table.old.trees ty) (tree_at table.old.trees arg) ≡ Typed (tree_at table.new.trees i)) }
-    ensures stop { IfErr result (λ e. Stops e (applied (tree_at table.old.trees fun) (tree_at table.old.trees ty) (tree_at table.old.trees arg))) }
+    ensures gives { Gives table.new result (applied (tree_in table.old fun) (tree_in table.old ty) (tree_in table.old arg)) }
     ensures grows { Grows table.old table.new }
-    ensures grown { (t : Terms) → Grows t table.old → Grows t table.new }
 {
     let mut subst = Subst::new(alloc)?;
     applied_with(alloc, table, &mut subst, fun, ty, arg)
@@ -46,11 +44,8 @@ fn applied_with(
     requires fun { fun < length table.old.trees }
     requires ty { ty < length table.old.trees }
     requires arg { arg < length table.old.trees }
-    ensures live { IfOk result (λ i. i < length table.new.trees) }
-    ensures typed { IfOk result (λ i. applied (tree_at table.old.trees fun) (tree_at table.old.trees ty) (tree_at table.old.trees arg) ≡ Typed (tree_at table.new.trees i)) }
-    ensures stop { IfErr result (λ e. Stops e (applied (tree_at table.old.trees fun) (tree_at table.old.trees ty) (tree_at table.old.trees arg))) }
+    ensures gives { Gives table.new result (applied (tree_in table.old fun) (tree_in table.old ty) (tree_in table.old arg)) }
     ensures grows { Grows table.old table.new }
-    ensures grown { (t : Terms) → Grows t table.old → Grows t table.new }
 {
     match table.node(fun) {
         Node::Arr { from, to } => {
@@ -81,11 +76,8 @@ fn applied_with(
 pub(crate) fn settled(alloc: Global, table: &mut Table, subst: &Subst, ty: Id) -> Result<Id, Stop>
     requires live { ty < length table.old.trees }
     requires below { AreBelow (length table.old.trees) subst.now }
-    ensures live { IfOk result (λ i. i < length table.new.trees) }
-    ensures typed { IfOk result (λ i. settled (put (held table.old.trees subst.now) (tree_at table.old.trees ty)) ≡ Typed (tree_at table.new.trees i)) }
-    ensures stop { IfErr result (λ e. Stops e (settled (put (held table.old.trees subst.now) (tree_at table.old.trees ty)))) }
+    ensures gives { Gives table.new result (settled (put (held table.old.trees subst.now) (tree_in table.old ty))) }
     ensures grows { Grows table.old table.new }
-    ensures grown { (t : Terms) → Grows t table.old → Grows t table.new }
 {
     let made = substitute(table, subst, ty)?;
     Ok(settle_term(alloc, table, made)?)
@@ -95,10 +87,10 @@ pub(crate) fn settled(alloc: Global, table: &mut Table, subst: &Subst, ty: Id) -
 pub(crate) fn assign(table: &Table, subst: &mut Subst, par: u8, id: Id) -> Result<(), AllocError>
     requires live { id < length table.now.trees }
     requires below { AreBelow (length table.now.trees) subst.old }
-    ensures held { OnOk result (held table.now.trees subst.new ≡ assign (held table.now.trees subst.old) par (tree_at table.now.trees id)) }
+    ensures held { OnOk result (held table.now.trees subst.new ≡ assign (held table.now.trees subst.old) par (tree_in table.now id)) }
     ensures below { OnOk result (AreBelow (length table.now.trees) subst.new) }
 {
-    let _len = table.len();
+    table.laws();
     subst.reserve(usize::from(par) + 1, 0)?;
     subst.put(par, id);
     Ok(())
@@ -109,8 +101,8 @@ fn meets(table: &Table, subst: &mut Subst, pattern: Id, ty: Id) -> Result<bool, 
     requires empty { AreEmpty subst.old }
     requires pattern { pattern < length table.now.trees }
     requires ty { ty < length table.now.trees }
-    ensures yes { IfOk result (λ b. IsTrue b → matching empty (tree_at table.now.trees pattern ∷ []) (tree_at table.now.trees ty ∷ []) ≡ Some (held table.now.trees subst.new)) }
-    ensures no { IfOk result (λ b. IsFalse b → matching empty (tree_at table.now.trees pattern ∷ []) (tree_at table.now.trees ty ∷ []) ≡ None) }
+    ensures yes { IfOk result (λ b. IsTrue b → matched_in table.now pattern ty ≡ Some (held table.now.trees subst.new)) }
+    ensures no { IfOk result (λ b. IsFalse b → matched_in table.now pattern ty ≡ None) }
     ensures below { OnOk result (AreBelow (length table.now.trees) subst.new) }
 {
     let room = table.parameters(pattern).bound();

@@ -1,14 +1,15 @@
 //! Operators on terms that are values, most of all on literals.
 ghost use Rattle.std.specs.Prelude.{◌≡◌, ◌<◌, length, map, All, IfOk, IfErr, IfSome, option_map};
 ghost use Rattle.eo_term.specs.Tree.{Con};
-ghost use Rattle.eo_term.specs.Terms.{Terms, tree_at, Grows, arity};
+ghost use Rattle.eo_term.specs.Terms.{arity};
+ghost use Rattle.eo_term.specs.Growth.{tree_in, trees_in, Grows, Makes};
 ghost use Rattle.eo_ops.specs.Operators as ops;
 ghost use Rattle.eo_ops.specs.Lit.{lit, IsWellFormed};
-ghost use Rattle.eo_type.specs.Types.{Typed, typed_answer};
-ghost use Rattle.eo_type.specs.Outcomes.{Stops};
+ghost use Rattle.eo_type.specs.Types.{typed_answer};
+ghost use Rattle.eo_type.specs.Outcomes.{Gives};
 ghost use Rattle.eo_type.specs.Parts.{on_literals, on_others};
 
-use crate::leaves::{low_term, truth_value};
+use crate::leaves::truth_value;
 use crate::refused::Stop;
 use eo_base::Chars;
 use eo_ops::{Lit, OpResult, apply};
@@ -24,11 +25,8 @@ pub(crate) fn value_of(
 ) -> Result<Id, Stop>
     requires count { length args.now ≡ arity op }
     requires args { All (λ i. i < length table.old.trees) args.now }
-    ensures live { IfOk result (λ i. i < length table.new.trees) }
-    ensures typed { IfOk result (λ i. typed_answer (ops.tree_op_value op (map (tree_at table.old.trees) args.now)) ≡ Typed (tree_at table.new.trees i)) }
-    ensures stop { IfErr result (λ e. Stops e (typed_answer (ops.tree_op_value op (map (tree_at table.old.trees) args.now)))) }
+    ensures gives { Gives table.new result (typed_answer (ops.tree_op_value op (trees_in table.old args.now))) }
     ensures grows { Grows table.old table.new }
-    ensures grown { (t : Terms) → Grows t table.old → Grows t table.new }
 {
     match literals(alloc, table, args)? {
         Some(literals) => value_of_literals(alloc, table, op, literals.as_slice()),
@@ -39,11 +37,8 @@ pub(crate) fn value_of(
 // The value of an operator on literals.
 fn value_of_literals(alloc: Global, table: &mut Table, op: OpName, args: &[Lit]) -> Result<Id, Stop>
     requires { All IsWellFormed args.now }
-    ensures live { IfOk result (λ i. i < length table.new.trees) }
-    ensures typed { IfOk result (λ i. on_literals op (map lit args.now) ≡ Typed (tree_at table.new.trees i)) }
-    ensures stop { IfErr result (λ e. Stops e (on_literals op (map lit args.now))) }
+    ensures gives { Gives table.new result (on_literals op (map lit args.now)) }
     ensures grows { Grows table.old table.new }
-    ensures grown { (t : Terms) → Grows t table.old → Grows t table.new }
 {
     match apply(alloc, op, args) {
         OpResult::Value(value) => Ok(literal_term(table, &value)?),
@@ -57,9 +52,7 @@ fn value_of_literals(alloc: Global, table: &mut Table, op: OpName, args: &[Lit])
 fn value_of_others(table: &Table, op: OpName, args: &[Id]) -> Result<Id, Stop>
     requires count { length args.now ≡ arity op }
     requires args { All (λ i. i < length table.now.trees) args.now }
-    ensures live { IfOk result (λ i. i < length table.now.trees) }
-    ensures typed { IfOk result (λ i. on_others op (map (tree_at table.now.trees) args.now) ≡ Typed (tree_at table.now.trees i)) }
-    ensures stop { IfErr result (λ e. Stops e (on_others op (map (tree_at table.now.trees) args.now))) }
+    ensures gives { Gives table.now result (on_others op (trees_in table.now args.now)) }
 {
     match op {
         OpName::IsZ => Ok(truth_value(table, false)),
@@ -74,26 +67,15 @@ fn value_of_others(table: &Table, op: OpName, args: &[Id]) -> Result<Id, Stop>
 // Whether the term is a variable.
 fn is_variable(table: &Table, id: Id) -> bool
     requires { id < length table.now.trees }
-    ensures { result ≡ ops.is_variable (tree_at table.now.trees id) }
+    ensures { result ≡ ops.is_variable (tree_in table.now id) }
 {
-    match table.node(id) {
-        Node::Con(_) => false,
-        Node::Num(_) => false,
-        Node::Bits { .. } => false,
-        Node::Str(_) => false,
-        Node::Par(_) => false,
-        Node::Var { .. } => true,
-        Node::App { .. } => false,
-        Node::Arr { .. } => false,
-        Node::Qar { .. } => false,
-        Node::Op { .. } => false,
-    }
+    matches!(table.node(id), Node::Var { .. })
 }
 
 // The literals that the terms are, if each is one.
 fn literals(alloc: Global, table: &Table, ids: &[Id]) -> Result<Option<Vec<Lit>>, AllocError>
     requires { All (λ i. i < length table.now.trees) ids.now }
-    ensures value { IfOk result (λ o. option_map (λ ls. map lit ls.items) o ≡ ops.literals (map (tree_at table.now.trees) ids.now)) }
+    ensures value { IfOk result (λ o. option_map (λ ls. map lit ls.items) o ≡ ops.literals (trees_in table.now ids.now)) }
     ensures well_formed { IfOk result (λ o. IfSome o (λ ls. All IsWellFormed ls.items)) }
 {
     let mut found = Vec::new(alloc);
@@ -109,7 +91,7 @@ fn literals(alloc: Global, table: &Table, ids: &[Id]) -> Result<Option<Vec<Lit>>
 // The literal that the term is, if it is one.
 fn literal(alloc: Global, table: &Table, id: Id) -> Result<Option<Lit>, AllocError>
     requires { id < length table.now.trees }
-    ensures value { IfOk result (λ l. option_map lit l ≡ ops.literal (tree_at table.now.trees id)) }
+    ensures value { IfOk result (λ l. option_map lit l ≡ ops.literal (tree_in table.now id)) }
     ensures well_formed { IfOk result (λ l. IfSome l IsWellFormed) }
 {
     match table.node(id) {
@@ -144,24 +126,19 @@ fn truth_of(number: usize) -> Option<Lit>
 // The term of a literal.
 fn literal_term(table: &mut Table, literal: &Lit) -> Result<Id, AllocError>
     requires { IsWellFormed literal.now }
-    ensures live { IfOk result (λ i. i < length table.new.trees) }
-    ensures tree { IfOk result (λ i. tree_at table.new.trees i ≡ ops.literal_tree (lit literal.now)) }
+    ensures makes { Makes table.new result (ops.literal_tree (lit literal.now)) }
     ensures grows { Grows table.old table.new }
-    ensures grown { (t : Terms) → Grows t table.old → Grows t table.new }
 {
     match literal {
         Lit::Bool(value) => Ok(truth_value(table, *value)),
-        Lit::Num(value) => low_term(table, Node::Num(*value)),
-        Lit::Bits { width, value } => low_term(
-            table,
-            Node::Bits {
-                width: *width,
-                value: *value,
-            },
-        ),
+        Lit::Num(value) => table.intern_low(Node::Num(*value)),
+        Lit::Bits { width, value } => table.intern_low(Node::Bits {
+            width: *width,
+            value: *value,
+        }),
         Lit::Str(chars) => {
             let text = table.text(chars.as_slice())?;
-            low_term(table, Node::Str(text))
+            table.intern_low(Node::Str(text))
         }
     }
 }

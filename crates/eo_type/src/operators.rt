@@ -2,9 +2,10 @@
 ghost use Rattle.std.specs.Prelude.{◌≡◌, ◌<◌, [], ◌∷◌, length, map, All, IfOk, IfErr};
 ghost use Rattle.eo_term.specs.declared.OpCode.TheVariants as code;
 ghost use Rattle.eo_term.specs.declared.OpName.TheVariants as name;
-ghost use Rattle.eo_term.specs.Terms.{Terms, tree_at, Grows, HasArity, arity};
-ghost use Rattle.eo_type.specs.Types.{Typed, op_in_type};
-ghost use Rattle.eo_type.specs.Outcomes.{Stops};
+ghost use Rattle.eo_term.specs.Terms.{HasArity, arity};
+ghost use Rattle.eo_term.specs.Growth.{trees_in, Grows};
+ghost use Rattle.eo_type.specs.Types.{op_in_type};
+ghost use Rattle.eo_type.specs.Outcomes.{Gives, IsTyped};
 ghost use Rattle.eo_type.specs.Parts.{on_values};
 
 use crate::leaves::{are_values, if_value, is_constant, is_equal, truth_value};
@@ -22,11 +23,8 @@ pub(crate) fn op_value(
 ) -> Result<Id, Stop>
     requires count { HasArity code (length args.now) }
     requires args { All (λ i. i < length table.old.trees) args.now }
-    ensures live { IfOk result (λ i. i < length table.new.trees) }
-    ensures typed { IfOk result (λ i. op_in_type code (map (tree_at table.old.trees) args.now) ≡ Typed (tree_at table.new.trees i)) }
-    ensures stop { IfErr result (λ e. Stops e (op_in_type code (map (tree_at table.old.trees) args.now))) }
+    ensures gives { Gives table.new result (op_in_type code (trees_in table.old args.now)) }
     ensures grows { Grows table.old table.new }
-    ensures grown { (t : Terms) → Grows t table.old → Grows t table.new }
 {
     match code {
         OpCode::Builtin(op) => builtin_value(alloc, table, op, args),
@@ -38,11 +36,8 @@ pub(crate) fn op_value(
 fn builtin_value(alloc: Global, table: &mut Table, op: OpName, args: &[Id]) -> Result<Id, Stop>
     requires count { length args.now ≡ arity op }
     requires args { All (λ i. i < length table.old.trees) args.now }
-    ensures live { IfOk result (λ i. i < length table.new.trees) }
-    ensures typed { IfOk result (λ i. op_in_type (code.Builtin op) (map (tree_at table.old.trees) args.now) ≡ Typed (tree_at table.new.trees i)) }
-    ensures stop { IfErr result (λ e. Stops e (op_in_type (code.Builtin op) (map (tree_at table.old.trees) args.now))) }
+    ensures gives { Gives table.new result (op_in_type (code.Builtin op) (trees_in table.old args.now)) }
     ensures grows { Grows table.old table.new }
-    ensures grown { (t : Terms) → Grows t table.old → Grows t table.new }
 {
     match op {
         OpName::Ite => choice(table, args[0], args[1], args[2]),
@@ -57,9 +52,7 @@ fn choice(table: &Table, condition: Id, yes: Id, no: Id) -> Result<Id, Stop>
     requires condition { condition < length table.now.trees }
     requires yes { yes < length table.now.trees }
     requires no { no < length table.now.trees }
-    ensures live { IfOk result (λ i. i < length table.now.trees) }
-    ensures typed { IfOk result (λ i. op_in_type (code.Builtin name.Ite) (tree_at table.now.trees condition ∷ tree_at table.now.trees yes ∷ tree_at table.now.trees no ∷ []) ≡ Typed (tree_at table.now.trees i)) }
-    ensures stop { IfErr result (λ e. Stops e (op_in_type (code.Builtin name.Ite) (tree_at table.now.trees condition ∷ tree_at table.now.trees yes ∷ tree_at table.now.trees no ∷ []))) }
+    ensures gives { Gives table.now result (op_in_type (code.Builtin name.Ite) (trees_in table.now (condition ∷ yes ∷ no ∷ []))) }
 {
     if is_constant(table, condition, 2) {
         return if_value(table, yes);
@@ -75,9 +68,7 @@ fn required(table: &Table, a: Id, b: Id, then: Id) -> Result<Id, Stop>
     requires a { a < length table.now.trees }
     requires b { b < length table.now.trees }
     requires then { then < length table.now.trees }
-    ensures live { IfOk result (λ i. i < length table.now.trees) }
-    ensures typed { IfOk result (λ i. op_in_type (code.Builtin name.Requires) (tree_at table.now.trees a ∷ tree_at table.now.trees b ∷ tree_at table.now.trees then ∷ []) ≡ Typed (tree_at table.now.trees i)) }
-    ensures stop { IfErr result (λ e. Stops e (op_in_type (code.Builtin name.Requires) (tree_at table.now.trees a ∷ tree_at table.now.trees b ∷ tree_at table.now.trees then ∷ []))) }
+    ensures gives { Gives table.now result (op_in_type (code.Builtin name.Requires) (trees_in table.now (a ∷ b ∷ then ∷ []))) }
 {
     if !table.is_value(a) || !is_equal(table, a, b) {
         return Err(Stop::Untyped);
@@ -89,8 +80,7 @@ fn required(table: &Table, a: Id, b: Id, then: Id) -> Result<Id, Stop>
 fn equality(table: &Table, a: Id, b: Id) -> Id
     requires a { a < length table.now.trees }
     requires b { b < length table.now.trees }
-    ensures live { result < length table.now.trees }
-    ensures typed { op_in_type (code.Builtin name.IsEq) (tree_at table.now.trees a ∷ tree_at table.now.trees b ∷ []) ≡ Typed (tree_at table.now.trees result) }
+    ensures { IsTyped table.now (op_in_type (code.Builtin name.IsEq) (trees_in table.now (a ∷ b ∷ []))) result }
 {
     let same = table.is_value(a) && is_equal(table, a, b);
     truth_value(table, same)
@@ -100,11 +90,8 @@ fn equality(table: &Table, a: Id, b: Id) -> Id
 fn value_on_values(alloc: Global, table: &mut Table, op: OpName, args: &[Id]) -> Result<Id, Stop>
     requires count { length args.now ≡ arity op }
     requires args { All (λ i. i < length table.old.trees) args.now }
-    ensures live { IfOk result (λ i. i < length table.new.trees) }
-    ensures typed { IfOk result (λ i. on_values op (map (tree_at table.old.trees) args.now) ≡ Typed (tree_at table.new.trees i)) }
-    ensures stop { IfErr result (λ e. Stops e (on_values op (map (tree_at table.old.trees) args.now))) }
+    ensures gives { Gives table.new result (on_values op (trees_in table.old args.now)) }
     ensures grows { Grows table.old table.new }
-    ensures grown { (t : Terms) → Grows t table.old → Grows t table.new }
 {
     if !are_values(table, args) {
         return Err(Stop::Untyped);

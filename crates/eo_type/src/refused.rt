@@ -1,9 +1,9 @@
 //! Why no type was found.
-ghost use Rattle.std.specs.Prelude.{◌≡◌, ℕ, ◌<◌, List, Contains, IfOk, IfErr, IfSome};
+ghost use Rattle.std.specs.Prelude.{ℕ, List, Contains, IfOk, IfSome};
 ghost use Rattle.eo_term.specs.Tree.{Tree};
-ghost use Rattle.eo_term.specs.Terms.{tree_at};
-ghost use Rattle.eo_type.specs.Types.{TypeOutcome, Typed};
-ghost use Rattle.eo_type.specs.Outcomes.{Answers, Stops};
+ghost use Rattle.eo_term.specs.Terms.{Terms};
+ghost use Rattle.eo_type.specs.Types.{TypeOutcome};
+ghost use Rattle.eo_type.specs.Outcomes.{Answers, Gives};
 
 use eo_term::{Id, TermRefused};
 use std::alloc::AllocError;
@@ -59,9 +59,9 @@ impl From<TermRefused> for Stop {
 
 /// The answer of a walk.
 pub(crate) fn answer(found: Result<Id, Stop>) -> Result<Option<Id>, TypeRefused>
-    ensures live { (n : ℕ) → IfOk found (λ i. i < n) → IfOk result (λ o. IfSome o (λ i. i < n)) }
-    ensures among { (types : List (ℕ × ℕ)) (t : ℕ) → IfOk found (λ i. Contains types (t, i)) → IfOk result (λ o. IfSome o (λ i. Contains types (t, i))) }
-    ensures outcome { (ts : List Tree) (o : TypeOutcome Tree) → IfOk found (λ i. o ≡ Typed (tree_at ts i)) → IfErr found (λ e. Stops e o) → Answers ts result o }
+    ensures answers { (t : Terms) (o : TypeOutcome Tree) → Gives t found o → Answers t result o }
+    ensures among { (types : List (ℕ × ℕ)) (t : ℕ) → IfOk found (λ i. Contains types (t, i)) →
+        IfOk result (λ o. IfSome o (λ i. Contains types (t, i))) }
 {
     match found {
         Ok(id) => Ok(Some(id)),

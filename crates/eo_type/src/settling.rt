@@ -1,16 +1,15 @@
 //! Settling: each operator without parameters becomes its value.
-ghost use Rattle.std.specs.Prelude.{◌≡◌, ℕ, ◌<◌, ◌≤◌, [], length, map, false, None, All, IfOk, IfErr, IfSome, IfNone};
+ghost use Rattle.std.specs.Prelude.{◌≡◌, ℕ, ◌<◌, [], length, false, None, All};
 ghost use Rattle.eo_term.specs.Tree.{Op, is_tall, to_trees};
 ghost use Rattle.eo_term.specs.Memo.{told, TellsOnly};
-ghost use Rattle.eo_term.specs.Terms.{Terms, tree_at, Grows, HasArity};
-ghost use Rattle.eo_term.specs.Arguments.{arguments_of, count_of};
-ghost use Rattle.eo_type.specs.Types.{Typed, settle, settled_op};
-ghost use Rattle.eo_type.specs.Outcomes.{Answers, IsTall, Stops};
-ghost use Rattle.eo_type.specs.Parts.{IsSettled};
-ghost use Rattle.eo_type.specs.Steps.{IsStep};
+ghost use Rattle.eo_term.specs.Terms.{HasArity};
+ghost use Rattle.eo_term.specs.Growth.{tree_in, trees_in, Grows};
+ghost use Rattle.eo_type.specs.Types.{settle, settled_op};
+ghost use Rattle.eo_type.specs.Outcomes.{Answers, IsTall, Gives};
+ghost use Rattle.eo_type.specs.Steps.{IsSettled, IsOperator, Knows, GivesStep};
 
 use crate::TypeRefused;
-use crate::leaves::{are_closed, low_op, low_term};
+use crate::leaves::are_closed;
 use crate::operators::op_value;
 use crate::refused::{Stop, answer};
 use eo_base::limits::PARAMETERS;
@@ -34,11 +33,9 @@ pub fn settle(
     id: Id,
 ) -> Result<Option<Id>, TypeRefused>
     requires { id < length table.old.trees }
-    ensures live { IfOk result (λ o. IfSome o (λ i. i < length table.new.trees)) }
-    ensures outcome { Answers table.new.trees result (settle (tree_at table.old.trees id)) }
+    ensures answers { Answers table.new result (settle (tree_in table.old id)) }
     ensures never_tall { IsTall result → ⊥ }
     ensures grows { Grows table.old table.new }
-    ensures grown { (t : Terms) → Grows t table.old → Grows t table.new }
 {
     answer(settle_term(alloc, table, id))
 }
@@ -46,11 +43,8 @@ pub fn settle(
 /// The same, as a walk.
 pub(crate) fn settle_term(alloc: Global, table: &mut Table, id: Id) -> Result<Id, Stop>
     requires { id < length table.old.trees }
-    ensures live { IfOk result (λ i. i < length table.new.trees) }
-    ensures typed { IfOk result (λ i. settle (tree_at table.old.trees id) ≡ Typed (tree_at table.new.trees i)) }
-    ensures stop { IfErr result (λ e. Stops e (settle (tree_at table.old.trees id))) }
+    ensures gives { Gives table.new result (settle (tree_in table.old id)) }
     ensures grows { Grows table.old table.new }
-    ensures grown { (t : Terms) → Grows t table.old → Grows t table.new }
 {
     if table.is_plain(id) {
         return Ok(id);
@@ -64,11 +58,8 @@ fn settle_walk(alloc: Global, table: &mut Table, walk: &mut Walk) -> Result<Id, 
     requires live { walk.old.top < length table.old.trees }
     requires told { (k : ℕ) → told walk.old.memo k ≡ None }
     requires waiting { walk.old.waiting ≡ [] }
-    ensures live { IfOk result (λ i. i < length table.new.trees) }
-    ensures typed { IfOk result (λ i. settle (tree_at table.old.trees walk.old.top) ≡ Typed (tree_at table.new.trees i)) }
-    ensures stop { IfErr result (λ e. Stops e (settle (tree_at table.old.trees walk.old.top))) }
+    ensures gives { Gives table.new result (settle (tree_in table.old walk.old.top)) }
     ensures grows { Grows table.old table.new }
-    ensures grown { (t : Terms) → Grows t table.old → Grows t table.new }
 {
     loop {
         match settle_node(alloc, table, walk.memo(), walk.top())? {
@@ -85,19 +76,17 @@ fn settle_walk(alloc: Global, table: &mut Table, walk: &mut Walk) -> Result<Id, 
 // The same for one term, where its parts are known.
 fn settle_node(alloc: Global, table: &mut Table, memo: &Memo, id: Id) -> Result<Step, Stop>
     requires live { id < length table.old.trees }
-    requires memo { TellsOnly (IsSettled table.old.trees) memo.now }
-    ensures step { IfOk result (λ s. IsStep table.old.trees memo.now id table.new.trees s) }
-    ensures stop { IfErr result (λ e. Stops e (settle (tree_at table.old.trees id))) }
+    requires memo { TellsOnly (IsSettled table.old) memo.now }
+    ensures gives { GivesStep table.old memo.now id table.new result }
     ensures grows { Grows table.old table.new }
-    ensures grown { (t : Terms) → Grows t table.old → Grows t table.new }
 {
-    let _low = table.len();
+    table.laws();
     match table.node(id) {
         Node::Var { name, ty } => {
             let Some(settled) = known(table, memo, ty) else {
                 return Ok(Step::Part(ty));
             };
-            let made = low_term(table, Node::Var { name, ty: settled })?;
+            let made = table.intern_low(Node::Var { name, ty: settled })?;
             Ok(Step::Made(made))
         }
         Node::App { fun, arg } => {
@@ -107,13 +96,10 @@ fn settle_node(alloc: Global, table: &mut Table, memo: &Memo, id: Id) -> Result<
             let Some(second) = known(table, memo, arg) else {
                 return Ok(Step::Part(arg));
             };
-            let made = low_term(
-                table,
-                Node::App {
-                    fun: first,
-                    arg: second,
-                },
-            )?;
+            let made = table.intern_low(Node::App {
+                fun: first,
+                arg: second,
+            })?;
             Ok(Step::Made(made))
         }
         Node::Arr { from, to } => {
@@ -123,13 +109,10 @@ fn settle_node(alloc: Global, table: &mut Table, memo: &Memo, id: Id) -> Result<
             let Some(second) = known(table, memo, to) else {
                 return Ok(Step::Part(to));
             };
-            let made = low_term(
-                table,
-                Node::Arr {
-                    from: first,
-                    to: second,
-                },
-            )?;
+            let made = table.intern_low(Node::Arr {
+                from: first,
+                to: second,
+            })?;
             Ok(Step::Made(made))
         }
         Node::Qar { par, ty, to } => {
@@ -139,14 +122,11 @@ fn settle_node(alloc: Global, table: &mut Table, memo: &Memo, id: Id) -> Result<
             let Some(second) = known(table, memo, to) else {
                 return Ok(Step::Part(to));
             };
-            let made = low_term(
-                table,
-                Node::Qar {
-                    par,
-                    ty: first,
-                    to: second,
-                },
-            )?;
+            let made = table.intern_low(Node::Qar {
+                par,
+                ty: first,
+                to: second,
+            })?;
             Ok(Step::Made(made))
         }
         Node::Op { code, count } => settle_op(alloc, table, memo, id, code, count as usize),
@@ -168,16 +148,10 @@ fn settle_op(
     count: usize,
 ) -> Result<Step, Stop>
     requires live { id < length table.old.trees }
-    requires low { is_tall (tree_at table.old.trees id) ≡ false }
-    requires tree { Op code (arguments_of (tree_at table.old.trees id)) ≡ tree_at table.old.trees id }
-    requires count { count_of (arguments_of (tree_at table.old.trees id)) ≡ count }
-    requires arity { HasArity code count }
-    requires small { count ≤ 64 }
-    requires memo { TellsOnly (IsSettled table.old.trees) memo.now }
-    ensures step { IfOk result (λ s. IsStep table.old.trees memo.now id table.new.trees s) }
-    ensures stop { IfErr result (λ e. Stops e (settle (tree_at table.old.trees id))) }
+    requires operator { IsOperator table.old id code count }
+    requires memo { TellsOnly (IsSettled table.old) memo.now }
+    ensures gives { GivesStep table.old memo.now id table.new result }
     ensures grows { Grows table.old table.new }
-    ensures grown { (t : Terms) → Grows t table.old → Grows t table.new }
 {
     let mut args = [TYPE; PARAMETERS];
     for i in 0..count {
@@ -194,10 +168,8 @@ fn settle_op(
 // What the part of a term settles to, where that is known without its own parts.
 fn known(table: &Table, memo: &Memo, id: Id) -> Option<Id>
     requires live { id < length table.now.trees }
-    requires memo { TellsOnly (IsSettled table.now.trees) memo.now }
-    ensures live { IfSome result (λ i. i < length table.now.trees) }
-    ensures typed { IfSome result (λ i. settle (tree_at table.now.trees id) ≡ Typed (tree_at table.now.trees i)) }
-    ensures untold { IfNone result (told memo.now id ≡ None) }
+    requires memo { TellsOnly (IsSettled table.now) memo.now }
+    ensures { Knows table.now memo.now id result }
 {
     if table.is_plain(id) {
         return Some(id);
@@ -209,15 +181,12 @@ fn known(table: &Table, memo: &Memo, id: Id) -> Option<Id>
 fn settled_op(alloc: Global, table: &mut Table, code: OpCode, args: &[Id]) -> Result<Id, Stop>
     requires count { HasArity code (length args.now) }
     requires args { All (λ i. i < length table.old.trees) args.now }
-    requires low { is_tall (Op code (to_trees (map (tree_at table.old.trees) args.now))) ≡ false }
-    ensures live { IfOk result (λ i. i < length table.new.trees) }
-    ensures typed { IfOk result (λ i. settled_op code (map (tree_at table.old.trees) args.now) ≡ Typed (tree_at table.new.trees i)) }
-    ensures stop { IfErr result (λ e. Stops e (settled_op code (map (tree_at table.old.trees) args.now))) }
+    requires low { is_tall (Op code (to_trees (trees_in table.old args.now))) ≡ false }
+    ensures gives { Gives table.new result (settled_op code (trees_in table.old args.now)) }
     ensures grows { Grows table.old table.new }
-    ensures grown { (t : Terms) → Grows t table.old → Grows t table.new }
 {
     if are_closed(table, args) {
         return op_value(alloc, table, code, args);
     }
-    Ok(low_op(table, code, args)?)
+    Ok(table.intern_low_op(code, args)?)
 }

@@ -1,14 +1,15 @@
 //! Types of terms, and the types that are kept.
-ghost use Rattle.std.specs.Prelude.{◌≡◌, ℕ, ◌<◌, List, [], length, Some, Contains, IfOk, IfErr, IfSome, OnOk};
+ghost use Rattle.std.specs.Prelude.{◌≡◌, ℕ, ◌<◌, List, [], length, Some, Contains, IfOk, IfSome, OnOk};
 ghost use Rattle.eo_term.specs.Tree.{Tree, App, Arr};
-ghost use Rattle.eo_term.specs.Terms.{Terms, tree_at, Grows};
+ghost use Rattle.eo_term.specs.Growth.{tree_in, Grows};
 ghost use Rattle.eo_pattern.specs.Slots.{AreBelow, AreEmpty};
 ghost use Rattle.eo_sig.specs.Signature as spec;
-ghost use Rattle.eo_sig.specs.Reading.{signature, IsBelow, Stays};
-ghost use Rattle.eo_type.specs.Types.{Typed, declared, literal_type_at, type_of};
-ghost use Rattle.eo_type.specs.Outcomes.{Answers, Stops};
+ghost use Rattle.eo_sig.specs.Reading.{signature, IsBelow};
+ghost use Rattle.eo_type.specs.Types.{declared, literal_type_at};
+ghost use Rattle.eo_type.specs.Outcomes.{Answers, Gives, GivesBoth};
 ghost use Rattle.eo_type.specs.Parts.{variable_type};
-ghost use Rattle.eo_type.specs.Known.{IsFit, Fits, type_at, type_both};
+ghost use Rattle.eo_sig.specs.Growth.{GrowsUnder};
+ghost use Rattle.eo_type.specs.Known.{IsFit, Fits, Fit, Lasts, class_type, type_at, type_in};
 
 use crate::TypeRefused;
 use crate::applied::{applied, assign, settled};
@@ -51,6 +52,13 @@ impl Types {
         })
     }
 
+    /// What holds of all types that fit. A call costs nothing: it tells a proof these facts.
+    pub fn laws(&self)
+        ensures { Lasts self.now }
+    {
+        let _count = self.known.len();
+    }
+
     /// The type of a term, by the typing rules of the Ethos manual; `None` exactly where it has
     /// none. The parts of a term are typed from left to right, and only then compared.
     ///
@@ -64,15 +72,11 @@ impl Types {
         id: Id,
     ) -> Result<Option<Id>, TypeRefused>
         requires live { id < length table.old.trees }
-        requires below { IsBelow (length table.old.trees) sig.now }
-        requires fits { Fits (signature table.old.trees sig.now) table.old.trees self.old }
-        ensures live { IfOk result (λ o. IfSome o (λ i. i < length table.new.trees)) }
-        ensures outcome { Answers table.new.trees result (type_of (signature table.old.trees sig.now) (tree_at table.old.trees id)) }
+        requires fits { Fit sig.now table.old self.old }
+        ensures answers { Answers table.new result (type_at sig.now table.old id) }
         ensures kept { IfOk result (λ o. IfSome o (λ i. Contains self.new (id, i))) }
-        ensures fits { Fits (signature table.new.trees sig.now) table.new.trees self.new }
-        ensures stays { Stays sig.now table.old.trees table.new.trees }
-        ensures grows { Grows table.old table.new }
-        ensures grown { (t : Terms) → Grows t table.old → Grows t table.new }
+        ensures fits { Fit sig.now table.new self.new }
+        ensures grows { GrowsUnder sig.now table.old table.new }
     {
         answer(self.find(sig, table, id))
     }
@@ -84,16 +88,11 @@ impl Types {
     #[cycle(typing)]
     fn find(&mut self, sig: &Signature, table: &mut Table, id: Id) -> Result<Id, Stop>
         requires live { id < length table.old.trees }
-        requires below { IsBelow (length table.old.trees) sig.now }
-        requires fits { Fits (signature table.old.trees sig.now) table.old.trees self.old }
-        ensures live { IfOk result (λ i. i < length table.new.trees) }
-        ensures typed { IfOk result (λ i. type_at sig.now table.old.trees id ≡ Typed (tree_at table.new.trees i)) }
-        ensures stop { IfErr result (λ e. Stops e (type_at sig.now table.old.trees id)) }
+        requires fits { Fit sig.now table.old self.old }
+        ensures gives { Gives table.new result (type_at sig.now table.old id) }
         ensures kept { IfOk result (λ i. Contains self.new (id, i)) }
-        ensures fits { Fits (signature table.new.trees sig.now) table.new.trees self.new }
-        ensures stays { Stays sig.now table.old.trees table.new.trees }
-        ensures grows { Grows table.old table.new }
-        ensures grown { (t : Terms) → Grows t table.old → Grows t table.new }
+        ensures fits { Fit sig.now table.new self.new }
+        ensures grows { GrowsUnder sig.now table.old table.new }
     {
         match self.known(id) {
             Some(ty) => Ok(ty),
@@ -109,15 +108,10 @@ impl Types {
     #[cycle(typing)]
     fn derive(&mut self, sig: &Signature, table: &mut Table, id: Id) -> Result<Id, Stop>
         requires live { id < length table.old.trees }
-        requires below { IsBelow (length table.old.trees) sig.now }
-        requires fits { Fits (signature table.old.trees sig.now) table.old.trees self.old }
-        ensures live { IfOk result (λ i. i < length table.new.trees) }
-        ensures typed { IfOk result (λ i. type_at sig.now table.old.trees id ≡ Typed (tree_at table.new.trees i)) }
-        ensures stop { IfErr result (λ e. Stops e (type_at sig.now table.old.trees id)) }
-        ensures fits { Fits (signature table.new.trees sig.now) table.new.trees self.new }
-        ensures stays { Stays sig.now table.old.trees table.new.trees }
-        ensures grows { Grows table.old table.new }
-        ensures grown { (t : Terms) → Grows t table.old → Grows t table.new }
+        requires fits { Fit sig.now table.old self.old }
+        ensures gives { Gives table.new result (type_at sig.now table.old id) }
+        ensures fits { Fit sig.now table.new self.new }
+        ensures grows { GrowsUnder sig.now table.old table.new }
     {
         match table.node(id) {
             Node::Con(k) => declared(sig, table, k),
@@ -137,15 +131,10 @@ impl Types {
     #[cycle(typing)]
     fn variable(&mut self, sig: &Signature, table: &mut Table, ty: Id) -> Result<Id, Stop>
         requires live { ty < length table.old.trees }
-        requires below { IsBelow (length table.old.trees) sig.now }
-        requires fits { Fits (signature table.old.trees sig.now) table.old.trees self.old }
-        ensures live { IfOk result (λ i. i < length table.new.trees) }
-        ensures typed { IfOk result (λ i. variable_type (signature table.old.trees sig.now) (tree_at table.old.trees ty) ≡ Typed (tree_at table.new.trees i)) }
-        ensures stop { IfErr result (λ e. Stops e (variable_type (signature table.old.trees sig.now) (tree_at table.old.trees ty))) }
-        ensures fits { Fits (signature table.new.trees sig.now) table.new.trees self.new }
-        ensures stays { Stays sig.now table.old.trees table.new.trees }
-        ensures grows { Grows table.old table.new }
-        ensures grown { (t : Terms) → Grows t table.old → Grows t table.new }
+        requires fits { Fit sig.now table.old self.old }
+        ensures gives { Gives table.new result (variable_type (signature table.old.trees sig.now) (tree_in table.old ty)) }
+        ensures fits { Fit sig.now table.new self.new }
+        ensures grows { GrowsUnder sig.now table.old table.new }
     {
         let kind = self.find(sig, table, ty)?;
         if !is_constant(table, kind, 0) {
@@ -165,15 +154,10 @@ impl Types {
     ) -> Result<Id, Stop>
         requires fun { fun < length table.old.trees }
         requires arg { arg < length table.old.trees }
-        requires below { IsBelow (length table.old.trees) sig.now }
-        requires fits { Fits (signature table.old.trees sig.now) table.old.trees self.old }
-        ensures live { IfOk result (λ i. i < length table.new.trees) }
-        ensures typed { IfOk result (λ i. type_of (signature table.old.trees sig.now) (App (tree_at table.old.trees fun) (tree_at table.old.trees arg)) ≡ Typed (tree_at table.new.trees i)) }
-        ensures stop { IfErr result (λ e. Stops e (type_of (signature table.old.trees sig.now) (App (tree_at table.old.trees fun) (tree_at table.old.trees arg)))) }
-        ensures fits { Fits (signature table.new.trees sig.now) table.new.trees self.new }
-        ensures stays { Stays sig.now table.old.trees table.new.trees }
-        ensures grows { Grows table.old table.new }
-        ensures grown { (t : Terms) → Grows t table.old → Grows t table.new }
+        requires fits { Fit sig.now table.old self.old }
+        ensures gives { Gives table.new result (type_in sig.now table.old (App (tree_in table.old fun) (tree_in table.old arg))) }
+        ensures fits { Fit sig.now table.new self.new }
+        ensures grows { GrowsUnder sig.now table.old table.new }
     {
         let alloc = self.alloc;
         let (ty, kind) = self.both(sig, table, fun, arg)?;
@@ -188,15 +172,10 @@ impl Types {
     fn function(&mut self, sig: &Signature, table: &mut Table, from: Id, to: Id) -> Result<Id, Stop>
         requires from { from < length table.old.trees }
         requires to { to < length table.old.trees }
-        requires below { IsBelow (length table.old.trees) sig.now }
-        requires fits { Fits (signature table.old.trees sig.now) table.old.trees self.old }
-        ensures live { IfOk result (λ i. i < length table.new.trees) }
-        ensures typed { IfOk result (λ i. type_of (signature table.old.trees sig.now) (Arr (tree_at table.old.trees from) (tree_at table.old.trees to)) ≡ Typed (tree_at table.new.trees i)) }
-        ensures stop { IfErr result (λ e. Stops e (type_of (signature table.old.trees sig.now) (Arr (tree_at table.old.trees from) (tree_at table.old.trees to)))) }
-        ensures fits { Fits (signature table.new.trees sig.now) table.new.trees self.new }
-        ensures stays { Stays sig.now table.old.trees table.new.trees }
-        ensures grows { Grows table.old table.new }
-        ensures grown { (t : Terms) → Grows t table.old → Grows t table.new }
+        requires fits { Fit sig.now table.old self.old }
+        ensures gives { Gives table.new result (type_in sig.now table.old (Arr (tree_in table.old from) (tree_in table.old to))) }
+        ensures fits { Fit sig.now table.new self.new }
+        ensures grows { GrowsUnder sig.now table.old table.new }
     {
         let (first, second) = self.both(sig, table, from, to)?;
         if !is_constant(table, first, 0) || !is_constant(table, second, 0) {
@@ -210,17 +189,10 @@ impl Types {
     fn both(&mut self, sig: &Signature, table: &mut Table, a: Id, b: Id) -> Result<(Id, Id), Stop>
         requires a { a < length table.old.trees }
         requires b { b < length table.old.trees }
-        requires below { IsBelow (length table.old.trees) sig.now }
-        requires fits { Fits (signature table.old.trees sig.now) table.old.trees self.old }
-        ensures live_a { IfOk result (λ r. r.0 < length table.new.trees) }
-        ensures live_b { IfOk result (λ r. r.1 < length table.new.trees) }
-        ensures a { IfOk result (λ r. type_at sig.now table.old.trees a ≡ Typed (tree_at table.new.trees r.0)) }
-        ensures b { IfOk result (λ r. type_at sig.now table.old.trees b ≡ Typed (tree_at table.new.trees r.1)) }
-        ensures stop { IfErr result (λ e. Stops e (type_both sig.now table.old.trees a b)) }
-        ensures fits { Fits (signature table.new.trees sig.now) table.new.trees self.new }
-        ensures stays { Stays sig.now table.old.trees table.new.trees }
-        ensures grows { Grows table.old table.new }
-        ensures grown { (t : Terms) → Grows t table.old → Grows t table.new }
+        requires fits { Fit sig.now table.old self.old }
+        ensures gives { GivesBoth table.new result (type_at sig.now table.old a) (type_at sig.now table.old b) }
+        ensures fits { Fit sig.now table.new self.new }
+        ensures grows { GrowsUnder sig.now table.old table.new }
     {
         let first = self.find(sig, table, a)?;
         let second = self.find(sig, table, b)?;
@@ -236,15 +208,10 @@ impl Types {
         id: Id,
     ) -> Result<Id, Stop>
         requires live { id < length table.old.trees }
-        requires below { IsBelow (length table.old.trees) sig.now }
-        requires fits { Fits (signature table.old.trees sig.now) table.old.trees self.now }
-        ensures live { IfOk result (λ i. i < length table.new.trees) }
-        ensures typed { IfOk result (λ i. literal_type_at (spec.literal_type (signature table.old.trees sig.now) class) (tree_at table.old.trees id) ≡ Typed (tree_at table.new.trees i)) }
-        ensures stop { IfErr result (λ e. Stops e (literal_type_at (spec.literal_type (signature table.old.trees sig.now) class) (tree_at table.old.trees id))) }
-        ensures fits { Fits (signature table.new.trees sig.now) table.new.trees self.now }
-        ensures stays { Stays sig.now table.old.trees table.new.trees }
-        ensures grows { Grows table.old table.new }
-        ensures grown { (t : Terms) → Grows t table.old → Grows t table.new }
+        requires fits { Fit sig.now table.old self.now }
+        ensures gives { Gives table.new result (literal_type_at (class_type sig.now table.old class) (tree_in table.old id)) }
+        ensures fits { Fit sig.now table.new self.now }
+        ensures grows { GrowsUnder sig.now table.old table.new }
     {
         match sig.literal_type(class) {
             None => Err(Stop::Untyped),
@@ -273,11 +240,9 @@ impl Types {
 // The declared type of a constant.
 fn declared(sig: &Signature, table: &Table, k: usize) -> Result<Id, Stop>
     requires { IsBelow (length table.now.trees) sig.now }
-    ensures live { IfOk result (λ i. i < length table.now.trees) }
-    ensures typed { IfOk result (λ i. declared (spec.constant_at (signature table.now.trees sig.now) k) ≡ Typed (tree_at table.now.trees i)) }
-    ensures stop { IfErr result (λ e. Stops e (declared (spec.constant_at (signature table.now.trees sig.now) k))) }
+    ensures gives { Gives table.now result (declared (spec.constant_at (signature table.now.trees sig.now) k)) }
 {
-    let _len = table.len();
+    table.laws();
     if k >= sig.constants() {
         return Err(Stop::Untyped);
     }
@@ -288,11 +253,8 @@ fn declared(sig: &Signature, table: &Table, k: usize) -> Result<Id, Stop>
 fn literal_in(alloc: Global, table: &mut Table, ty: Id, id: Id) -> Result<Id, Stop>
     requires ty { ty < length table.old.trees }
     requires live { id < length table.old.trees }
-    ensures live { IfOk result (λ i. i < length table.new.trees) }
-    ensures typed { IfOk result (λ i. literal_type_at (Some (tree_at table.old.trees ty)) (tree_at table.old.trees id) ≡ Typed (tree_at table.new.trees i)) }
-    ensures stop { IfErr result (λ e. Stops e (literal_type_at (Some (tree_at table.old.trees ty)) (tree_at table.old.trees id))) }
+    ensures gives { Gives table.new result (literal_type_at (Some (tree_in table.old ty)) (tree_in table.old id)) }
     ensures grows { Grows table.old table.new }
-    ensures grown { (t : Terms) → Grows t table.old → Grows t table.new }
 {
     let mut subst = Subst::new(alloc)?;
     literal_with(alloc, table, &mut subst, ty, id)
@@ -310,11 +272,8 @@ fn literal_with(
     requires below { AreBelow (length table.old.trees) subst.old }
     requires ty { ty < length table.old.trees }
     requires live { id < length table.old.trees }
-    ensures live { IfOk result (λ i. i < length table.new.trees) }
-    ensures typed { IfOk result (λ i. literal_type_at (Some (tree_at table.old.trees ty)) (tree_at table.old.trees id) ≡ Typed (tree_at table.new.trees i)) }
-    ensures stop { IfErr result (λ e. Stops e (literal_type_at (Some (tree_at table.old.trees ty)) (tree_at table.old.trees id))) }
+    ensures gives { Gives table.new result (literal_type_at (Some (tree_in table.old ty)) (tree_in table.old id)) }
     ensures grows { Grows table.old table.new }
-    ensures grown { (t : Terms) → Grows t table.old → Grows t table.new }
 {
     assign(table, subst, 0, id)?;
     let found = settled(alloc, table, subst, ty)?;

@@ -1,9 +1,10 @@
 //! A run of the program.
 ghost use Rattle.std.specs.Prelude.{◌≡◌, ◌≢◌, [], None, Some, IfOk};
+ghost use Rattle.eo_run.specs.Judging.{IsPlainJob};
 ghost use Rattle.eo_run.specs.Printed.{usage_due};
 ghost use Rattle.ethos.specs.CheckWords.{first_words as read};
 ghost use Rattle.ethos.specs.Ends.{Ends, EndHasCause, UsageFits, AbsentHasCause};
-ghost use Rattle.ethos.specs.FirstProgram.{EndsAs, IsFirst, words_of};
+ghost use Rattle.ethos.specs.FirstProgram.{EndsAs, words_of};
 ghost use Rattle.ethos.specs.Words.{paths_of};
 
 use crate::words::{FilePaths, read_words};
@@ -87,7 +88,7 @@ fn check<L: Library, W: Sink>(
 
 /// The job of checking the files with these paths. `Err` is want of memory.
 fn make_job(alloc: Global, paths: FilePaths<'_>) -> Result<CheckJob, AllocError>
-    ensures first { IfOk result IsFirst }
+    ensures first { IfOk result IsPlainJob }
     ensures words { IfOk result (λ job. words_of job ≡ paths_of paths.entry) }
 {
     Ok(CheckJob {
@@ -106,7 +107,7 @@ fn check_job<L: Library, W: Sink>(
     files: &mut L,
     out: &mut W,
 ) -> Status
-    requires first { IsFirst job.now }
+    requires first { IsPlainJob job.now }
     requires none_open { L.open_files files.old ≡ [] }
     ensures exact { EndsAs (L.told files.old) result (Some (words_of job.now)) (W.written out.old) (W.written out.new) }
     ensures cause { EndHasCause result (L.faults files.old) (L.faults files.new) (W.faults out.old) (W.faults out.new) }

@@ -72,7 +72,10 @@ fn text_of(alloc: Global, kind: usize, size: usize) -> Result<Vec<u8>, AllocErro
         0 => repeated(
             alloc,
             b"(assume @p1 (",
-            b"(a true |b c| a true |b c| a true |b c| a true |b c| a true |b c| a true |b c| a true |b c| a true |b c| a true |b c| a true |b c| a true |b c| a true |b c| a true |b c| a true |b c| a true |b c| a true |b c| a true |b c| a true |b c| a true |b c| )\n",
+            b"(a true |b c| a true |b c| a true |b c| a true |b c| a true |b c| \
+            a true |b c| a true |b c| a true |b c| a true |b c| a true |b c| \
+            a true |b c| a true |b c| a true |b c| a true |b c| a true |b c| \
+            a true |b c| a true |b c| a true |b c| a true |b c| )\n",
             b"))\n",
             if size < 16_000_000 { size } else { 16_000_000 },
         ),
@@ -80,7 +83,8 @@ fn text_of(alloc: Global, kind: usize, size: usize) -> Result<Vec<u8>, AllocErro
         2 => repeated(
             alloc,
             b"",
-            b"(step @p12345 :rule chain_m_resolution :premises (@p123 @p456 @p789) :args ((or (= skolem_x12 (+ y 1)) (not @t77)) (@list true false) (@list @t5 @t6)))\n",
+            b"(step @p12345 :rule chain_m_resolution :premises (@p123 @p456 @p789) \
+            :args ((or (= skolem_x12 (+ y 1)) (not @t77)) (@list true false) (@list @t5 @t6)))\n",
             b"",
             size,
         ),
@@ -94,7 +98,8 @@ fn text_of(alloc: Global, kind: usize, size: usize) -> Result<Vec<u8>, AllocErro
         _ => repeated(
             alloc,
             b"",
-            b"; a comment on the next command, of some length, as they stand in files that people write\n(set-info :source \"a string literal of the size of a line, more or less, as it may well stand in one\")\n",
+            b"; a comment on the next command, of some length, as they stand in files that people write\n\
+            (set-info :source \"a string literal of the size of a line, more or less, as it may well stand in one\")\n",
             b"",
             size,
         ),

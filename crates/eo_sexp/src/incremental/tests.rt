@@ -146,6 +146,65 @@ fn proofs(rt: HostRuntime) -> Result<(), Fail> {
     Ok(())
 }
 
+// A command of each kind, with comments, strings and symbols behind words and before them.
+#[test]
+fn commands(rt: HostRuntime) -> Result<(), Fail> {
+    let rows: [(&[u8], &str); 12] = [
+        (
+            b"(declare-const |p q| Bool) ;c\n",
+            "1:0 (sdeclare-const sp q sBool )end 2:30 ",
+        ),
+        (
+            b"(declare-type T(Type));)\n",
+            "1:0 (sdeclare-type sT (sType ))end 2:25 ",
+        ),
+        (
+            b"(define f((x Int)(y |a;b|))\n\t(> x -5)) ; (\n",
+            "1:0 (sdefine sf ((sx sInt )(sy sa;b ))(s> sx n-5 ))end 3:43 ",
+        ),
+        (
+            b"(define-type\rS () Int)",
+            "1:0 (sdefine-type sS ()sInt )end 1:22 ",
+        ),
+        (
+            b"(program f ((x Int)):signature(Int)Int(((f x)\"a;)\"\"\")));\r",
+            "1:0 (sprogram sf ((sx sInt ))k:signature (sInt )sInt (((sf sx )ta;)\"\" )))end 1:57 ",
+        ),
+        (
+            b"(declare-rule r((a Bool)) :premises(a\"b\"c|d|)\n:conclusion a)",
+            "1:0 (sdeclare-rule sr ((sa sBool ))k:premises (sa tb sc sd )k:conclusion sa )end 2:60 ",
+        ),
+        (
+            b"(include \"../a b.eo\" ; )\n)",
+            "1:0 (sinclude t../a b.eo )end 2:26 ",
+        ),
+        (
+            b"(reference \"f;\n(\"g)",
+            "1:0 (sreference tf;\n( sg )end 2:19 ",
+        ),
+        (
+            b"(assume @p1(= x \"\"))(assume-push @p2|c|)",
+            "1:0 (sassume s@p1 (s= sx t ))1:20 (sassume-push s@p2 sc )end 1:40 ",
+        ),
+        (
+            b"(step @p3 false:rule r:premises (@p1 @p2);c\n :args(0 #b01\"s\"))",
+            "1:0 (sstep s@p3 sfalse:rule sr:premises (s@p1 s@p2 )k:args (n0 n#b01 ts ))end 2:62 ",
+        ),
+        (
+            b"(step-pop @p4 :rule;\"|\rr)()",
+            "1:0 (sstep-pop s@p4 k:rule sr )1:25 ()end 1:27 ",
+        ),
+        (
+            b"(set-info :source |a\n;b|)\n(echo\"done\")",
+            "1:0 (sset-info k:source sa\n;b )3:26 (secho tdone )end 3:38 ",
+        ),
+    ];
+    for (text, want) in rows {
+        check(&rt, rt.alloc(), false, text, want)?;
+    }
+    Ok(())
+}
+
 // Whether a string may have the byte inside of its quotes, undoubled.
 fn may_stand(x: u8) -> bool {
     matches!(x, 9 | 10 | 13 | 32 | 33 | 35..=126 | 128..=255)

@@ -4,9 +4,11 @@ ghost use Rattle.eo_term.specs.Tree.{Tree};
 ghost use Rattle.eo_term.specs.Terms.{tree_at};
 ghost use Rattle.eo_sig.specs.Signature as sig;
 ghost use Rattle.eo_sig.specs.declared.records.Declared.TheVariants as declared;
-ghost use Rattle.eo_sig.specs.Reading.{signature, read_parameter, read_constant, read_macro, read_program, read_rule, read_premises, IsBelow, ConstBelow, MacroBelow, ProgramBelow, RuleBelow, with_entry, with_macro, IsFree, IsFreeRule, Adds, AddsMacro};
+ghost use Rattle.eo_sig.specs.Reading.{signature, read_parameter, read_constant, read_macro, read_program, read_rule, read_premises};
+ghost use Rattle.eo_sig.specs.Reading.{IsBelow, ConstBelow, MacroBelow, ProgramBelow, RuleBelow};
+ghost use Rattle.eo_sig.specs.Reading.{with_entry, with_macro, IsFree, IsFreeRule, Adds, AddsMacro};
 ghost use Rattle.eo_sig.specs.Refused.{Tells};
-ghost use Rattle.eo_sig.specs.Usable.{IsUsable};
+ghost use Rattle.eo_sig.specs.Usable.{AreOrdered, StaysUsable};
 
 use super::Signature;
 use crate::patterns::{cases_are_bound, cases_may_hold, rule_is_bound, rule_is_plain};
@@ -29,7 +31,7 @@ impl Signature {
         ensures kept { OnOk result (self.new ≡ with_entry (declared.Const d) self.old) }
         ensures adds { IfOk result (λ n. (ts : List Tree) → Adds ts self.old (sig.IsConstant (read_constant ts d)) self.new) }
         ensures number { IfOk result (λ n. (ts : List Tree) → n ≡ length (sig.constants (signature ts self.old))) }
-        ensures usable { OnOk result (IsUsable (signature table.now.trees self.old) → IsUsable (signature table.now.trees self.new)) }
+        ensures usable { OnOk result (StaysUsable table.now.trees self.old self.new) }
         ensures below { OnOk result ((m : ℕ) → IsBelow m self.old → ConstBelow m d → IsBelow m self.new) }
         ensures err { OnErr result (self.new ≡ self.old) }
     {
@@ -75,7 +77,7 @@ impl Signature {
         ensures kept { OnOk result (self.new ≡ with_entry (declared.Program d) self.old) }
         ensures adds { IfOk result (λ n. (ts : List Tree) → Adds ts self.old (sig.IsProgram (read_program ts d)) self.new) }
         ensures number { IfOk result (λ n. (ts : List Tree) → n ≡ length (sig.programs (signature ts self.old))) }
-        ensures usable { OnOk result ((ts : List Tree) → IsUsable (signature ts self.old) → IsUsable (signature ts self.new)) }
+        ensures usable { OnOk result ((ts : List Tree) → StaysUsable ts self.old self.new) }
         ensures below { OnOk result ((m : ℕ) → IsBelow m self.old → ProgramBelow m d → IsBelow m self.new) }
         ensures err { OnErr result (self.new ≡ self.old) }
     {
@@ -107,7 +109,7 @@ impl Signature {
         ensures kept { OnOk result (self.new ≡ with_entry (declared.Rule d) self.old) }
         ensures adds { IfOk result (λ n. (ts : List Tree) → Adds ts self.old (sig.IsRule (read_rule ts d)) self.new) }
         ensures number { IfOk result (λ n. (ts : List Tree) → n ≡ length (sig.rules (signature ts self.old))) }
-        ensures usable { OnOk result ((ts : List Tree) → sig.are_ordered 0 (map (read_parameter ts) d.params) ≡ true → IsUsable (signature ts self.old) → IsUsable (signature ts self.new)) }
+        ensures usable { OnOk result ((ts : List Tree) → AreOrdered ts d.params → StaysUsable ts self.old self.new) }
         ensures below { OnOk result ((m : ℕ) → IsBelow m self.old → RuleBelow m d → IsBelow m self.new) }
         ensures err { OnErr result (self.new ≡ self.old) }
     {
@@ -142,7 +144,7 @@ impl Signature {
         ensures tells { Tells result (sig.literal_type_fault (signature table.now.trees self.old) class (tree_at table.now.trees ty)) }
         ensures kept { OnOk result (self.new ≡ with_entry (declared.Literal class ty) self.old) }
         ensures adds { OnOk result ((ts : List Tree) → Adds ts self.old (sig.IsLiteralType class (tree_at ts ty)) self.new) }
-        ensures usable { OnOk result ((ts : List Tree) → IsUsable (signature ts self.old) → IsUsable (signature ts self.new)) }
+        ensures usable { OnOk result ((ts : List Tree) → StaysUsable ts self.old self.new) }
         ensures below { OnOk result ((m : ℕ) → IsBelow m self.old → ty < m → IsBelow m self.new) }
         ensures err { OnErr result (self.new ≡ self.old) }
     {

@@ -3,7 +3,8 @@ ghost use Rattle.std.specs.Prelude.{◌≡◌, ℕ, ◌<◌, List, length, Some,
 ghost use Rattle.eo_term.specs.Tree.{Tree};
 ghost use Rattle.eo_term.specs.Terms.{tree_at};
 ghost use Rattle.eo_sig.specs.Signature as sig;
-ghost use Rattle.eo_sig.specs.Reading.{signature, macros, read_constant, read_macro, read_program, read_rule, constants_of, programs_of, rules_of, IsBelow, ConstBelow, MacroBelow, ProgramBelow, RuleBelow};
+ghost use Rattle.eo_sig.specs.Reading.{signature, macros, read_constant, read_macro, read_program, read_rule};
+ghost use Rattle.eo_sig.specs.Reading.{constants_of, programs_of, rules_of, IsBelow, ConstBelow, MacroBelow, ProgramBelow, RuleBelow};
 
 use super::Signature;
 use crate::{ConstDecl, LiteralClass, MacroDecl, ProgramDecl, RuleDecl};

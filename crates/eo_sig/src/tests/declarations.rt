@@ -1,5 +1,5 @@
 //! What is declared, by its name and its number.
-use super::world::{Answer, World};
+use super::world::{Answer, World, holds};
 use crate::{Entry, is_reserved};
 use eo_term::{BOOL, Id, TRUE};
 use std::test::Fail;
@@ -24,10 +24,12 @@ fn stand_for(w: &World, rows: &[(&[u8], Option<Entry>)]) -> bool {
 
 #[test]
 fn a_constant_is_found_by_its_name(rt: HostRuntime) -> Result<(), Fail> {
-    let mut w = World::new(rt.alloc())?;
-    assert!(rt; constants_are_declared(&mut w)?);
-    assert!(rt; constants_are_found(&w));
+    assert!(rt; holds(rt.alloc(), constants_are_named)?);
     Ok(())
+}
+
+fn constants_are_named(w: &mut World) -> Result<bool, Fail> {
+    Ok(constants_are_declared(w)? && constants_are_found(w))
 }
 
 fn constants_are_found(w: &World) -> bool {
@@ -36,7 +38,7 @@ fn constants_are_found(w: &World) -> bool {
         (b"q", Some(Entry::Constant(5))),
         (b"r", None),
     ];
-    stand_for(w, &rows)
+    stand_for(w, &rows) && w.constant_type(b"q") == Some(BOOL)
 }
 
 fn constants_are_declared(w: &mut World) -> Result<bool, Fail> {
@@ -56,8 +58,7 @@ fn constants_are_declared(w: &mut World) -> Result<bool, Fail> {
 
 #[test]
 fn an_implicit_parameter_occurs_in_an_argument(rt: HostRuntime) -> Result<(), Fail> {
-    let mut w = World::new(rt.alloc())?;
-    assert!(rt; implicit_parameters_occur(&mut w)?);
+    assert!(rt; holds(rt.alloc(), implicit_parameters_occur)?);
     Ok(())
 }
 
@@ -93,10 +94,12 @@ type Row<'a> = (&'a [u8], Id, Id, Answer);
 
 #[test]
 fn a_program_is_found_by_its_name(rt: HostRuntime) -> Result<(), Fail> {
-    let mut w = World::new(rt.alloc())?;
-    assert!(rt; programs_are_added(&mut w)?);
-    assert!(rt; programs_are_found(&w));
+    assert!(rt; holds(rt.alloc(), programs_are_named)?);
     Ok(())
+}
+
+fn programs_are_named(w: &mut World) -> Result<bool, Fail> {
+    Ok(programs_are_added(w)? && programs_are_found(w))
 }
 
 fn programs_are_found(w: &World) -> bool {
@@ -135,10 +138,12 @@ fn add_programs(w: &mut World, rows: &[Row<'_>]) -> Result<bool, Fail> {
 
 #[test]
 fn a_rule_is_found_by_its_name(rt: HostRuntime) -> Result<(), Fail> {
-    let mut w = World::new(rt.alloc())?;
-    assert!(rt; rules_are_added(&mut w)?);
-    assert!(rt; rules_are_found(&w));
+    assert!(rt; holds(rt.alloc(), rules_are_named)?);
     Ok(())
+}
+
+fn rules_are_named(w: &mut World) -> Result<bool, Fail> {
+    Ok(rules_are_added(w)? && rules_are_found(w))
 }
 
 fn rules_are_found(w: &World) -> bool {

@@ -71,7 +71,7 @@ impl World {
 
     /// Declares a constant of this type, without parameters.
     pub(super) fn declare(&mut self, name: &[u8], ty: Id) -> Result<Answer, Fail> {
-        let params = Params::new(self.alloc)?;
+        let params = Params::new(self.alloc);
         let d = constant(self.alloc, &self.table, name, params, ty)?;
         Ok(self.declared(d))
     }
@@ -162,6 +162,18 @@ impl World {
     }
 }
 
+/// Whether the check holds in a world of its own, where nothing is declared yet. A test hands its
+/// check over, so that it owns no world itself.
+pub(super) fn holds<F: FnOnce(&mut World) -> Result<bool, Fail>>(
+    alloc: Global,
+    check: F,
+) -> Result<bool, Fail>
+    requires { F.IsAlwaysCallable check }
+{
+    let mut w = World::new(alloc)?;
+    check(&mut w)
+}
+
 fn what_became(made: Result<usize, SigRefused>) -> Answer {
     match made {
         Ok(n) => Answer::Number(n),
@@ -186,7 +198,7 @@ fn live(table: &Table, id: Id) -> Result<Id, Fail>
 fn parameter(alloc: Global, table: &Table, ty: Id, implicit: bool) -> Result<Params, Fail>
     ensures { IfOk result (All (λ p. p.ty < length table.now.trees)) }
 {
-    let mut params = Params::new(alloc)?;
+    let mut params = Params::new(alloc);
     params.push(Param {
         name: Name::new(alloc, b"x")?,
         ty: live(table, ty)?,
@@ -201,7 +213,7 @@ fn one(alloc: Global, table: &Table, id: Id) -> Result<Ids, Fail>
     ensures all { IfOk result (All (λ i. i < length table.now.trees)) }
     ensures one { IfOk result (λ s. length s ≡ 1) }
 {
-    let mut ids = Ids::new(alloc)?;
+    let mut ids = Ids::new(alloc);
     ids.push(live(table, id)?)?;
     Ok(ids)
 }
@@ -230,7 +242,7 @@ fn constant(
 fn case(alloc: Global, table: &Table, pattern: Id, body: Id) -> Result<Cases, Fail>
     ensures { IfOk result (All (CaseBelow (length table.now.trees))) }
 {
-    let mut cases = Cases::new(alloc)?;
+    let mut cases = Cases::new(alloc);
     cases.push(Case {
         patterns: one(alloc, table, pattern)?,
         body: live(table, body)?,
@@ -269,9 +281,9 @@ fn rule(
         name: Name::new(alloc, name)?,
         params: parameter(alloc, table, BOOL, false)?,
         assumption: None,
-        premises: PremiseShape::Each(Ids::new(alloc)?),
+        premises: PremiseShape::Each(Ids::new(alloc)),
         args: one(alloc, table, arg)?,
-        requirements: IdPairs::new(alloc)?,
+        requirements: IdPairs::new(alloc),
         conclusion: live(table, conclusion)?,
         sorry: false,
     })

@@ -1,12 +1,11 @@
 //! Terms and what they are settled to.
-use super::world::World;
+use super::world::{World, holds};
 use eo_term::{BOOL, FALSE, Id, OpName, TRUE};
 use std::test::Fail;
 
 #[test]
 fn each_branch_is_settled(rt: HostRuntime) -> Result<(), Fail> {
-    let mut w = World::new(rt.alloc())?;
-    assert!(rt; branches_are_settled(&mut w)?);
+    assert!(rt; holds(rt.alloc(), branches_are_settled)?);
     Ok(())
 }
 

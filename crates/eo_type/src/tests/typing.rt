@@ -1,5 +1,5 @@
 //! Types of terms.
-use super::world::World;
+use super::world::{World, holds};
 use crate::TypeRefused;
 use eo_sig::LiteralClass;
 use eo_term::{BOOL, FALSE, Id, OpName, TRUE, TYPE};
@@ -70,8 +70,7 @@ fn bits_type(w: &mut World, width: i128) -> Result<Id, Fail> {
 
 #[test]
 fn a_literal_has_the_type_of_its_class(rt: HostRuntime) -> Result<(), Fail> {
-    let mut w = World::new(rt.alloc())?;
-    assert!(rt; literals_have_types(&mut w)?);
+    assert!(rt; holds(rt.alloc(), literals_have_types)?);
     Ok(())
 }
 
@@ -87,8 +86,7 @@ fn literals_have_types(w: &mut World) -> Result<bool, Fail> {
 
 #[test]
 fn a_width_is_computed(rt: HostRuntime) -> Result<(), Fail> {
-    let mut w = World::new(rt.alloc())?;
-    assert!(rt; widths_are_computed(&mut w)?);
+    assert!(rt; holds(rt.alloc(), widths_are_computed)?);
     Ok(())
 }
 
@@ -110,8 +108,7 @@ fn widths_are_computed(w: &mut World) -> Result<bool, Fail> {
 
 #[test]
 fn a_width_may_be_out_of_range(rt: HostRuntime) -> Result<(), Fail> {
-    let mut w = World::new(rt.alloc())?;
-    assert!(rt; a_width_is_refused(&mut w)?);
+    assert!(rt; holds(rt.alloc(), a_width_is_refused)?);
     Ok(())
 }
 
@@ -125,8 +122,7 @@ fn a_width_is_refused(w: &mut World) -> Result<bool, Fail> {
 
 #[test]
 fn an_implicit_parameter_has_one_value(rt: HostRuntime) -> Result<(), Fail> {
-    let mut w = World::new(rt.alloc())?;
-    assert!(rt; equality_has_types(&mut w)?);
+    assert!(rt; holds(rt.alloc(), equality_has_types)?);
     Ok(())
 }
 
@@ -154,8 +150,7 @@ fn equality_has_types(w: &mut World) -> Result<bool, Fail> {
 
 #[test]
 fn a_function_type_is_over_types(rt: HostRuntime) -> Result<(), Fail> {
-    let mut w = World::new(rt.alloc())?;
-    assert!(rt; functions_have_types(&mut w)?);
+    assert!(rt; holds(rt.alloc(), functions_have_types)?);
     Ok(())
 }
 
@@ -176,8 +171,7 @@ fn functions_have_types(w: &mut World) -> Result<bool, Fail> {
 
 #[test]
 fn a_shared_part_is_typed_once(rt: HostRuntime) -> Result<(), Fail> {
-    let mut w = World::new(rt.alloc())?;
-    assert!(rt; doublings_have_types(&mut w)?);
+    assert!(rt; holds(rt.alloc(), doublings_have_types)?);
     Ok(())
 }
 

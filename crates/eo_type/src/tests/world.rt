@@ -2,8 +2,8 @@
 ghost use Rattle.std.specs.Prelude.{◌≡◌, ℕ, ◌<◌, ◌≤◌, List, length, All, IfOk, OnOk};
 ghost use Rattle.eo_term.specs.Tree.{Tree};
 ghost use Rattle.eo_term.specs.Terms.{PartsBelow, TextsBelow, IsPlain, IsProper, arity};
-ghost use Rattle.eo_sig.specs.Reading.{signature, IsBelow, ConstBelow};
-ghost use Rattle.eo_type.specs.Known.{Fits};
+ghost use Rattle.eo_sig.specs.Reading.{IsBelow, ConstBelow};
+ghost use Rattle.eo_type.specs.Known.{Fit};
 
 use crate::{TypeRefused, Types, settle};
 use eo_base::Name;
@@ -172,6 +172,18 @@ impl World {
     }
 }
 
+/// Whether the check holds in a world of its own, where nothing is declared yet. A test hands its
+/// check over, so that it owns no world itself.
+pub(super) fn holds<F: FnOnce(&mut World) -> Result<bool, Fail>>(
+    alloc: Global,
+    check: F,
+) -> Result<bool, Fail>
+    requires { F.IsAlwaysCallable check }
+{
+    let mut w = World::new(alloc)?;
+    check(&mut w)
+}
+
 // A table with no more than the first terms.
 fn first_table(alloc: Global) -> Result<Table, Fail>
     ensures { IfOk result (λ t. 4 ≤ length t.trees) }
@@ -222,7 +234,7 @@ fn constant(alloc: Global, name: &[u8], ty: Id) -> Result<ConstDecl, Fail>
 {
     Ok(ConstDecl {
         name: Name::new(alloc, name)?,
-        params: Params::new(alloc)?,
+        params: Params::new(alloc),
         ty,
         attribute: Attribute::Plain,
         from_reference: false,
@@ -236,8 +248,7 @@ fn have_types(
     table: &mut Table,
     rows: &[(Id, Option<Id>)],
 ) -> Result<bool, Fail>
-    requires below { IsBelow (length table.old.trees) sig.now }
-    requires fits { Fits (signature table.old.trees sig.now) table.old.trees types.old }
+    requires { Fit sig.now table.old types.old }
     ensures more { length table.old.trees ≤ length table.new.trees }
 {
     for (id, ty) in rows {

@@ -3,7 +3,7 @@ use Rattle.std.specs.Prelude.{Ok}
 use Rattle.std.proofs.lemmas.List.Elements.{All-nil}
 use Rattle.eo_base.proofs.Answering.{fails}
 use Rattle.eo_term.specs.Growth.{tree_in, trees_in}
-use Rattle.eo_term.proofs.Growing.{grows_on_refl}
+use Rattle.eo_term.proofs.Growing.{grows_refl}
 use Rattle.eo_names.specs.Worlds.{World, world_of}
 use Rattle.eo_elab.specs.Worlds.{meaning_in, meanings_in}
 use Rattle.eo_elab.proofs.ConstantLemmas.{behind, behind-none, meanings-next, meanings-refused, meanings-end}
@@ -18,9 +18,9 @@ loop-s-init c =
     let left = c.into_iter-s-iterator.result in
     let all : left ≡ c.args.terms.now = cc in
     record {
-      left = sym (ap (λ ids. behind (trees_in t ids) (meanings_in w left)) c.in_ok-ids.ensures ∙ behind-none (meanings_in w left) ∙ ap (meanings_in w) all);
-      live = subst (All (λ i. i < length t.trees)) (sym c.in_ok-ids.ensures) (All-nil (λ i. i < length t.trees));
-      grows = grows_on_refl t;
+      left = sym (ap (λ ids. behind (trees_in t ids) (meanings_in w left)) c.new-ids.ensures ∙ behind-none (meanings_in w left) ∙ ap (meanings_in w) all);
+      live = subst (All (λ i. i < length t.trees)) (sym c.new-ids.ensures) (All-nil (λ i. i < length t.trees));
+      grows = grows_refl t;
     }
 
 pub term-requires : goal.term-requires
@@ -33,7 +33,7 @@ returns-in_err-id-clause-gives c =
     let done = trees_in c.loop-s.table c.loop-s.ids in
     let s = c.in-Some.s in
     let step = c.loop-s.invariant.left ∙ ap (λ ss. behind done (meanings_in w ss)) c.in-Some.ensures.steps in
-    fails _ _ _ _ _ _ _ c.from_residual-in_err-id.ensures.1 (λ f e. step ∙ meanings-refused w.names w.locals done s c.next.new.self f (ap (λ (u : World). meaning_in u s) (sym same) ∙ e)) c.in_err-id.ensures.gives
+    fails _ _ _ _ _ _ _ c.from_residual.ensures.1 (λ f e. step ∙ meanings-refused w.names w.locals done s c.next.new.self f (ap (λ (u : World). meaning_in u s) (sym same) ∙ e)) c.in_err-id.ensures.gives
 
 pub loop-s-preserved : goal.loop-s-preserved
 loop-s-preserved c =

@@ -1,5 +1,5 @@
 use Rattle.std.proofs.Common.{◌≡◌, ◌<◌, length, All}
-use Rattle.eo_term.specs.Growth.{trees_in, GrowsOn}
+use Rattle.eo_term.specs.Growth.{trees_in, Grows}
 use Rattle.eo_names.specs.Worlds.{world_of}
 use Rattle.eo_elab.specs.Worlds.{meanings_in}
 use Rattle.eo_elab.proofs.ConstantLemmas.{behind}
@@ -12,5 +12,5 @@ invariant-loop-s l =
     record {
       left : meanings_in w l.terms ≡ behind (trees_in l.table l.ids) (meanings_in w l.s-iterator);
       live : All (λ i. i < length l.table.trees) l.ids;
-      grows : GrowsOn l.fn.table l.table;
+      grows : Grows l.fn.table l.table;
     }

@@ -1,5 +1,5 @@
 use Rattle.std.proofs.Common.{◌≡◌, ◌<◌, length}
-use Rattle.eo_term.specs.Growth.{tree_in, GrowsOn}
+use Rattle.eo_term.specs.Growth.{tree_in, Grows}
 use Rattle.eo_elab.specs.Declarations.{sort_type}
 use Rattle.eo_elab.proofs.constants.sort_type.Given as goal
 
@@ -7,5 +7,5 @@ abbrev pub invariant-loop : goal.invariant-loop
 invariant-loop l = record {
   live : l.made < length l.table.trees;
   tree : tree_in l.table l.made ≡ sort_type l.counter;
-  grows : GrowsOn l.fn.table l.table;
+  grows : Grows l.fn.table l.table;
 }

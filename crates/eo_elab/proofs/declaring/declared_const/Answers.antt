@@ -9,7 +9,6 @@ use Rattle.eo_elab.specs.Gives.{GivesConstant}
 use Rattle.eo_elab.specs.Worlds.{context_in}
 use Rattle.eo_elab.proofs.CheckedLemmas.{require-no}
 use Rattle.eo_elab.proofs.DeclaringLemmas.{const-link, const-fault}
-use Rattle.eo_sig.proofs.Growing.{grows_under}
 use Rattle.eo_elab.proofs.declaring.declared_const.Goals as goal
 
 pub returns-then-not-may_declare-clause-gives : goal.returns-then-not-may_declare-clause-gives
@@ -28,9 +27,3 @@ returns-clause-gives c =
     let us = c.typed.new.table in
     let link = const-link (context_in t c.args.sig.now) c.args.name.now c.args.ty.now (shapes.read_attribute c.args.attribute.now) (tree_in us c.in_ok-ty.ty, read_attribute us.trees c.in_ok-ty.attribute) (sym (c.may_declare.ensures t.trees) ∙ c.if-not-may_declare.false) c.in_ok-ty.ensures.gives.is in
     subst (GivesConstant us c.plain_constant.result) (sym link) (c.plain_constant.ensures.gives t.trees c.args.sig.now)
-
-pub returns-in_err-ty-clause-grows : goal.returns-in_err-ty-clause-grows
-returns-in_err-ty-clause-grows c = grows_under c.args.sig.now c.args.table.now c.typed.new.table c.requires c.in_err-ty.ensures.grows
-
-pub returns-clause-grows : goal.returns-clause-grows
-returns-clause-grows c = grows_under c.args.sig.now c.args.table.now c.typed.new.table c.requires c.in_ok-ty.ensures.grows

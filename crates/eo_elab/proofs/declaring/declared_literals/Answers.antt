@@ -10,7 +10,6 @@ use Rattle.eo_elab.specs.Worlds.{context_in}
 use Rattle.eo_elab.proofs.CheckedLemmas.{require-yes, require-no}
 use Rattle.eo_elab.proofs.Giving.{same_context}
 use Rattle.eo_names.proofs.Outcomes.{ok_always}
-use Rattle.eo_sig.proofs.Growing.{grows_under}
 use Rattle.eo_elab.proofs.declaring.declared_literals.Goals as goal
 
 mapped-none : {A B : Type 0} (f : A → B) (o : Option A) (b : Bool) → b ≡ is_some o → b ≡ true → is_none (option_map f o) ≡ false
@@ -39,15 +38,6 @@ returns-clause-gives c =
     let link = require-yes _ Redeclared _ (ap is_none (sym (c.literal_type.ensures.value t.trees)) ∙ mapped-some (tree_at t.trees) c.literal_type.result c.is_some.result c.is_some.ensures c.if-is_some.false)
     ∙ (λ i. meaning (sym same i) (sym one i) c.args.ty.now) in
     subst (GivesTree c.term.new.table c.term.result) (sym link) c.term.ensures.gives
-
-pub returns-in_err-literal-clause-grows : goal.returns-in_err-literal-clause-grows
-returns-in_err-literal-clause-grows c = grows_under c.args.sig.now c.args.table.now c.parameter.new.table c.requires c.in_err-literal.ensures.grows
-
-pub returns-in_err-names-clause-grows : goal.returns-in_err-names-clause-grows
-returns-in_err-names-clause-grows c = grows_under c.args.sig.now c.args.table.now c.parameter.new.table c.requires c.in_ok-literal.ensures.grows
-
-pub returns-in_err-add-clause-grows : goal.returns-in_err-add-clause-grows
-returns-in_err-add-clause-grows c = grows_under c.args.sig.now c.args.table.now c.parameter.new.table c.requires c.in_ok-literal.ensures.grows
 
 pub returns-clause-may : goal.returns-clause-may
 returns-clause-may c =

@@ -1,4 +1,4 @@
-use Rattle.std.proofs.Common.{◌<◌, ◌≤◌, ◌||◌, length, false, arith, ap, sym, ◌∙◌, rules}
+use Rattle.std.proofs.Common.{◌<◌, ◌≤◌, ◌||◌, length, false, arith, ap, sym, ◌∙◌}
 use Rattle.std.specs.Prelude.{Ok}
 use Rattle.eo_base.specs.declared.FaultName.TheVariants.{Redeclared}
 use Rattle.eo_base.specs.Checks.{Checked}
@@ -16,7 +16,6 @@ use Rattle.eo_elab.proofs.BoundLemmas.{parameters-grown, parameters-more}
 use Rattle.eo_elab.proofs.CheckedLemmas.{then-ok, then-err, require-no}
 use Rattle.eo_elab.proofs.DeclaringLemmas.{parameterized-many, parameterized-unbound, parameterized-over}
 use Rattle.eo_elab.proofs.Giving.{same_context}
-use Rattle.eo_sig.proofs.Growing.{grows_under}
 use Rattle.eo_elab.proofs.declaring.declared_parameterized.Goals as goal
 
 pub returns-then-not-is_free-clause-gives : goal.returns-then-not-is_free-clause-gives
@@ -71,20 +70,8 @@ returns-clause-gives c =
           ∙ (λ i. Ok (record { name = sym c.in_ok-new.ensures i; parameters = sym params i; type = type; attribute = a; from_reference = false }));
     }
 
-pub returns-in_err-bound-clause-grows : goal.returns-in_err-bound-clause-grows
-returns-in_err-bound-clause-grows c = grows_under c.args.sig.now c.args.table.now c.bind.new.table c.requires c.in_err-bound.ensures.grows
-
-pub returns-in_err-ty-clause-grows : goal.returns-in_err-ty-clause-grows
-returns-in_err-ty-clause-grows c = grows_under c.args.sig.now c.args.table.now c.typed_over.new.table c.requires (search rules)
-
-pub returns-in_err-new-clause-grows : goal.returns-in_err-new-clause-grows
-returns-in_err-new-clause-grows c = grows_under c.args.sig.now c.args.table.now c.typed_over.new.table c.requires (search rules)
-
 pub returns-clause-named : goal.returns-clause-named
 returns-clause-named c =
     let t = c.args.table.now in
     let x = context_in t c.args.sig.now in
     ap (λ b. b || is_reference_name x c.in_ok-new.field-0) (ap (is_free_name x) c.in_ok-new.ensures ∙ sym (c.is_free.ensures t.trees) ∙ c.if-not-is_free.false)
-
-pub returns-clause-grows : goal.returns-clause-grows
-returns-clause-grows c = grows_under c.args.sig.now c.args.table.now c.typed_over.new.table c.requires (search rules)

@@ -5,7 +5,6 @@ use Rattle.eo_elab.specs.Declarations.{declared_sort, plain_constant}
 use Rattle.eo_elab.specs.Gives.{GivesConstant}
 use Rattle.eo_elab.specs.Worlds.{context_in}
 use Rattle.eo_elab.proofs.CheckedLemmas.{require-yes, require-no}
-use Rattle.eo_sig.proofs.Growing.{grows_under}
 use Rattle.eo_elab.proofs.declaring.declared_sort.Goals as goal
 
 pub returns-then-not-may_declare-clause-gives : goal.returns-then-not-may_declare-clause-gives
@@ -19,9 +18,3 @@ returns-clause-gives c =
     let k = c.args.sig.now in
     let link = require-yes _ Redeclared _ (sym (c.may_declare.ensures t.trees) ∙ c.if-not-may_declare.false) ∙ ap (λ u. plain_constant (context_in t k) c.args.name.now u Plain) (sym c.in_ok-ty.ensures.makes.tree) in
     subst (GivesConstant c.sort_type.new.table c.plain_constant.result) (sym link) (c.plain_constant.ensures.gives t.trees k)
-
-pub returns-in_err-ty-clause-grows : goal.returns-in_err-ty-clause-grows
-returns-in_err-ty-clause-grows c = grows_under c.args.sig.now c.args.table.now c.sort_type.new.table c.requires c.in_err-ty.ensures.grows
-
-pub returns-clause-grows : goal.returns-clause-grows
-returns-clause-grows c = grows_under c.args.sig.now c.args.table.now c.sort_type.new.table c.requires c.in_ok-ty.ensures.grows

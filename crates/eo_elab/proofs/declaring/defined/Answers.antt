@@ -12,7 +12,6 @@ use Rattle.eo_elab.proofs.BoundLemmas.{parameters-grown, parameters-more}
 use Rattle.eo_elab.proofs.CheckedLemmas.{then-ok, then-err, require-no}
 use Rattle.eo_elab.proofs.DeclaringLemmas.{body_read, defined-many, defined-parts}
 use Rattle.eo_elab.proofs.Giving.{same_context}
-use Rattle.eo_sig.proofs.Growing.{grows_under}
 use Rattle.eo_elab.proofs.declaring.defined.Goals as goal
 
 pub returns-then-not-may_declare-clause-gives : goal.returns-then-not-may_declare-clause-gives
@@ -67,6 +66,3 @@ returns-clause-gives c =
       is = parts ∙ then-ok (λ u. Ok (macro x c.args.name.now b.parameters u)) (meaning x b.locals body) tree (ap (λ y. meaning y b.locals body) (sym same) ∙ c.in_ok-tree.ensures.gives.is)
           ∙ (λ i. Ok (record { name = sym c.in_ok-new.ensures i; parameters = sym params i; tree = tree; from_reference = false }));
     }
-
-pub returns-in_err-bound-clause-grows : goal.returns-in_err-bound-clause-grows
-returns-in_err-bound-clause-grows c = grows_under c.args.sig.now c.args.table.now c.bind.new.table c.requires c.in_err-bound.ensures.grows

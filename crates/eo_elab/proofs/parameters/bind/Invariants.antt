@@ -1,5 +1,5 @@
 use Rattle.std.proofs.Common.{◌≡◌, ◌+◌, length}
-use Rattle.eo_term.specs.Growth.{GrowsOn}
+use Rattle.eo_term.specs.Growth.{Grows}
 use Rattle.eo_elab.specs.Declarations.{bind, unbound}
 use Rattle.eo_elab.specs.Declaring.{read_bound, BoundBelow}
 use Rattle.eo_elab.specs.Worlds.{context_in}
@@ -13,5 +13,5 @@ invariant-loop-shape l =
       left : bind c unbound l.shapes ≡ bind c (read_bound l.table.trees l.bound) l.shape-iterator;
       live : BoundBelow (length l.table.trees) l.sig l.bound;
       count : length l.bound.params + length l.shape-iterator ≡ length l.shapes;
-      grows : GrowsOn l.fn.table l.table;
+      grows : Grows l.fn.table l.table;
     }

@@ -1,6 +1,6 @@
 use Rattle.std.proofs.Common.{sym, ◌∙◌, ap, Some, None, []}
 use Rattle.eo_shape.specs.Words.{symbol_of}
-use Rattle.eo_elab.specs.Meaning.{application}
+use Rattle.eo_elab.specs.Forms.{application}
 use Rattle.eo_names.specs.Worlds.{world}
 use Rattle.eo_elab.specs.Worlds.{sexps, application_in, word_in}
 use Rattle.eo_elab.proofs.Giving.{formed_on}

@@ -8,10 +8,10 @@ use Rattle.eo_sexp.specs.Sexp.{Next, sexp_span}
 use Rattle.eo_sexp.proofs.Sizes.{size, size_of_all, size_inside}
 use Rattle.eo_term.specs.Terms.{tree_at}
 use Rattle.eo_term.specs.Growth.{tree_in, trees_in}
-use Rattle.eo_term.proofs.Growing.{grows_on_refl}
+use Rattle.eo_term.proofs.Growing.{grows_refl}
 use Rattle.eo_names.specs.declared.scope.Scope.{the_lemmas}
 use Rattle.eo_names.specs.Readers.{go_on, with_labels}
-use Rattle.eo_elab.specs.Meaning.{tree_application}
+use Rattle.eo_elab.specs.Forms.{tree_application}
 use Rattle.eo_names.specs.Binders.{variable, pair_local}
 use Rattle.eo_names.specs.Gives.{GivesTerm}
 use Rattle.eo_elab.specs.Gives.{GivesTerms}
@@ -270,7 +270,7 @@ mean_bound-mean_all-requires t c =
     let vs = c.bind.new.table.trees in
     let bs = c.bind.new.names in
     let still = still_ready sig c.args.scope.now c.args.table.now c.bind.new.table c.requires.ready (search rules) in
-    let pushed : c.push.new.self ≡ c.in_ok-list.list ∷ [] = c.in_ok-push.ensures.pushed ∙ ap (λ is. is ++ c.in_ok-list.list ∷ []) c.in_ok-ids.ensures in
+    let pushed : c.push.new.self ≡ c.in_ok-list.list ∷ [] = c.in_ok-push.ensures.pushed ∙ ap (λ is. is ++ c.in_ok-list.list ∷ []) c.new-ids.ensures in
     let ready : IsReady (length vs) sig (map binding_local bs ++ ls) = record { below = still.below; names = inside_below (length vs) ls bs c.in_ok-list.ensures.below still.names } in
     let small = ap size_of_all (one_given c.args.args.now c.in-Some.pairs c.in-Some.others c.in-Some.ensures) in (
       omega (arith, small),
@@ -293,7 +293,7 @@ mean_bound-returns-clause-gives t c =
     let then = same_world sig scope c.args.table.now last c.requires.ready (search rules) in
     let bs = c.bind.new.names in
     let others = c.in-Some.others in
-    let pushed : c.push.new.self ≡ c.in_ok-list.list ∷ [] = c.in_ok-push.ensures.pushed ∙ ap (λ is. is ++ c.in_ok-list.list ∷ []) c.in_ok-ids.ensures in
+    let pushed : c.push.new.self ≡ c.in_ok-list.list ∷ [] = c.in_ok-push.ensures.pushed ∙ ap (λ is. is ++ c.in_ok-list.list ∷ []) c.new-ids.ensures in
     let list : bound_list_in w c.args.collector ps ≡ Ok (first, []) = ap (λ (u : World). bound_list_in u c.args.collector ps) (sym same) ∙ c.in_ok-list.ensures.gives.is in
     let step = ap (λ xs. binder_in w xs c.args.collector) (one_given c.args.args.now c.in-Some.pairs others c.in-Some.ensures) ∙ binder_next w.names w.locals c.in-Some.pairs (sexps others) c.args.collector ps first c.in_ok-names.ensures.gives.is list in
     let within : World = record { names = w.names; locals = map pair_local (map variable ps) ++ w.locals } in
@@ -359,7 +359,7 @@ mean_pairs-loop-pair-init t c =
           ∙ ap (λ ss. more_pairs_in w (sexps ss) (read_pairs ts c.new-names.result)) (sym all);
       live = subst (BindingsBelow (length ts)) (sym c.new-names.ensures) (All-nil (λ (b : Binding). b.1 < length ts));
       smaller = subst (λ ss. size_of_all ss < size c.args.pairs.now) (sym all) smaller;
-      grows = grows_on_refl c.args.table.now;
+      grows = grows_refl c.args.table.now;
     }
 
 pub mean_pairs-mean_pair-requires : goal.mean_pairs-mean_pair-requires

@@ -1,6 +1,6 @@
 use Rattle.std.proofs.Common.{◌≡◌, ◌<◌, ◌≤◌, ◌+◌, ◌*◌, length, All}
 use Rattle.eo_sexp.proofs.Sizes.{size, size_of_all}
-use Rattle.eo_term.specs.Growth.{trees_in, GrowsOn}
+use Rattle.eo_term.specs.Growth.{trees_in, Grows}
 use Rattle.eo_names.specs.Names.{read_pairs, BindingsBelow}
 use Rattle.eo_names.specs.Worlds.{world}
 use Rattle.eo_elab.specs.Worlds.{sexps, all_in, pairs_in, more_pairs_in}
@@ -47,7 +47,7 @@ invariant-mean_all-loop-s l =
       live : All (λ i. i < length l.table.trees) l.ids;
       count : length l.ids + length l.s-iterator ≡ length l.fn.before + length l.terms;
       smaller : size_of_all l.s-iterator ≤ size_of_all l.terms;
-      grows : GrowsOn l.fn.table l.table;
+      grows : Grows l.fn.table l.table;
     }
 
 -- the pairs so far, and those that are left
@@ -58,5 +58,5 @@ invariant-mean_pairs-loop-pair l =
       left : pairs_in w l.pairs ≡ more_pairs_in w (sexps l.pair-iterator) (read_pairs l.table.trees l.names);
       live : BindingsBelow (length l.table.trees) l.names;
       smaller : size_of_all l.pair-iterator < size l.pairs;
-      grows : GrowsOn l.fn.table l.table;
+      grows : Grows l.fn.table l.table;
     }

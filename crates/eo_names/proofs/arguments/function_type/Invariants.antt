@@ -1,6 +1,6 @@
 use Rattle.std.proofs.Common.{◌≡◌, ◌<◌, length, map, drop}
 use Rattle.eo_term.specs.Terms.{tree_at}
-use Rattle.eo_term.specs.Growth.{GrowsOn}
+use Rattle.eo_term.specs.Growth.{Grows}
 use Rattle.eo_names.specs.Folding.{arrow}
 use Rattle.eo_names.proofs.arguments.function_type.Given as goal
 
@@ -8,7 +8,7 @@ abbrev pub invariant-loop-left : goal.invariant-loop-left
 invariant-loop-left l = record {
   within : l.left < length l.types;
   live : l.made < length l.table.trees;
-  grows : GrowsOn l.fn.table l.table;
+  grows : Grows l.fn.table l.table;
   tree : tree_at l.table.trees l.made ≡ arrow (drop l.left (map (tree_at l.fn.table.trees) l.types));
 }
 

@@ -1,6 +1,6 @@
 use Rattle.std.proofs.Common.{◌≡◌, ◌<◌, length, map, drop}
 use Rattle.eo_term.specs.Terms.{tree_at}
-use Rattle.eo_term.specs.Growth.{GrowsOn}
+use Rattle.eo_term.specs.Growth.{Grows}
 use Rattle.eo_names.specs.Folding.{right_nil}
 use Rattle.eo_names.specs.Contexts.{is_list}
 use Rattle.eo_names.specs.Names.{read_locals}
@@ -11,7 +11,7 @@ abbrev pub invariant-loop-left : goal.invariant-loop-left
 invariant-loop-left l = record {
   within : l.left < length l.args;
   live : l.made < length l.table.trees;
-  grows : GrowsOn l.fn.table l.table;
+  grows : Grows l.fn.table l.table;
   tree : tree_at l.table.trees l.made ≡ right_nil (is_list (read_locals l.fn.table.trees (bound_in l.scope))) (tree_at l.fn.table.trees l.fn.f) (tree_at l.fn.table.trees l.fn.nil) (drop l.left (map (tree_at l.fn.table.trees) l.args));
 }
 

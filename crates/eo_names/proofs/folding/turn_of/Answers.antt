@@ -1,4 +1,5 @@
 use Rattle.std.proofs.Common.{◌≡◌, length, ap, sym, ◌∙◌, arith}
+use Rattle.std.proofs.lemmas.List.{length-map}
 use Rattle.eo_term.specs.Growth.{trees_in}
 use Rattle.eo_term.specs.Terms.{tree_at}
 use Rattle.eo_sig.specs.Reading.{read_attribute}
@@ -7,7 +8,6 @@ use Rattle.eo_names.specs.Folding.{least, attribute_at, by_attribute}
 use Rattle.eo_names.specs.Grouped.{grouped, joined_items}
 use Rattle.eo_names.specs.Turns.{is_tall_turn}
 use Rattle.eo_names.specs.Worlds.{world, turns_in}
-use Rattle.eo_names.proofs.FoldLemmas.{length_map}
 use Rattle.eo_names.proofs.FoldSteps.{too_few, not_too_few, turn_tall}
 use Rattle.eo_names.proofs.Giving.{tall_told, turn_fault, same_world, still_ready}
 use Rattle.eo_names.proofs.JoinLemmas.{map_grown}
@@ -18,16 +18,16 @@ returns-then-args-least_count-clause-gives c = λ turns.
     let old = c.args.table.now in
     let w = world old c.args.sig.now c.args.scope.now in
     let asked : c.least_count.result ≡ least (attribute_at w.names.signature c.args.k) = c.least_count.ensures.value old.trees ∙ ap least (c.attribute_of-attribute.ensures.value old.trees) in
-    too_few w.names.signature (is_list w.locals) c.args.k (trees_in old c.args.args.now) turns (omega (arith, length_map (tree_at old.trees) c.args.args.now, asked, c.if-args-least_count.true))
+    too_few w.names.signature (is_list w.locals) c.args.k (trees_in old c.args.args.now) turns (omega (arith, length-map c.args.args.now (tree_at old.trees), asked, c.if-args-least_count.true))
 
 pub turn_by-requires-clause-below : goal.turn_by-requires-clause-below
 turn_by-requires-clause-below c =
-    c.attribute_of-attribute.ensures.below _ (still_ready c.args.sig.now c.args.scope.now c.args.table.now c.constant.new.table c.requires.ready c.constant.ensures.grows).below
+    c.attribute_of-attribute.ensures.below _ (still_ready c.args.sig.now c.args.scope.now c.args.table.now c.constant.new.self c.requires.ready c.constant.ensures.grows).below
 
 pub returns-in_err-turn_by-clause-gives : goal.returns-in_err-turn_by-clause-gives
 returns-in_err-turn_by-clause-gives c =
     let old = c.args.table.now in
-    let now = c.constant.new.table in
+    let now = c.constant.new.self in
     let k = c.args.k in
     let w = world old c.args.sig.now c.args.scope.now in
     let us = trees_in old c.args.args.now in
@@ -38,14 +38,14 @@ returns-in_err-turn_by-clause-gives c =
     let own = sym c.in_ok-f.ensures.makes.tree in
     turn_fault _ _ _ _ _ _ c.from_residual-in_err-turn_by.ensures.1
     (λ turns. tall_told c.in_err-turn_by.field-0.0 _ _
-    (λ h. turn_tall w.names.signature (is_list w.locals) k us turns (omega (arith, length_map (tree_at old.trees) c.args.args.now, asked, c.if-args-least_count.false))
+    (λ h. turn_tall w.names.signature (is_list w.locals) k us turns (omega (arith, length-map c.args.args.now (tree_at old.trees), asked, c.if-args-least_count.false))
     ((λ i. is_tall_turn (grouped (is_list (same i).locals) (own i) (attribute i) (args i)) (joined_items (own i) (attribute i) (args i))) ∙ h))
     c.in_err-turn_by.ensures.gives)
 
 pub returns-clause-gives : goal.returns-clause-gives
 returns-clause-gives c =
     let old = c.args.table.now in
-    let now = c.constant.new.table in
+    let now = c.constant.new.self in
     let k = c.args.k in
     let w = world old c.args.sig.now c.args.scope.now in
     let us = trees_in old c.args.args.now in
@@ -57,6 +57,6 @@ returns-clause-gives c =
     record {
       live = c.in_ok-turn_by.ensures.gives.live;
       is = λ turns.
-          not_too_few w.names.signature (is_list w.locals) k us turns (omega (arith, length_map (tree_at old.trees) c.args.args.now, asked, c.if-args-least_count.false))
+          not_too_few w.names.signature (is_list w.locals) k us turns (omega (arith, length-map c.args.args.now (tree_at old.trees), asked, c.if-args-least_count.false))
           ∙ (λ i. by_attribute (turns_in w turns) (is_list (same i).locals) (own i) (attribute i) (args i)) ∙ c.in_ok-turn_by.ensures.gives.is (turns_in w turns);
     }

@@ -19,7 +19,7 @@ returns-in_err-add_pairs-clause-gives c =
     let f : Tree = tree_at ts c.args.f in
     let now = c.loop-i.table.trees in
     let live : a < length ts = all_at (λ j. j < length ts) args i a c.requires.args (omega arith) c.index-args-i.is in
-    tall_fault _ _ _ _ c.from_residual-in_err-add_pairs.ensures.1
+    tall_fault _ _ _ _ c.from_residual.ensures.1
     (taller c.in_err-add_pairs.field-0.0 _ _ (λ h. pairs_tall f ts args i a (map (tree_at now) c.loop-i.made) (omega arith) c.index-args-i.is v.trees
     (ap (list_any is_tall) (sym (pairs_grown (length ts) ts now v.grows.now.tree c.args.f a args (i + 1) c.requires.f live c.requires.args)) ∙ h)) c.in_err-add_pairs.ensures.adds)
 

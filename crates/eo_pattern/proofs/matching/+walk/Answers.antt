@@ -29,17 +29,20 @@ pub match_args-match_one-requires : goal.match_args-match_one-requires
 match_args-match_one-requires t c =
     let ps : Trees = arguments_of (tree_at c.args.table.now.trees c.args.pattern) in
     let room : (i : ℕ) → occurs i (tree_at c.args.table.now.trees c.arg.result) ≡ true → i < length c.loop-i.subst.values = λ i o.
-    let l : i < length c.args.subst.now.values = c.requires.room i (argument_occurs i ps c.loop-i.i (omega (arith, c.requires.count)) (ap (occurs i) (sym c.arg.ensures.tree) ∙ o)) in
+    let l : i < length c.args.subst.now.values = c.requires.pairs.room i (argument_occurs i ps c.loop-i.i (omega (arith, c.requires.pairs.count)) (ap (occurs i) (sym c.arg.ensures.tree) ∙ o)) in
     omega (arith, l, c.loop-i.invariant.kept.room) in
-    (omega (arith, c.arg.ensures.older), (omega (arith, c.arg.ensures.older, c.requires.pattern), (omega (arith, c.arg-in-loop-i.ensures.older, c.requires.term), (room, (c.loop-i.invariant.kept.below, c.loop-i.invariant.matched)))))
+    let pattern : c.arg.result < length c.args.table.now.trees = omega (arith, c.arg.ensures.older, c.requires.pairs.pattern) in
+    let term : c.arg-in-loop-i.result < length c.args.table.now.trees = omega (arith, c.arg-in-loop-i.ensures.older, c.requires.pairs.term) in
+    let older : c.arg.result < c.args.pattern = c.arg.ensures.older in
+    (omega (arith, older), (record { pattern = pattern; term = term; room = room }, (c.loop-i.invariant.kept.below, c.loop-i.invariant.matched)))
 
 pub match_args-returns-then-not-match_one-clause-no : goal.match_args-returns-then-not-match_one-clause-no
 match_args-returns-then-not-match_one-clause-no t c = λ _ ρ m.
     let ts = c.args.table.now.trees in
     let ps : Trees = arguments_of (tree_at ts c.args.pattern) in
     let us : Trees = arguments_of (tree_at ts c.args.term) in
-    let p : to_list (from c.loop-i.i ps) ≡ tree_at ts c.arg.result ∷ to_list (from (c.loop-i.i + 1) ps) = ap to_list (next ps c.loop-i.i (omega (arith, c.requires.count))) ∙ ap (λ z. z ∷ to_list (from (c.loop-i.i + 1) ps)) (sym c.arg.ensures.tree) in
-    let u : to_list (from c.loop-i.i us) ≡ tree_at ts c.arg-in-loop-i.result ∷ to_list (from (c.loop-i.i + 1) us) = ap to_list (next us c.loop-i.i (omega (arith, c.requires.same))) ∙ ap (λ z. z ∷ to_list (from (c.loop-i.i + 1) us)) (sym c.arg-in-loop-i.ensures.tree) in
+    let p : to_list (from c.loop-i.i ps) ≡ tree_at ts c.arg.result ∷ to_list (from (c.loop-i.i + 1) ps) = ap to_list (next ps c.loop-i.i (omega (arith, c.requires.pairs.count))) ∙ ap (λ z. z ∷ to_list (from (c.loop-i.i + 1) ps)) (sym c.arg.ensures.tree) in
+    let u : to_list (from c.loop-i.i us) ≡ tree_at ts c.arg-in-loop-i.result ∷ to_list (from (c.loop-i.i + 1) us) = ap to_list (next us c.loop-i.i (omega (arith, c.requires.pairs.same))) ∙ ap (λ z. z ∷ to_list (from (c.loop-i.i + 1) us)) (sym c.arg-in-loop-i.ensures.tree) in
     leads_none _ _ _ _ _ _ _ _ (leads_at _ _ _ _ _ _ _ _ p u c.loop-i.invariant.leads) (c.match_one.ensures.no c.if-not-match_one.true) ρ m
 
 pub match_args-loop-i-preserved : goal.match_args-loop-i-preserved
@@ -47,8 +50,8 @@ match_args-loop-i-preserved t c =
     let ts = c.args.table.now.trees in
     let ps : Trees = arguments_of (tree_at ts c.args.pattern) in
     let us : Trees = arguments_of (tree_at ts c.args.term) in
-    let p : to_list (from c.loop-i.i ps) ≡ tree_at ts c.arg.result ∷ to_list (from (c.loop-i.i + 1) ps) = ap to_list (next ps c.loop-i.i (omega (arith, c.requires.count))) ∙ ap (λ z. z ∷ to_list (from (c.loop-i.i + 1) ps)) (sym c.arg.ensures.tree) in
-    let u : to_list (from c.loop-i.i us) ≡ tree_at ts c.arg-in-loop-i.result ∷ to_list (from (c.loop-i.i + 1) us) = ap to_list (next us c.loop-i.i (omega (arith, c.requires.same))) ∙ ap (λ z. z ∷ to_list (from (c.loop-i.i + 1) us)) (sym c.arg-in-loop-i.ensures.tree) in
+    let p : to_list (from c.loop-i.i ps) ≡ tree_at ts c.arg.result ∷ to_list (from (c.loop-i.i + 1) ps) = ap to_list (next ps c.loop-i.i (omega (arith, c.requires.pairs.count))) ∙ ap (λ z. z ∷ to_list (from (c.loop-i.i + 1) ps)) (sym c.arg.ensures.tree) in
+    let u : to_list (from c.loop-i.i us) ≡ tree_at ts c.arg-in-loop-i.result ∷ to_list (from (c.loop-i.i + 1) us) = ap to_list (next us c.loop-i.i (omega (arith, c.requires.pairs.same))) ∙ ap (λ z. z ∷ to_list (from (c.loop-i.i + 1) us)) (sym c.arg-in-loop-i.ensures.tree) in
     record {
       leads = leads_step _ _ _ _ _ _ _ _ (leads_at _ _ _ _ _ _ _ _ p u c.loop-i.invariant.leads) _ (c.match_one.ensures.yes c.if-not-match_one.false);
       matched = c.match_one.ensures.matched c.if-not-match_one.false;
@@ -60,11 +63,11 @@ match_args-returns-clause-yes t c = λ _.
     let ts = c.args.table.now.trees in
     let ps : Trees = arguments_of (tree_at ts c.args.pattern) in
     let us : Trees = arguments_of (tree_at ts c.args.term) in
-    leads_end _ _ _ _ (leads_at _ _ _ _ _ _ _ _ (ap to_list (past ps c.loop-i.i (omega (arith, c.requires.count)))) (ap to_list (past us c.loop-i.i (omega (arith, c.requires.same)))) c.loop-i.invariant.leads)
+    leads_end _ _ _ _ (leads_at _ _ _ _ _ _ _ _ (ap to_list (past ps c.loop-i.i (omega (arith, c.requires.pairs.count)))) (ap to_list (past us c.loop-i.i (omega (arith, c.requires.pairs.same)))) c.loop-i.invariant.leads)
 
 pub match_roots-match_par-requires-clause-room : goal.match_roots-match_par-requires-clause-room
 match_roots-match_par-requires-clause-room t c =
-    c.requires.room c.in-Par.i (ap (occurs c.in-Par.i) c.in-Par.ensures ∙ (Decides-eqb c.in-Par.i c.in-Par.i).1 refl)
+    c.requires.pair.room c.in-Par.i (ap (occurs c.in-Par.i) c.in-Par.ensures ∙ (Decides-eqb c.in-Par.i c.in-Par.i).1 refl)
 
 pub match_roots-returns-in-One-clause-yes : goal.match_roots-returns-in-One-clause-yes
 match_roots-returns-in-One-clause-yes t c = λ y. (c.in-One.ensures.leads (held c.args.table.now.trees c.args.subst.now)).fwd _ (c.match_one.ensures.yes y)

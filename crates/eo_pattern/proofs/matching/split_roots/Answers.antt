@@ -11,11 +11,11 @@ use Rattle.eo_pattern.proofs.matching.split_roots.Goals.{else-eq-via-then-eq+els
 
 pub returns-then-is_same : goal.returns-then-is_same
 returns-then-is_same c = λ σ.
-    closed_equal σ (tree_at c.args.table.now.trees c.args.pattern) (tree_at c.args.table.now.trees c.args.term) (sym c.is_closed.ensures.closed ∙ c.if-is_closed.true) (c.is_same.ensures.0 c.if-is_same.true)
+    closed_equal σ (tree_at c.args.table.now.trees c.args.pattern) (tree_at c.args.table.now.trees c.args.term) (sym c.is_closed.ensures.closed ∙ c.if-is_closed.true) (c.is_same.ensures.tells.0 c.if-is_same.true)
 
 pub returns-else-is_same : goal.returns-else-is_same
 returns-else-is_same c = λ σ τ m.
-    closed_differ σ τ (tree_at c.args.table.now.trees c.args.pattern) (tree_at c.args.table.now.trees c.args.term) (sym c.is_closed.ensures.closed ∙ c.if-is_closed.true) (λ e. true≢false (sym (c.is_same.ensures.1 e) ∙ c.if-is_same.false)) m
+    closed_differ σ τ (tree_at c.args.table.now.trees c.args.pattern) (tree_at c.args.table.now.trees c.args.term) (sym c.is_closed.ensures.closed ∙ c.if-is_closed.true) (λ e. true≢false (sym (c.is_same.ensures.tells.1 e) ∙ c.if-is_same.false)) m
 
 pub returns-then-count-n : goal.returns-then-count-n
 returns-then-count-n c =

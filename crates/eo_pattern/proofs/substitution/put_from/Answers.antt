@@ -10,4 +10,4 @@ returns-then-is_apart-clause-tree c =
 
 pub returns-then-is_apart-clause-low : goal.returns-then-is_apart-clause-low
 returns-then-is_apart-clause-low c =
-    ap is_tall (put_missed c.args.table.now.trees c.args.subst.now c.assigned-assigned.result c.parameters.result (tree_at c.args.table.now.trees c.args.id) c.assigned-assigned.ensures c.parameters.ensures (c.is_apart.ensures c.if-is_apart.true)) ∙ c.len-low.ensures.low c.args.id c.requires.live
+    ap is_tall (put_missed c.args.table.now.trees c.args.subst.now c.assigned-assigned.result c.parameters.result (tree_at c.args.table.now.trees c.args.id) c.assigned-assigned.ensures c.parameters.ensures (c.is_apart.ensures c.if-is_apart.true)) ∙ c.laws.ensures.low c.args.id c.requires.live

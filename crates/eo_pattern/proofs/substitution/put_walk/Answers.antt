@@ -3,7 +3,6 @@ use Rattle.std.proofs.lemmas.Result.{err_from_is_err_and}
 use Rattle.eo_term.specs.Memo.{told, TellsOnly}
 use Rattle.eo_term.specs.Walk.{Begins, Finishes}
 use Rattle.eo_term.proofs.Walks.{IsBegun, begun_top, begun_last, begun_part, begun_rest, left_rest}
-use Rattle.eo_term.proofs.Grown.{grows_trans}
 use Rattle.eo_pattern.specs.Slots.{held, IsPut}
 use Rattle.eo_pattern.specs.Steps.{IsNext, IsStep}
 use Rattle.eo_pattern.proofs.Steps.{puts_grown, holds_grown, step_tall, step_part, step_made, step_kept}
@@ -11,7 +10,7 @@ use Rattle.eo_pattern.proofs.substitution.put_walk.Goals as goal
 
 pub put_node-requires-clause-live : goal.put_node-requires-clause-live
 put_node-requires-clause-live c =
-    omega (arith, (begun_top _ _ _ _ c.loop-made.invariant.begun).live, c.top.ensures, c.loop-made.invariant.grows.more_trees)
+    omega (arith, (begun_top _ _ _ _ c.loop-made.invariant.begun).live, c.top.ensures, c.loop-made.invariant.grows.now.more_trees)
 
 pub put_node-requires-clause-memo : goal.put_node-requires-clause-memo
 put_node-requires-clause-memo c =
@@ -23,7 +22,7 @@ returns-in_err-made-clause-tall c =
     let e = err_from_is_err_and c.from_residual.result c.from_residual.ensures.1 in
     let i = c.loop-made.invariant in
     let at : IsBegun _ _ _ c.top.result = subst (IsBegun _ _ _) (sym c.top.ensures) (begun_top _ _ _ _ i.begun) in
-    rw (e.1, e.2) (λ h. step_tall c.args.subst.now c.args.table.now c.loop-made.table c.loop-made.table c.args.walk.now.top c.top.result c.requires.below i.grows at.leads at.live (c.in_err-made.ensures.tall h))
+    rw (e.1, e.2) (λ h. step_tall c.args.subst.now c.args.table.now c.loop-made.table c.loop-made.table c.args.walk.now.top c.top.result c.requires.below i.grows.now at.leads at.live (c.in_err-made.ensures.tall h))
 
 pub returns-then-not-branch-clause-tree : goal.returns-then-not-branch-clause-tree
 returns-then-not-branch-clause-tree c =
@@ -31,7 +30,7 @@ returns-then-not-branch-clause-tree c =
     let at : IsBegun _ _ _ c.top.result = subst (IsBegun _ _ _) (sym c.top.ensures) (begun_top _ _ _ _ i.begun) in
     let last : c.loop-made.walk.waiting ≡ [] = search rules in
     let made = subst (IsStep _ _ _ _ _) c.in-Made.is c.in_ok-made.ensures.step in
-    (step_made c.args.subst.now c.args.table.now c.loop-made.table c.put_node.new.table c.args.walk.now.top c.top.result c.requires.below i.grows at.leads at.live c.in-Made.made (c.top.ensures ∙ begun_last _ _ _ _ last i.begun) made).tree
+    (step_made c.args.subst.now c.args.table.now c.loop-made.table c.put_node.new.table c.args.walk.now.top c.top.result c.requires.below i.grows.now at.leads at.live c.in-Made.made (c.top.ensures ∙ begun_last _ _ _ _ last i.begun) made).tree
 
 pub returns-then-not-branch-clause-low : goal.returns-then-not-branch-clause-low
 returns-then-not-branch-clause-low c =
@@ -39,10 +38,7 @@ returns-then-not-branch-clause-low c =
     let at : IsBegun _ _ _ c.top.result = subst (IsBegun _ _ _) (sym c.top.ensures) (begun_top _ _ _ _ i.begun) in
     let last : c.loop-made.walk.waiting ≡ [] = search rules in
     let made = subst (IsStep _ _ _ _ _) c.in-Made.is c.in_ok-made.ensures.step in
-    (step_made c.args.subst.now c.args.table.now c.loop-made.table c.put_node.new.table c.args.walk.now.top c.top.result c.requires.below i.grows at.leads at.live c.in-Made.made (c.top.ensures ∙ begun_last _ _ _ _ last i.begun) made).low
-
-pub returns-then-not-branch-clause-grown : goal.returns-then-not-branch-clause-grown
-returns-then-not-branch-clause-grown c = λ t g. c.put_node.ensures.grown t (c.loop-made.invariant.grown t g)
+    (step_made c.args.subst.now c.args.table.now c.loop-made.table c.put_node.new.table c.args.walk.now.top c.top.result c.requires.below i.grows.now at.leads at.live c.in-Made.made (c.top.ensures ∙ begun_last _ _ _ _ last i.begun) made).low
 
 pub loop-made-smaller-else-not-branch : goal.loop-made-smaller-else-not-branch
 loop-made-smaller-else-not-branch c =
@@ -60,9 +56,8 @@ loop-made-preserved-else-not-branch c =
     let kept = subst (λ (k : ℕ). (j : ℕ) → told now j ≡ (if nat_eq k j then Some c.in-Made.made else told before j)) (sym c.top.ensures) next.memo in
     record {
       begun = begun_rest _ _ _ c.loop-made.walk c.finish.new.self c.in-Made.made i.begun next;
-      memo = step_kept c.args.subst.now c.args.table.now c.loop-made.table c.put_node.new.table c.args.walk.now.top c.top.result c.requires.below i.grows at.leads at.live c.in-Made.made before now c.put_node.ensures.grows kept i.memo made;
-      grows = grows_trans c.args.table.now c.loop-made.table c.put_node.new.table i.grows c.put_node.ensures.grows;
-      grown = λ t g. c.put_node.ensures.grown t (i.grown t g);
+      memo = step_kept c.args.subst.now c.args.table.now c.loop-made.table c.put_node.new.table c.args.walk.now.top c.top.result c.requires.below i.grows.now at.leads at.live c.in-Made.made before now c.put_node.ensures.grows.now kept i.memo made;
+      grows = search rules;
     }
 
 pub loop-made-preserved : goal.loop-made-preserved
@@ -72,10 +67,9 @@ loop-made-preserved c =
     let begins : Begins c.loop-made.walk c.in-Part.part c.begin.new.self = search rules in
     let next : IsNext (held c.loop-made.table.trees c.args.subst.now) c.loop-made.table.trees c.memo.result.now c.top.result c.in-Part.part = subst (IsStep _ _ _ _ _) c.in-Part.is c.in_ok-made.ensures.step in
     let new = c.put_node.new.table in
-    let below = (holds_grown c.args.subst.now c.args.table.now c.loop-made.table c.requires.below i.grows).below in
+    let below = (holds_grown c.args.subst.now c.args.table.now c.loop-made.table c.requires.below i.grows.now).below in
     record {
-      begun = begun_part _ _ _ c.loop-made.walk c.begin.new.self c.in-Part.part i.begun begins (omega (arith, next.older, c.top.ensures)) (ap (λ m. told m c.in-Part.part) (sym c.memo.ensures) ∙ next.untold) (step_part c.args.subst.now c.args.table.now c.loop-made.table new c.args.walk.now.top c.top.result c.requires.below i.grows at.leads at.live c.memo.result.now c.in-Part.part next);
-      memo = subst (TellsOnly (IsPut (held new.trees c.args.subst.now) new.trees)) (sym begins.memo) (puts_grown c.args.subst.now c.loop-made.table new c.loop-made.walk.memo below c.put_node.ensures.grows i.memo);
-      grows = grows_trans c.args.table.now c.loop-made.table new i.grows c.put_node.ensures.grows;
-      grown = λ t g. c.put_node.ensures.grown t (i.grown t g);
+      begun = begun_part _ _ _ c.loop-made.walk c.begin.new.self c.in-Part.part i.begun begins (omega (arith, next.older, c.top.ensures)) (ap (λ m. told m c.in-Part.part) (sym c.memo.ensures) ∙ next.untold) (step_part c.args.subst.now c.args.table.now c.loop-made.table new c.args.walk.now.top c.top.result c.requires.below i.grows.now at.leads at.live c.memo.result.now c.in-Part.part next);
+      memo = subst (TellsOnly (IsPut (held new.trees c.args.subst.now) new.trees)) (sym begins.memo) (puts_grown c.args.subst.now c.loop-made.table new c.loop-made.walk.memo below c.put_node.ensures.grows.now i.memo);
+      grows = search rules;
     }

@@ -1,6 +1,6 @@
 use Rattle.std.proofs.Common.{length}
 use Rattle.eo_term.specs.Memo.{TellsOnly}
-use Rattle.eo_term.specs.Terms.{Terms, Grows}
+use Rattle.eo_term.specs.Growth.{Grows}
 use Rattle.eo_term.proofs.Walks.{AreBegun, left}
 use Rattle.eo_pattern.specs.Slots.{held, IsPut}
 use Rattle.eo_pattern.proofs.Steps.{Overtops}
@@ -11,7 +11,6 @@ invariant-loop-made l = record {
   begun : AreBegun (length l.fn.table.trees) (Overtops (held l.fn.table.trees l.subst) l.fn.table.trees l.fn.walk.top) l.fn.walk.top l.walk;
   memo : TellsOnly (IsPut (held l.table.trees l.subst) l.table.trees) l.walk.memo;
   grows : Grows l.fn.table l.table;
-  grown : (t : Terms) → Grows t l.fn.table → Grows t l.table;
 }
 
 abbrev pub decreases-loop-made : goal.decreases-loop-made

@@ -1,28 +1,27 @@
-use Rattle.std.proofs.Common.{rules, ◌≡◌, ℕ, ◌<◌, [], Some, nat_eq, if◌then◌else◌, length, sym, ap, ◌∙◌, subst, arith}
-use Rattle.std.proofs.lemmas.Result.{err_from_is_err_and}
+use Rattle.std.proofs.Common.{rules, ◌≡◌, ℕ, Some, nat_eq, if◌then◌else◌, sym, ap, ◌∙◌, subst, arith}
 use Rattle.eo_term.specs.Memo.{told, TellsOnly}
 use Rattle.eo_term.specs.Walk.{Begins, Finishes}
-use Rattle.eo_term.specs.Terms.{Grows}
 use Rattle.eo_term.proofs.Walks.{IsBegun, begun_top, begun_part, begun_rest, left_rest}
-use Rattle.eo_term.proofs.Grown.{grows_trans}
-use Rattle.eo_type.specs.Parts.{IsSettled}
-use Rattle.eo_type.specs.Steps.{IsNext, IsStep}
+use Rattle.eo_term.specs.Growth.{tree_in}
+use Rattle.eo_type.specs.Types.{settle}
+use Rattle.eo_type.specs.Outcomes.{IsTyped}
+use Rattle.eo_type.specs.Steps.{IsSettled, IsNext, IsStep}
+use Rattle.eo_type.proofs.Walk.{gives_stop}
 use Rattle.eo_type.proofs.SettleSteps.{settles_grown, step_stops, step_part, step_kept}
 use Rattle.eo_type.proofs.settling.settle_walk.Goals as goal
 
 pub settle_node-requires-clause-live : goal.settle_node-requires-clause-live
 settle_node-requires-clause-live c =
-    omega (arith, (begun_top _ _ _ _ c.loop-made.invariant.begun).live, c.top.ensures, c.loop-made.invariant.grows.more_trees)
+    omega (arith, (begun_top _ _ _ _ c.loop-made.invariant.begun).live, c.top.ensures, c.loop-made.invariant.grows.now.more_trees)
 
 pub settle_node-requires-clause-memo : goal.settle_node-requires-clause-memo
-settle_node-requires-clause-memo c = subst (TellsOnly (IsSettled c.loop-made.table.trees)) (sym c.memo.ensures) c.loop-made.invariant.memo
+settle_node-requires-clause-memo c = subst (TellsOnly (IsSettled c.loop-made.table)) (sym c.memo.ensures) c.loop-made.invariant.memo
 
-pub returns-in_err-made-clause-stop : goal.returns-in_err-made-clause-stop
-returns-in_err-made-clause-stop c =
-    let e = err_from_is_err_and c.from_residual.result c.from_residual.ensures.1 in
+pub returns-in_err-made-clause-gives : goal.returns-in_err-made-clause-gives
+returns-in_err-made-clause-gives c =
     let i = c.loop-made.invariant in
     let at : IsBegun _ _ _ c.top.result = subst (IsBegun _ _ _) (sym c.top.ensures) (begun_top _ _ _ _ i.begun) in
-    rw (e.1, e.2) (step_stops c.args.table.now c.loop-made.table c.loop-made.table c.args.walk.now.top c.top.result i.grows at.leads at.live c.in_err-made.field-0.0 c.in_err-made.ensures.stop)
+    gives_stop _ _ _ _ c.from_residual.ensures.1 (step_stops c.args.table.now c.loop-made.table c.loop-made.table c.args.walk.now.top c.top.result i.grows.now at.leads at.live c.in_err-made.field-0.0 c.in_err-made.ensures.gives)
 
 pub loop-made-smaller-else-not-branch : goal.loop-made-smaller-else-not-branch
 loop-made-smaller-else-not-branch c =
@@ -34,15 +33,14 @@ loop-made-preserved-else-not-branch c =
     let i = c.loop-made.invariant in
     let at : IsBegun _ _ _ c.top.result = subst (IsBegun _ _ _) (sym c.top.ensures) (begun_top _ _ _ _ i.begun) in
     let next : Finishes c.loop-made.walk c.in-Made.made c.finish.new.self = search rules in
-    let made = subst (IsStep _ _ _ _) c.in-Made.is c.in_ok-made.ensures.step in
+    let made : IsTyped c.settle_node.new.table (settle (tree_in c.loop-made.table c.top.result)) c.in-Made.made = subst (IsStep c.loop-made.table c.memo.result.now c.top.result c.settle_node.new.table) c.in-Made.is c.in_ok-made.ensures.gives in
     let now = c.finish.new.self.memo in
     let before = c.loop-made.walk.memo in
     let kept = subst (λ (k : ℕ). (j : ℕ) → told now j ≡ (if nat_eq k j then Some c.in-Made.made else told before j)) (sym c.top.ensures) next.memo in
     record {
       begun = begun_rest _ _ _ c.loop-made.walk c.finish.new.self c.in-Made.made i.begun next;
-      memo = step_kept c.args.table.now c.loop-made.table c.settle_node.new.table c.args.walk.now.top c.top.result i.grows at.leads at.live c.in-Made.made before now c.settle_node.ensures.grows kept i.memo made;
-      grows = grows_trans c.args.table.now c.loop-made.table c.settle_node.new.table i.grows c.settle_node.ensures.grows;
-      grown = λ t g. c.settle_node.ensures.grown t (i.grown t g);
+      memo = step_kept c.args.table.now c.loop-made.table c.settle_node.new.table c.args.walk.now.top c.top.result i.grows.now at.leads at.live c.in-Made.made before now c.settle_node.ensures.grows.now kept i.memo made;
+      grows = search rules;
     }
 
 pub loop-made-preserved : goal.loop-made-preserved
@@ -50,11 +48,10 @@ loop-made-preserved c =
     let i = c.loop-made.invariant in
     let at : IsBegun _ _ _ c.top.result = subst (IsBegun _ _ _) (sym c.top.ensures) (begun_top _ _ _ _ i.begun) in
     let begins : Begins c.loop-made.walk c.in-Part.part c.begin.new.self = search rules in
-    let next : IsNext c.loop-made.table.trees c.memo.result.now c.top.result c.in-Part.part = subst (IsStep _ _ _ _) c.in-Part.is c.in_ok-made.ensures.step in
+    let next : IsNext c.loop-made.table c.memo.result.now c.top.result c.in-Part.part = subst (IsStep _ _ _ _) c.in-Part.is c.in_ok-made.ensures.gives in
     let new = c.settle_node.new.table in
     record {
-      begun = begun_part _ _ _ c.loop-made.walk c.begin.new.self c.in-Part.part i.begun begins (omega (arith, next.older, c.top.ensures)) (ap (λ m. told m c.in-Part.part) (sym c.memo.ensures) ∙ next.untold) (step_part c.args.table.now c.loop-made.table new c.args.walk.now.top c.top.result i.grows at.leads at.live c.memo.result.now c.in-Part.part next);
-      memo = subst (TellsOnly (IsSettled new.trees)) (sym begins.memo) (settles_grown c.loop-made.table new c.loop-made.walk.memo c.settle_node.ensures.grows i.memo);
-      grows = grows_trans c.args.table.now c.loop-made.table new i.grows c.settle_node.ensures.grows;
-      grown = λ t g. c.settle_node.ensures.grown t (i.grown t g);
+      begun = begun_part _ _ _ c.loop-made.walk c.begin.new.self c.in-Part.part i.begun begins (omega (arith, next.older, c.top.ensures)) (ap (λ m. told m c.in-Part.part) (sym c.memo.ensures) ∙ next.untold) (step_part c.args.table.now c.loop-made.table new c.args.walk.now.top c.top.result i.grows.now at.leads at.live c.memo.result.now c.in-Part.part next);
+      memo = subst (TellsOnly (IsSettled new)) (sym begins.memo) (settles_grown c.loop-made.table new c.loop-made.walk.memo c.settle_node.ensures.grows.now i.memo);
+      grows = search rules;
     }

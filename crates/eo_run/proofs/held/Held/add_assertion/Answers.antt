@@ -9,10 +9,10 @@ pub returns-clause-does : goal.returns-clause-does
 returns-clause-does c =
     let h = c.args.self.now in
     let t = truth_at h.table.trees c.laws.ensures.first c.args.truth c.term_of.result c.term_of.ensures in
-    ap (λ x. Ok x) (ap (with_assertion (state_of h)) (sym t.0) ∙ sym (state_assertion h c.requires c.laws.ensures.same c.term_of.result t.1 c.add.new.self c.in_ok-add.ensures.added))
+    ap (λ x. Ok x) (ap (with_assertion (state_of h)) (sym t.0) ∙ sym (state_assertion h c.requires c.laws.ensures.equals c.term_of.result t.1 c.add.new.self c.in_ok-add.ensures.added))
 
 pub returns-clause-whole : goal.returns-clause-whole
 returns-clause-whole c =
     let h = c.args.self.now in
     let t = truth_at h.table.trees c.laws.ensures.first c.args.truth c.term_of.result c.term_of.ensures in
-    whole_assertion h c.requires c.laws.ensures.same c.term_of.result t.1 c.add.new.self c.in_ok-add.ensures.added
+    whole_assertion h c.requires c.laws.ensures.equals c.term_of.result t.1 c.add.new.self c.in_ok-add.ensures.added

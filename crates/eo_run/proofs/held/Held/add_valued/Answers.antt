@@ -1,8 +1,7 @@
-use Rattle.std.proofs.Common.{◌≡◌, length, true, sym, subst, ◌∙◌}
+use Rattle.std.proofs.Common.{◌≡◌, true, sym, subst, ◌∙◌}
 use Rattle.std.specs.Prelude.{None, Result}
 use Rattle.eo_sig.specs.Signature.{Constant, constant_fault}
 use Rattle.eo_sig.specs.Reading.{read_constant}
-use Rattle.eo_sig.proofs.Same.{constant_same}
 use Rattle.eo_elab.specs.Declarations.{is_free_or_reference}
 use Rattle.eo_run.specs.Held.{state_of}
 use Rattle.eo_run.specs.State.{State, context}
@@ -39,7 +38,7 @@ pub add_or_repeat-requires-clause-may : goal.add_or_repeat-requires-clause-may
 add_or_repeat-requires-clause-may c =
     let ts = c.args.self.now.table.trees in
     let us = c.has_kind.new.self.table.trees in
-    let d : read_constant us c.args.d ≡ read_constant ts c.args.d = constant_same (length ts) ts us (record { at = c.in_ok-has_kind.ensures.keeps.grows.now.tree }) c.args.d c.requires.below in
+    let d : read_constant us c.args.d ≡ read_constant ts c.args.d = c.laws.ensures c.args.self.now.table c.has_kind.new.self.table c.requires.below c.in_ok-has_kind.ensures.keeps.grows.now in
     record {
       sound = subst (λ (x : Constant). constant_fault x ≡ None) (sym d) c.requires.may.sound;
       name = subst (λ (st : State). is_free_or_reference (context st) c.args.d.name ≡ true) (sym c.in_ok-has_kind.ensures.keeps.same) c.requires.may.name;
@@ -53,7 +52,7 @@ returns-clause-does c =
     let value = sym c.is_value.ensures.value ∙ c.if-not-is_value.false in
     let kind = c.in_ok-has_kind.ensures.gives in
     let same = c.in_ok-has_kind.ensures.keeps.same in
-    let d : read_constant us c.args.d ≡ read_constant ts c.args.d = constant_same (length ts) ts us (record { at = c.in_ok-has_kind.ensures.keeps.grows.now.tree }) c.args.d c.requires.below in
+    let d : read_constant us c.args.d ≡ read_constant ts c.args.d = c.laws.ensures c.args.self.now.table c.has_kind.new.self.table c.requires.below c.in_ok-has_kind.ensures.keeps.grows.now in
     does-same _ _ c.add_or_repeat.result c.add_or_repeat.new.self
     (typed-added (state_of h) (read_constant ts c.args.d) value kind.0 kind.1 (kind.2 ∙ c.if-not-branch.false) ∙ sym (λ i. added_constant (same i) (d i)))
     c.add_or_repeat.ensures.does

@@ -5,5 +5,5 @@ use Rattle.eo_run.proofs.held.Held.new.Goals as goal
 
 pub returns-clause-state : goal.returns-clause-state
 returns-clause-state c =
-    let h : Held = record { alloc = c.args.alloc; table = c.in_ok-new.field-0; signature = c.in_ok-new-2.field-0; types = c.in_ok-new-3.field-0; assertions = c.new-4.result; has_reference = false; facts = c.new-5.result; closed = c.args.closed; commands = 0 } in
-    state_first h c.args.closed c.in_ok-new.ensures.trees c.in_ok-new-2.ensures.kept (c.in_ok-new-2.ensures.signature h.table.trees (ap (take 4) c.in_ok-new.ensures.trees)) c.new-4.ensures refl c.new-5.ensures refl refl
+    let h : Held = record { alloc = c.args.alloc; table = c.in_ok-table.table; signature = c.in_ok-signature.signature; types = c.in_ok-types.types; assertions = c.new-4.result; has_reference = false; facts = c.new-5.result; closed = c.args.closed; commands = 0 } in
+    state_first h c.args.closed c.in_ok-table.ensures.trees c.in_ok-signature.ensures.kept (c.in_ok-signature.ensures.signature h.table.trees (ap (take 4) c.in_ok-table.ensures.trees)) c.new-4.ensures refl c.new-5.ensures refl refl

@@ -6,4 +6,4 @@ pub returns : goal.returns
 returns c =
     let h = c.args.self.now in
     let third = first_is h.table.trees 3 c.laws.ensures.first (omega arith) in
-    c.refutes.ensures ∙ sym (false_fact h.table.trees c.laws.ensures.same h.facts third.1 third.0 c.requires.facts)
+    c.refutes.ensures ∙ sym (false_fact h.table.trees c.laws.ensures.equals h.facts third.1 third.0 c.requires.facts)

@@ -1,5 +1,4 @@
 use Rattle.std.proofs.Common.{◌≡◌, ◌+◌, length, length-take-le, take, refl, ap, sym, ℕ}
-use Rattle.eo_sexp.specs.declared.Spot.{Spot}
 use Rattle.eo_sexp.proofs.PassRuns.{passes-run}
 use Rattle.eo_sexp.proofs.incremental.Machine.run_comment.Goals as goal
 

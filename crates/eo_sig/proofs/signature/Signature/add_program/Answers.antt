@@ -2,7 +2,7 @@ use Rattle.std.proofs.Common.{length, sym, ap, ◌∙◌, subst}
 use Rattle.std.specs.List.{filter_map}
 use Rattle.eo_sig.specs.declared.records.Declared.TheVariants as declared
 use Rattle.eo_sig.specs.Reading.{Kept, signature, IsBelow, read_program, program_decl_of}
-use Rattle.eo_sig.proofs.Tables.{length_map}
+use Rattle.std.proofs.lemmas.List.{length-map}
 use Rattle.eo_sig.proofs.Readings.{adds_entry, programs_read, below_entry, free_program}
 use Rattle.eo_sig.specs.Usable.{IsUsable}
 use Rattle.eo_sig.proofs.Usable.{usable_program}
@@ -10,7 +10,7 @@ use Rattle.eo_sig.proofs.signature.Signature.add_program.Goals as goal
 
 pub returns-in-Ok-clause-number : goal.returns-in-Ok-clause-number
 returns-in-Ok-clause-number c = λ ts.
-    c.in-Ok.ensures.number ∙ sym (ap length (programs_read ts c.args.self.now.entries) ∙ length_map (read_program ts) (filter_map program_decl_of c.args.self.now.entries))
+    c.in-Ok.ensures.number ∙ sym (ap length (programs_read ts c.args.self.now.entries) ∙ length-map (filter_map program_decl_of c.args.self.now.entries) (read_program ts))
 
 pub returns-in-Ok-clause-below : goal.returns-in-Ok-clause-below
 returns-in-Ok-clause-below c = λ m h g. subst (IsBelow m) (sym c.in-Ok.ensures.kept) (below_entry m c.args.self.now (declared.Program c.args.d) h g)

@@ -2,7 +2,7 @@ use Rattle.std.proofs.Common.{length, sym, ap, ◌∙◌, subst}
 use Rattle.std.specs.List.{filter_map}
 use Rattle.eo_sig.specs.declared.records.Declared.TheVariants as declared
 use Rattle.eo_sig.specs.Reading.{Kept, signature, IsBelow, read_rule, rule_decl_of}
-use Rattle.eo_sig.proofs.Tables.{length_map}
+use Rattle.std.proofs.lemmas.List.{length-map}
 use Rattle.eo_sig.proofs.Readings.{adds_entry, rules_read, below_entry, free_rule}
 use Rattle.eo_sig.specs.Usable.{IsUsable}
 use Rattle.eo_sig.proofs.Usable.{usable_rule}
@@ -10,7 +10,7 @@ use Rattle.eo_sig.proofs.signature.Signature.add_rule.Goals as goal
 
 pub returns-in-Ok-clause-number : goal.returns-in-Ok-clause-number
 returns-in-Ok-clause-number c = λ ts.
-    c.in-Ok.ensures.number ∙ sym (ap length (rules_read ts c.args.self.now.entries) ∙ length_map (read_rule ts) (filter_map rule_decl_of c.args.self.now.entries))
+    c.in-Ok.ensures.number ∙ sym (ap length (rules_read ts c.args.self.now.entries) ∙ length-map (filter_map rule_decl_of c.args.self.now.entries) (read_rule ts))
 
 pub returns-in-Ok-clause-below : goal.returns-in-Ok-clause-below
 returns-in-Ok-clause-below c = λ m h g. subst (IsBelow m) (sym c.in-Ok.ensures.kept) (below_entry m c.args.self.now (declared.Rule c.args.d) h g)

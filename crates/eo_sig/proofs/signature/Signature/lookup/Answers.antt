@@ -2,7 +2,8 @@ use Rattle.std.proofs.Common.{◌≡◌, ℕ, ◌<◌, List, Option, Some, None,
 use Rattle.std.specs.Option.{option_or, option_map}
 use Rattle.eo_sig.specs.Signature as sig
 use Rattle.eo_sig.specs.Reading.{Kept, signature, macros, constants_of, programs_of, const_of, program_decl_of}
-use Rattle.eo_sig.proofs.Tables.{numbers, length_map}
+use Rattle.eo_sig.proofs.Tables.{numbers}
+use Rattle.std.proofs.lemmas.List.{length-map}
 use Rattle.eo_sig.proofs.Readings.{constant_found, macro_found, program_found}
 use Rattle.eo_sig.proofs.signature.Signature.lookup.Goals as goal
 
@@ -56,7 +57,7 @@ returns-in-Some-clause-within c =
 pub returns-in-Some-get_index_of-clause-within : goal.returns-in-Some-get_index_of-clause-within
 returns-in-Some-get_index_of-clause-within c =
     subst (λ (k : Kept). c.in-Some-get_index_of.n < length k.macros) c.self.view_is
-    (omega (arith, c.in-Some-get_index_of.ensures.within, length_map (λ e. e.1) c.self.inside.macros.entries))
+    (omega (arith, c.in-Some-get_index_of.ensures.within, length-map c.self.inside.macros.entries (λ e. e.1)))
 
 pub returns-in-Some-get_index_of-2-clause-within : goal.returns-in-Some-get_index_of-2-clause-within
 returns-in-Some-get_index_of-2-clause-within c =

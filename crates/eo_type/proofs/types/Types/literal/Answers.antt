@@ -1,21 +1,21 @@
 use Rattle.std.proofs.Common.{length, sym, ap, ◌∙◌}
 use Rattle.std.specs.Prelude.{option_map}
 use Rattle.eo_term.specs.Terms.{tree_at}
-use Rattle.eo_sig.proofs.Same.{stays_grown}
 use Rattle.eo_type.specs.Types.{literal_type_at}
-use Rattle.eo_type.proofs.Fitting.{fits_grown}
+use Rattle.eo_sig.proofs.Growing.{grows_under}
+use Rattle.eo_type.proofs.Fitting.{fit_grown}
 use Rattle.eo_type.proofs.types.Types.literal.Goals as goal
 
 pub literal_in-requires-clause-ty : goal.literal_in-requires-clause-ty
-literal_in-requires-clause-ty c = c.in-Some.ensures.live (length c.args.table.now.trees) c.requires.below
+literal_in-requires-clause-ty c = c.in-Some.ensures.live (length c.args.table.now.trees) c.requires.fits.below
 
-pub returns-in-None-clause-stop : goal.returns-in-None-clause-stop
-returns-in-None-clause-stop c =
+pub returns-in-None-clause-gives : goal.returns-in-None-clause-gives
+returns-in-None-clause-gives c =
     let ts = c.args.table.now.trees in
     ap (λ o. literal_type_at o (tree_at ts c.args.id)) (sym (c.literal_type.ensures.value ts) ∙ ap (option_map (tree_at ts)) c.in-None.is)
 
 pub returns-in-Some-clause-fits : goal.returns-in-Some-clause-fits
-returns-in-Some-clause-fits c = fits_grown c.args.sig.now c.args.table.now c.literal_in.new.table c.requires.below c.literal_in.ensures.grows c.args.self.now c.requires.fits
+returns-in-Some-clause-fits c = fit_grown c.args.sig.now c.args.table.now c.literal_in.new.table c.args.self.now c.literal_in.ensures.grows.now c.requires.fits
 
-pub returns-in-Some-clause-stays : goal.returns-in-Some-clause-stays
-returns-in-Some-clause-stays c = stays_grown c.args.sig.now c.args.table.now c.literal_in.new.table c.requires.below c.literal_in.ensures.grows
+pub returns-in-Some-clause-grows : goal.returns-in-Some-clause-grows
+returns-in-Some-clause-grows c = grows_under c.args.sig.now c.args.table.now c.literal_in.new.table c.requires.fits.below c.literal_in.ensures.grows

@@ -1,0 +1,16 @@
+mod declarations;
+mod terms;
+mod world;
+
+use std::alloc::Global;
+use std::test::Fail;
+use world::World;
+
+// What a function tells of a new world. It alone owns one: each way out of a function that does is
+// dear to prove.
+fn tell<T, F: FnOnce(&mut World) -> Result<T, Fail>>(alloc: Global, f: F) -> Result<T, Fail>
+    requires { F.IsAlwaysCallable f }
+{
+    let mut world = World::new(alloc)?;
+    f(&mut world)
+}

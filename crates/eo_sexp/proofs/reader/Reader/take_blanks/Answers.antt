@@ -1,0 +1,10 @@
+use Rattle.std.proofs.Common.{arith}
+use Rattle.eo_base.specs.Limits.{limits}
+use Rattle.eo_sexp.proofs.LimitFacts.{command_is}
+use Rattle.eo_sexp.proofs.BlankRuns.{blank-runs}
+use Rattle.eo_sexp.proofs.reader.Reader.take_blanks.Goals as goal
+
+pub returns-clause-runs : goal.returns-clause-runs
+returns-clause-runs c =
+    blank-runs limits c.args.buffer.now c.extend.new.self c.args.self.now c.args.rest.now c.blank_run-taken.result c.requires.gap c.requires.reader c.in_ok-extend.ensures c.blank_run-taken.ensures.within c.blank_run-taken.ensures.blank
+    (omega (arith, c.blank_run-taken.ensures.within, c.requires.room, command_is))

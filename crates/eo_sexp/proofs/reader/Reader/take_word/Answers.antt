@@ -1,0 +1,23 @@
+use Rattle.std.proofs.Common.{◌+◌, ◌∙◌, false, ap, sym, subst, arith}
+use Rattle.eo_base.specs.Limits.{limits}
+use Rattle.eo_sexp.specs.Sexp.{Atom}
+use Rattle.eo_sexp.specs.Nodes.{token_text}
+use Rattle.eo_sexp.specs.Built.{with_child}
+use Rattle.eo_sexp.specs.Reader.{held, IsReader}
+use Rattle.eo_sexp.proofs.LimitFacts.{command_is, some_token}
+use Rattle.eo_sexp.proofs.AheadRuns.{word-space}
+use Rattle.eo_sexp.proofs.reader.Reader.take_word.Goals as goal
+
+pub overflow_add-at : goal.overflow_add-at
+overflow_add-at c = omega (arith, c.requires.at, c.requires.ahead.fits, command_is)
+
+pub add_atom-requires-clause-short : goal.add_atom-requires-clause-short
+add_atom-requires-clause-short c = omega (arith, c.requires.at, c.requires.ahead.fits, command_is)
+
+pub returns-then-rest-n-eq32-clause-runs : goal.returns-then-rest-n-eq32-clause-runs
+returns-then-rest-n-eq32-clause-runs c =
+    let b = c.args.buffer.now in
+    let h = subst (IsReader limits (held b c.args.self.now)) (sym c.requires.at) c.requires.reader in
+    let kind = ap (λ k. with_child c.extend.new.self (Atom k (token_text c.extend.new.self.bytes false c.args.at (c.args.at + c.args.n)) (record { from = c.args.at; to = c.args.at + c.args.n }))) c.kind_of.ensures in
+    word-space limits some_token b c.extend.new.self c.add_atom.new.self c.args.self.now c.args.rest.now c.args.n c.args.at
+    h c.requires.at c.requires.first c.requires.ahead c.requires.ends c.if-rest-n-eq32.true c.in_ok-extend.ensures (c.in_ok-add_atom.ensures ∙ kind)

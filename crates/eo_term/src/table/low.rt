@@ -1,0 +1,52 @@
+//! Terms that are known not to be too tall.
+ghost use Rattle.std.specs.Prelude.{◌≡◌, ◌<◌, length, false, All};
+ghost use Rattle.eo_term.specs.Tree.{Con, Op, NoTree, is_tall};
+ghost use Rattle.eo_term.specs.Terms.{trees_at, tree_of, PartsBelow, TextsBelow, IsPlain, IsProper, HasArity};
+ghost use Rattle.eo_term.specs.Growth.{Grows, Makes};
+
+use super::{Table, TermRefused};
+use crate::{Id, Node, OpCode};
+use std::alloc::AllocError;
+
+impl Table {
+    /// The term with this root, as [`Table::intern`] has it, where it is not too tall.
+    pub fn intern_low(&mut self, node: Node) -> Result<Id, AllocError>
+        requires plain { IsPlain node }
+        requires parts { PartsBelow (length self.old.trees) node }
+        requires texts { TextsBelow (length self.old.texts) node }
+        requires proper { IsProper node }
+        requires low { is_tall (tree_of self.old.trees self.old.texts node NoTree) ≡ false }
+        ensures makes { Makes self.new result (tree_of self.old.trees self.old.texts node NoTree) }
+        ensures grows { Grows self.old self.new }
+    {
+        match self.intern(node) {
+            Ok(id) => Ok(id),
+            Err(TermRefused::Memory(e)) => Err(e),
+            Err(TermRefused::Tall) => unreachable!(),
+        }
+    }
+
+    /// The term that applies an operator or a program, as [`Table::intern_op`] has it, where it is
+    /// not too tall.
+    pub fn intern_low_op(&mut self, code: OpCode, args: &[Id]) -> Result<Id, AllocError>
+        requires count { HasArity code (length args.now) }
+        requires args { All (λ j. j < length self.old.trees) args.now }
+        requires low { is_tall (Op code (trees_at self.old.trees args.now)) ≡ false }
+        ensures makes { Makes self.new result (Op code (trees_at self.old.trees args.now)) }
+        ensures grows { Grows self.old self.new }
+    {
+        match self.intern_op(code, args) {
+            Ok(id) => Ok(id),
+            Err(TermRefused::Memory(e)) => Err(e),
+            Err(TermRefused::Tall) => unreachable!(),
+        }
+    }
+
+    /// The constant of this number.
+    pub fn constant(&mut self, k: usize) -> Result<Id, AllocError>
+        ensures makes { Makes self.new result (Con k) }
+        ensures grows { Grows self.old self.new }
+    {
+        self.intern_low(Node::Con(k))
+    }
+}
