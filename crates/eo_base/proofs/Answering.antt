@@ -1,6 +1,6 @@
 -- What calls answer at the exits of a `?`, and what a refusal tells of a whole where it tells it of a part.
 use Rattle.std.proofs.Common.{◌≡◌, Option, None, Some, sym, subst, ap, ◌∙◌}
-use Rattle.std.specs.Prelude.{Result, Ok, Err, IfSome}
+use Rattle.std.specs.Prelude.{Result, Ok, Err, IfOk, IfSome}
 use Rattle.std.specs.Result.{IsErrAnd}
 use Rattle.eo_base.specs.declared.FaultName.{FaultName}
 use Rattle.eo_base.specs.Answers.{Gives, Tells}
@@ -29,3 +29,8 @@ tells_through told f h e o = by (told e)
     by : (m : Option FaultName) → IfSome m (λ x. o ≡ Err x) → IfSome m (λ x. f o ≡ Err x)
     by None k = tt
     by (Some x) k = ap f k ∙ h x
+
+-- what holds of everything holds of an answer
+pub ok_always : {A E : Type 0} (P : A → Type 0) (r : Result A E) → ((x : A) → P x) → IfOk r P
+ok_always P (Ok x) f = f x
+ok_always P (Err e) f = tt

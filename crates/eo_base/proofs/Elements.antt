@@ -1,7 +1,9 @@
 -- Elements by their places, and bounds of numbers.
-use Rattle.std.proofs.Common.{◌≡◌, ℕ, zero, suc, ◌<◌, ◌≤◌, List, [], ◌∷◌, ◌++◌, length, slice_get, Some, All, refl, arith}
-use Rattle.std.proofs.lemmas.Option.{none-some}
-use Rattle.std.proofs.lemmas.List.Elements.{All-weaker}
+use Rattle.std.proofs.Common.{◌≡◌, ℕ, zero, suc, ◌<◌, ◌≤◌, List, [], ◌∷◌, ◌++◌, nat_eq, length, map, slice_get, if◌then◌else◌, Bool, true, false, Option, Some, All, refl, sym, subst, ◌∙◌, arith}
+use Rattle.std.proofs.lemmas.Bool.{eqb-true}
+use Rattle.std.proofs.lemmas.Option.{none-some, same_Some}
+use Rattle.std.proofs.lemmas.List.{map-append}
+use Rattle.std.proofs.lemmas.List.Elements.{All-nil, All-cons, All-head, All-tail, All-push, All-weaker}
 
 -- what stands at a place stands there still when more comes at the end
 pub slice_get_left : {X : Type 0} (xs ys : List X) (i : ℕ) (x : X) → slice_get xs i ≡ Some x → slice_get (xs ++ ys) i ≡ Some x
@@ -17,3 +19,33 @@ slice_get_seam (x ∷ xs) y ys = slice_get_seam xs y ys
 -- numbers below a bound are below a greater one
 pub ids_more : (n m : ℕ) → n ≤ m → (is : List ℕ) → All (λ i. i < n) is → All (λ i. i < m) is
 ids_more n m l is h = All-weaker (λ i. i < n) (λ i. i < m) (λ i g. omega (arith, l, g)) is h
+
+-- and so they are with one more at the end
+pub push_below : (n m i : ℕ) (is : List ℕ) → n ≤ m → i < m → All (λ j. j < n) is → All (λ j. j < m) (is ++ i ∷ [])
+push_below n m i is l b h = All-push (λ j. j < m) is i (ids_more n m l is h) b
+
+-- two functions that agree below a bound, on numbers below it
+module _ {X : Type 0} (n : ℕ) (f g : ℕ → X) (same : (i : ℕ) → i < n → g i ≡ f i) where
+  pub map_same : (is : List ℕ) → All (λ i. i < n) is → map g is ≡ map f is
+  map_same [] h = refl
+  map_same (i ∷ is) h = λ k. same i (All-head (λ j. j < n) i is h) k ∷ map_same is (All-tail (λ j. j < n) i is h) k
+
+  pub push_same : (is : List ℕ) (i : ℕ) (x : X) → All (λ j. j < n) is → g i ≡ x → map g (is ++ i ∷ []) ≡ map f is ++ x ∷ []
+  push_same is i x h e = map-append g is (i ∷ []) ∙ (λ k. map_same is h k ++ e k ∷ [])
+
+-- what holds of all values of a function holds where it has one value more
+pub holds_more : (R : ℕ → ℕ → Type 0) (f g : ℕ → Option ℕ) (i j : ℕ) → ((k : ℕ) → g k ≡ (if nat_eq i k then Some j else f k)) → ((k v : ℕ) → f k ≡ Some v → R k v) → R i j → (k v : ℕ) → g k ≡ Some v → R k v
+holds_more R f g i j e h r k v p = by_test (nat_eq i k) refl (sym (e k) ∙ p)
+  where
+    by_test : (b : Bool) → nat_eq i k ≡ b → (if b then Some j else f k) ≡ Some v → R k v
+    by_test true q w = subst (λ (x : ℕ). R x v) (eqb-true i k q) (subst (R i) (same_Some j v w) r)
+    by_test false q w = h k v w
+
+-- what all of a list pass, its first ones and its last one pass
+pub all_first : {X : Type 0} (P : X → Type 0) (xs ys : List X) → All P (xs ++ ys) → All P xs
+all_first P [] ys h = All-nil P
+all_first P (x ∷ xs) ys h = All-cons P x xs (All-head P x (xs ++ ys) h) (all_first P xs ys (All-tail P x (xs ++ ys) h))
+
+pub all_last : {X : Type 0} (P : X → Type 0) (xs : List X) (y : X) → All P (xs ++ y ∷ []) → P y
+all_last P [] y h = All-head P y [] h
+all_last P (x ∷ xs) y h = all_last P xs y (All-tail P x (xs ++ y ∷ []) h)

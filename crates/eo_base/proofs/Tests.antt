@@ -1,6 +1,7 @@
 -- Tests that hold together, and tests of which one is enough.
-use Rattle.std.proofs.Common.{◌≡◌, ℕ, Bool, true, false, ◌||◌, List, refl, sym}
+use Rattle.std.proofs.Common.{◌≡◌, ℕ, ◌≤◌, Bool, true, false, ◌||◌, ◌&&◌, List, nat_lt, refl, sym, true≢false, arith}
 use Rattle.std.specs.Str.{bytes_eq}
+use Rattle.std.proofs.lemmas.Bool.{and_parts, lt-ltb, ltb-true}
 use Rattle.std.proofs.lemmas.Slice.Eq.{bytes_eq-Decides}
 
 -- two tests of which each holds where the other does
@@ -21,3 +22,13 @@ or_first false c e = cc
 pub or_second : (b c : Bool) → c ≡ true → (b || c) ≡ true
 or_second true c e = refl
 or_second false c e = e
+
+pub both : {a b : Bool} → (a && b) ≡ true → (a ≡ true) × (b ≡ true)
+both {a} {b} h = and_parts a b h
+
+pub clash {ℓ} : {A : Type ℓ} → false ≡ true → A
+clash h = absurd (true≢false (sym h))
+
+-- what is above a limit has only what is above it over it
+pub still_above : (limit m n : ℕ) → m ≤ n → nat_lt limit m ≡ true → nat_lt limit n ≡ true
+still_above limit m n l e = let h = ltb-true limit m e in lt-ltb limit n (omega (arith, h, l))

@@ -9,8 +9,10 @@ ghost use Rattle.eo_base.specs.Statuses.{status_code};
 
 pub mod limits;
 mod lists;
+mod names;
 
-pub use lists::{Chars, Name, Text};
+pub use lists::{Chars, List, Text};
+pub use names::{Name, NameRef};
 
 /// Each fault that a file can have, in the order of their numbers from 1.
 #[derive(Clone, Copy, Debug, PartialEq, Eq)]

@@ -1,5 +1,5 @@
-//! Lists of bytes and of characters.
-ghost use Rattle.std.specs.Prelude.{◌≡◌, IfOk};
+//! Lists of bytes, of characters and of anything.
+ghost use Rattle.std.specs.Prelude.{◌≡◌, [], ◌∷◌, ◌++◌, IfOk, OnOk, OnErr};
 ghost use Rattle.std.specs.Str.{IsUtf8};
 ghost use Rattle.eo_base.specs.Characters.{AreCharacters};
 
@@ -45,37 +45,6 @@ impl Text {
     }
 }
 
-/// A list of any bytes.
-#[derive(Debug, Drop)]
-pub struct Name {
-    bytes: Vec<u8>,
-}
-
-impl Model for Name {
-    ghost use Rattle.std.specs.Prelude.{ℕ, List};
-
-    ghost Value = { List ℕ };
-
-    ghost view = { λ a. a.bytes.items };
-}
-
-impl Name {
-    /// A name with these bytes.
-    pub fn new(alloc: Global, b: &[u8]) -> Result<Name, AllocError>
-        ensures { IfOk result (λ n. n ≡ b.now) }
-    {
-        let bytes = b.to_vec(alloc)?;
-        Ok(Name { bytes })
-    }
-
-    /// The bytes.
-    pub fn as_bytes(&self) -> &[u8]
-        ensures { result.now ≡ self.now }
-    {
-        self.bytes.as_slice()
-    }
-}
-
 /// A list of characters of strings, each at most 0x2FFFF.
 #[derive(Debug, Drop)]
 pub struct Chars {
@@ -112,6 +81,47 @@ impl Chars {
     }
 }
 
+/// A list of any things.
+#[derive(Debug, Drop)]
+pub struct List<T> {
+    items: Vec<T>,
+}
+
+impl<T> Model for List<T> {
+    ghost use Rattle.std.specs.Prelude.{List as Items};
+
+    ghost Value = { Items T };
+
+    ghost view = { λ a. a.items.items };
+}
+
+impl<T: Drop> List<T> {
+    /// Nothing. No memory is taken.
+    pub fn new(alloc: Global) -> List<T>
+        ensures { result ≡ [] }
+    {
+        List {
+            items: Vec::new(alloc),
+        }
+    }
+
+    /// Appends an item. Where there is no memory left, the list stays as it is.
+    pub fn push(&mut self, item: T) -> Result<(), AllocError>
+        ensures pushed { OnOk result (self.new ≡ self.old ++ item ∷ []) }
+        ensures err { OnErr result (self.new ≡ self.old) }
+    {
+        self.items.push(item)?;
+        Ok(())
+    }
+
+    /// The items in order.
+    pub fn as_slice(&self) -> &[T]
+        ensures { result.now ≡ self.now }
+    {
+        self.items.as_slice()
+    }
+}
+
 #[cfg(test)]
 mod tests {
     use super::*;
@@ -122,10 +132,17 @@ mod tests {
         let text = Text::new(rt.alloc(), "p.eo")?;
         assert_eq!(rt; text.as_str(), "p.eo");
         assert_eq!(rt; text.as_bytes(), b"p.eo".as_slice());
-        let name = Name::new(rt.alloc(), &[0, 255])?;
-        assert_eq!(rt; name.as_bytes(), [0, 255].as_slice());
         let characters = Chars::new(rt.alloc(), &[97, 0x2_ffff])?;
         assert_eq!(rt; characters.as_slice(), [97, 0x2_ffff].as_slice());
+        Ok(())
+    }
+
+    #[test]
+    fn a_list_holds_what_is_pushed(rt: HostRuntime) -> Result<(), Fail> {
+        let mut list = List::new(rt.alloc());
+        list.push(3_u64)?;
+        list.push(1)?;
+        assert_eq!(rt; list.as_slice(), [3, 1].as_slice());
         Ok(())
     }
 }

@@ -24,8 +24,7 @@ use Rattle.eo_elab.specs.Declarations.{Bound, bind, is_bound, with_parameter}
 use Rattle.eo_elab.specs.Declaring.{read_bound}
 use Rattle.eo_names.specs.Contexts.{Context}
 use Rattle.eo_elab.specs.Meaning.{meaning}
-use Rattle.eo_names.specs.Names.{local, read_locals, AreBelow}
-use Rattle.eo_names.proofs.FoldLemmas.{locals_grown}
+use Rattle.eo_names.specs.Names.{local, read_locals}
 
 -- ---- one parameter
 
@@ -65,10 +64,9 @@ parameters-grown n ts us (p ∷ ps) same h =
 pub parameters-more : (n m : ℕ) (ps : List Param) → n ≤ m → All (λ (p : Param). p.ty < n) ps → All (λ (p : Param). p.ty < m) ps
 parameters-more n m ps l h = All-weaker (λ (x : Param). x.ty < n) (λ (x : Param). x.ty < m) (λ x q. omega arith) ps h
 
-pub bound-grown : (b : code.Bound) (old new : Terms) → All (λ (p : Param). p.ty < length old.trees) b.params → AreBelow (length old.trees) b.locals → Since old new → read_bound new.trees b ≡ read_bound old.trees b
-bound-grown b old new below names g =
+pub bound-grown : (b : code.Bound) (old new : Terms) → All (λ (p : Param). p.ty < length old.trees) b.params → read_locals new.trees b.locals ≡ read_locals old.trees b.locals → Since old new → read_bound new.trees b ≡ read_bound old.trees b
+bound-grown b old new below ls g =
     let ps = parameters-grown (length old.trees) old.trees new.trees b.params g.tree below in
-    let ls = locals_grown b.locals old.trees new.trees (length old.trees) names g.tree in
     λ i. record { parameters = ps i; locals = ls i }
 
 -- with a parameter more, whose name stands for the parameter of the next number

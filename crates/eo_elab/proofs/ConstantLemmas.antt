@@ -15,7 +15,8 @@ use Rattle.eo_term.specs.declared.node.Node.TheVariants as node
 use Rattle.eo_elab.specs.Declarations.{bound_type, constant, constant_number, plain_constant, sort_type, meanings}
 use Rattle.eo_names.specs.Contexts.{Context, Local}
 use Rattle.eo_elab.specs.Meaning.{meaning}
-use Rattle.eo_names.proofs.FoldLemmas.{higher}
+use Rattle.eo_base.proofs.Tests.{still_above}
+use Rattle.eo_base.specs.Limits.{height_limit}
 
 -- only a constant has a number
 pub other_number : (ts : List Tree) (xs : List (List ℕ)) (n : Node) (args : Trees) → ((k : ℕ) → n ≡ node.Con k → ⊥) → constant_number (tree_of ts xs n args) ≡ Err UnknownSymbol
@@ -95,7 +96,7 @@ meanings-end c locals before = ap Ok (append-nil before)
 -- ---- types over parameters
 
 tall_to : (i : ℕ) (a b : Tree) → is_tall b ≡ true → is_tall (Qar i a b) ≡ true
-tall_to i a b e = higher b (Qar i a b) (omega arith) e
+tall_to i a b e = still_above height_limit (height b) (height (Qar i a b)) (omega arith) e
 
 module _ (i : ℕ) (p : Parameter) (ps : List Parameter) (t : Tree) where
   abbrev inner : Tree

@@ -1,15 +1,15 @@
 -- What calls give, said in another way.
-use Rattle.std.proofs.Common.{◌≡◌, ℕ, ◌<◌, List, [], length, ap, sym, subst, ◌∙◌}
+use Rattle.std.proofs.Common.{◌≡◌, ℕ, ◌<◌, Bool, true, List, [], length, refl, ap, sym, subst, ◌∙◌}
 use Rattle.std.specs.Prelude.{Result, Ok, Err}
 use Rattle.std.specs.Result.{IsErrAnd}
 use Rattle.std.proofs.lemmas.List.Elements.{All-nil}
 use Rattle.eo_base.specs.declared.FaultName.TheVariants.{TermHeight}
 use Rattle.eo_base.specs.Answers.{Tells}
 use Rattle.eo_base.specs.Checks.{Checked}
-use Rattle.eo_base.proofs.Answering.{tells_on}
+use Rattle.eo_base.proofs.Answering.{tells_on, tells_through}
 use Rattle.eo_sexp.specs.Sexp.{Sexp, Sexps, Next}
 use Rattle.eo_sig.specs.Reading.{Kept, IsBelow}
-use Rattle.eo_sig.proofs.Same.{stays_grown}
+use Rattle.eo_sig.specs.Growth.{StaysUnder}
 use Rattle.eo_term.specs.Tree.{Tree}
 use Rattle.eo_term.specs.Terms.{Terms}
 use Rattle.eo_term.specs.declared.table.TermRefused.{TermRefused}
@@ -18,9 +18,9 @@ use Rattle.eo_term.specs.Refused.{IsTall}
 use Rattle.eo_term.specs.Growth.{Grows}
 use Rattle.eo_names.specs.declared.locals.LocalName.{LocalName}
 use Rattle.eo_names.specs.declared.refused.ElabRefused.{ElabRefused}
-use Rattle.eo_names.specs.declared.scope.Scope.{Scope}
 use Rattle.eo_elab.specs.declared.plan.Form.{Form}
 use Rattle.eo_names.specs.declared.usage.Use.{Use}
+use Rattle.eo_term.specs.Builds.{TallWhere}
 use Rattle.eo_names.specs.Gives.{GivesTree, GivesTerm}
 use Rattle.eo_elab.specs.Gives.{AddsPair, IsFormed, IsUsed}
 use Rattle.eo_names.specs.Contexts.{Context, Local, InProof}
@@ -29,11 +29,9 @@ use Rattle.eo_elab.specs.Meaning.{without_labels}
 use Rattle.eo_names.specs.Readers.{with_labels}
 use Rattle.eo_names.specs.Names.{Binding, AreBelow, read_pairs}
 use Rattle.eo_names.specs.Refused.{told, of_term}
-use Rattle.eo_names.specs.Scopes.{bound_in}
 use Rattle.eo_names.specs.Ready.{IsReady}
-use Rattle.eo_names.specs.Worlds.{World, Read, world_of, world}
+use Rattle.eo_names.specs.Worlds.{World, Read}
 use Rattle.eo_elab.specs.Worlds.{context_in, more_pairs_in}
-use Rattle.eo_names.proofs.FoldSteps.{keeps_grown}
 
 -- the exit of a `?` refuses a pair for the same fault
 pub adds_fault : (w : World) (old new : Terms) (pair : Sexp) (before after : List Binding) (r : Result (Unit {0}) ElabRefused) (e : ElabRefused) → IsErrAnd r (λ x. x ≡ e)
@@ -49,15 +47,13 @@ pub none_ready : (k : Kept) (n : ℕ) (ls : List LocalName) → ls ≡ [] → Is
 none_ready k n ls e h = record { below = h; names = subst (AreBelow n) (sym e) (All-nil (λ (l : LocalName). l.id < n)) }
 
 -- a table that grows keeps what is read
-pub same_context : (k : Kept) (old new : Terms) → IsBelow (length old.trees) k → Grows old new → context_in new k ≡ context_in old k
-same_context k old new h g = let s = stays_grown k old new h g.now in λ i. record { signature = s.signature i; macros = s.macros i; setting = InProof }
+pub same_context : (k : Kept) (old new : Terms) → StaysUnder k → IsBelow (length old.trees) k → Grows old new → context_in new k ≡ context_in old k
+same_context k old new law h g = let s = (law old new h g).stays in λ i. record { signature = s.signature i; macros = s.macros i; setting = InProof }
 
-module _ (k : Kept) (ls : List LocalName) (old new : Terms) (h : IsReady (length old.trees) k ls) (g : Grows old new) where
-  pub same_world_of : world_of new k ls ≡ world_of old k ls
-  same_world_of = let q = keeps_grown k ls old new h g.now in λ i. record { names = q.context i; locals = q.names i }
-
-  pub still_ready_of : IsReady (length new.trees) k ls
-  still_ready_of = (keeps_grown k ls old new h g.now).ready
+-- what has no label, read with them
+pub labelled : (t : Terms) (r : Result ℕ ElabRefused) (o : Checked Tree) → GivesTree t r o → GivesTerm t r (with_labels [] o)
+labelled t (Ok i) o h = record { live = h.live; is = ap (with_labels []) h.is }
+labelled t (Err e) o h = tells_through told (with_labels []) (λ x. refl) e o h
 
 -- what a list is, and how a head uses its arguments
 module _ (w : World) (t : Terms) (args : List Sexp) where
@@ -77,3 +73,7 @@ used_on c ts (Err e) o p same h = λ ls parts. tells_on told e (o (record { name
 pub refused_as : {A : Type 0} (X : Type 0) (r : TermRefused) (whole : Checked A) → (IsTall {X = X} (Err r) → whole ≡ Err TermHeight) → Tells told (of_term r) whole
 refused_as X term.Tall whole h = h tt
 refused_as X (term.Memory e) whole h = tt
+
+pub tall_told : {A : Type 0} (e : TermRefused) (b : Bool) (whole : Checked A) → (b ≡ true → whole ≡ Err TermHeight) → TallWhere e b → Tells told (of_term e) whole
+tall_told term.Tall b whole f h = f h
+tall_told (term.Memory e) b whole f h = tt

@@ -1,46 +1,38 @@
 -- The definition of what a term means, one step at a time.
-use Rattle.std.proofs.Common.{◌≡◌, ℕ, ◌<◌, ◌≤◌, Bool, true, false, ◌||◌, List, [], ◌∷◌, ◌++◌, map, Some, None, refl, sym, ap, ◌∙◌, arith}
-use Rattle.std.specs.Prelude.{Ok, Err, not, bytes_eq, slice_get}
+use Rattle.std.proofs.Common.{◌≡◌, ℕ, Bool, true, false, List, [], ◌∷◌, ◌++◌, map, Some, None, refl, sym, ap, ◌∙◌}
+use Rattle.std.specs.Prelude.{Ok, Err, not, bytes_eq}
 use Rattle.std.specs.List.{list_any}
 use Rattle.std.proofs.lemmas.Option.{same_Some}
-use Rattle.std.proofs.lemmas.List.{append-nil, append_assoc, map-append}
-use Rattle.std.proofs.lemmas.List.Elements.{All-head, All-tail, All-cons, All-weaker}
+use Rattle.std.proofs.lemmas.List.{append-nil, append_assoc}
 use Rattle.eo_base.specs.Checks.{Checked}
 use Rattle.eo_base.specs.declared.FaultName.{FaultName}
 use Rattle.eo_base.specs.declared.FaultName.TheVariants.{BadCommand, BadArity, Redeclared}
-use Rattle.eo_sexp.specs.declared.Kind.{Kind}
+use Rattle.eo_sexp.specs.AtomKind.{AtomKind}
+use Rattle.eo_sexp.specs.AtomKind as kind
+use Rattle.eo_sexp.specs.Kinds.{sexp_kind}
 use Rattle.eo_sexp.specs.Pairs.{list_of as parts_in, only_two}
-use Rattle.eo_sexp.specs.Sexp.{Sexp, Atom, Listed, Sexps, NoSexp, Next, Span, sexps_of, sexp_kind, sexp_text}
+use Rattle.eo_sexp.specs.Sexp.{Sexp, Atom, Listed, Sexps, NoSexp, Next, Span, sexps_of, sexp_text}
 use Rattle.eo_sig.specs.Reading.{Kept}
 use Rattle.eo_term.specs.Tree.{Tree}
-use Rattle.eo_term.specs.Terms.{Terms, tree_at}
-use Rattle.eo_names.specs.declared.locals.LocalName.{LocalName}
-use Rattle.eo_pattern.specs.Matching.{put}
-use Rattle.eo_names.specs.declared.usage.Use.{Use}
-use Rattle.eo_names.specs.declared.usage.Use.TheVariants as use_
-use Rattle.eo_names.specs.Folding.{applied}
-use Rattle.eo_names.specs.Usage.{made_of, UseBelow}
+use Rattle.eo_term.specs.Terms.{Terms}
 use Rattle.eo_elab.specs.Forms.{application, formed_from, parts_of, all_after, pair_of}
 use Rattle.eo_names.specs.Binders.{list_of, pair_local, variable}
 use Rattle.eo_shape.specs.Words.{symbol_of}
 use Rattle.eo_names.specs.Contexts.{Context, Local, is_list}
-use Rattle.eo_names.specs.Readers.{Label, Reader, ◌>>=◌, give, go_on, unless, built, with_labels}
-use Rattle.eo_elab.specs.Meaning.{ListForm, ALet, AnAnnotation, ABitString, AnApplication, ATermFirst, Wrong, list_form, counted_form, atom, means, means_list, means_all, in_let, in_binder, pair_list, pairs_after}
-use Rattle.eo_names.specs.Names.{Binding, binding_local, read_local, read_locals, read_pairs, AreBelow, BindingsBelow, names_in}
+use Rattle.eo_names.specs.Readers.{Label, Reader, ◌>>=◌, give, go_on, unless, with_labels}
+use Rattle.eo_elab.specs.Meaning.{ListForm, ALet, AnAnnotation, ABitString, AnApplication, ATermFirst, Wrong, counted_form, atom, means, means_list, means_all, in_let, in_binder, pair_list, pairs_after}
+use Rattle.eo_names.specs.Names.{Binding, binding_local, read_locals, read_pairs}
 use Rattle.eo_names.specs.Ready.{context}
 use Rattle.eo_names.specs.declared.scope.Scope.{Scope}
 use Rattle.eo_names.specs.Scopes.{bound_in}
-use Rattle.eo_names.specs.Worlds.{world}
-use Rattle.eo_names.proofs.BindingLemmas.{inside_locals}
+use Rattle.eo_names.specs.Worlds.{World, world}
+use Rattle.eo_names.specs.Laws.{IsInside}
+use Rattle.eo_elab.specs.Gives.{atom_told}
 
 module _ (c : Context) (ls : List Local) where
-  of_atom : (k : Kind) (text : List ℕ) (span : Span) → means c ls (Atom k text span) [] ≡ with_labels [] (atom c ls k text)
+  of_atom : (k : AtomKind) (text : List ℕ) (span : Span) → means c ls (Atom k text span) [] ≡ with_labels [] (atom c ls k text)
   unfolding means
   of_atom k text span = refl
-
-  pub of_no_list : (s : Sexp) → None ≡ parts_in s → means c ls s [] ≡ with_labels [] (atom c ls (sexp_kind s) (sexp_text s))
-  of_no_list (Atom k text span) e = of_atom k text span
-  of_no_list (Listed ss span) e = cc
 
   no_parts : (form : ListForm) → means_list c ls form NoSexp [] ≡ Err BadArity
   unfolding means_list
@@ -144,7 +136,7 @@ module _ (c : Context) (ls : List Local) where
   binder_none collector = refl
 
   -- pairs
-  pairs_atom : (k : Kind) (text : List ℕ) (span : Span) → pair_list c ls (Atom k text span) [] ≡ Err BadCommand
+  pairs_atom : (k : AtomKind) (text : List ℕ) (span : Span) → pair_list c ls (Atom k text span) [] ≡ Err BadCommand
   unfolding pair_list
   pairs_atom k text span = refl
 
@@ -205,8 +197,15 @@ module _ (c : Context) (ls : List Local) where
       pairs_step s t name rest before e ∙ ap (λ b. pair_then rest name t before b []) h ∙ ap (go_on (pair_added rest name before)) m
 
 -- what names stand for inside a `let` or a binder, over a table that has grown
-pub world_inside : (k : Kept) (s inner : Scope) (old new : Terms) → world new k s ≡ world old k s → (bs : List Binding) (ps : List (List ℕ × Tree)) → read_pairs new.trees bs ≡ ps → bound_in inner ≡ map binding_local bs ++ bound_in s
+pub world_inside : (k : Kept) (s inner : Scope) (old new : Terms) → world new k s ≡ world old k s → (bs : List Binding) (ps : List (List ℕ × Tree)) → read_pairs new.trees bs ≡ ps → bound_in inner ≡ map binding_local bs ++ bound_in s → IsInside bs (bound_in s)
     → world new k inner ≡ record { names = context old.trees k; locals = map pair_local ps ++ read_locals old.trees (bound_in s) }
-world_inside k s inner old new same bs ps e h =
-    let seen : read_locals new.trees (bound_in inner) ≡ map pair_local ps ++ read_locals old.trees (bound_in s) = ap (read_locals new.trees) h ∙ inside_locals new.trees (bound_in s) bs ∙ (λ i. map pair_local (e i) ++ (same i).locals) in
+world_inside k s inner old new same bs ps e h inside =
+    let seen : read_locals new.trees (bound_in inner) ≡ map pair_local ps ++ read_locals old.trees (bound_in s) = ap (read_locals new.trees) h ∙ inside.locals new.trees ∙ (λ i. map pair_local (e i) ++ (same i).locals) in
     λ i. record { names = (same i).names; locals = seen i }
+
+pub of_no_list : (w : World) (s : Sexp) → None ≡ parts_in s → means w.names w.locals s [] ≡ with_labels [] (atom_told w (sexp_kind s) (sexp_text s))
+of_no_list w (Atom kind.Symbol text span) e = of_atom w.names w.locals kind.Symbol text span
+of_no_list w (Atom kind.Keyword text span) e = of_atom w.names w.locals kind.Keyword text span
+of_no_list w (Atom kind.Literal text span) e = of_atom w.names w.locals kind.Literal text span
+of_no_list w (Atom kind.String text span) e = of_atom w.names w.locals kind.String text span
+of_no_list w (Listed ss span) e = cc

@@ -2,6 +2,10 @@
 use Rattle.std.specs.Prelude.{◌≡◌, ℕ, ◌<◌, List, [], ◌∷◌, length, map, All, Result, Ok, Err}
 use Rattle.eo_base.specs.Answers.{Gives, Tells}
 use Rattle.eo_base.specs.Checks.{Checked}
+use Rattle.eo_base.specs.declared.FaultName.TheVariants.{UnknownSymbol}
+use Rattle.eo_sexp.specs.declared.Kind.{Kind}
+use Rattle.eo_sexp.specs.declared.Kind.TheVariants as told_kind
+use Rattle.eo_sexp.specs.AtomKind as kind
 use Rattle.eo_sexp.specs.Sexp.{Sexp, Sexps, Next}
 use Rattle.eo_sig.specs.declared.records.Attribute as code_attribute
 use Rattle.eo_sig.specs.declared.records.ConstDecl.{ConstDecl}
@@ -23,10 +27,18 @@ use Rattle.eo_elab.specs.Forms.{Parts}
 use Rattle.eo_names.specs.Names.{Binding, read_pairs, BindingsBelow}
 use Rattle.eo_names.specs.Refused.{told}
 use Rattle.eo_names.specs.Worlds.{World, Read}
-use Rattle.eo_elab.specs.Worlds.{context_in, form_in, used_in, application_in, word_in, meant_in, applied_in, more_pairs_in}
+use Rattle.eo_elab.specs.Worlds.{context_in, atom_in, form_in, used_in, application_in, word_in, meant_in, applied_in, more_pairs_in}
 use Rattle.eo_names.specs.declared.symbols.Meant as code_meant
 use Rattle.eo_names.specs.Symbols.{read_meant}
 use Rattle.eo_names.specs.Ready.{context}
+
+-- an atom of the kind that is told; a list is none
+abbrev pub atom_told : World → Kind → List ℕ → Checked Tree
+atom_told w told_kind.Symbol text = atom_in w kind.Symbol text
+atom_told w told_kind.Keyword text = atom_in w kind.Keyword text
+atom_told w told_kind.Literal text = atom_in w kind.Literal text
+atom_told w told_kind.String text = atom_in w kind.String text
+atom_told w told_kind.List text = Err UnknownSymbol
 
 -- the ids of terms; those of trees that are read with no label, and names with ids
 abbrev pub GivesTrees : Terms → Result (List ℕ) ElabRefused → Checked (List Tree) → Type 0

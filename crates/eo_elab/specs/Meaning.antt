@@ -6,17 +6,16 @@ use Rattle.eo_base.specs.declared.FaultName.TheVariants.{BadLiteral, BadCommand,
 use Rattle.eo_base.specs.Checks.{Checked, value_or}
 use Rattle.eo_lit.specs.Literals.{Literal, Number, BitString, literal_value, string_value, numeral}
 use Rattle.eo_pattern.specs.Matching.{put}
-use Rattle.eo_sexp.specs.declared.Kind.{Kind}
-use Rattle.eo_sexp.specs.declared.Kind.TheVariants as kind
+use Rattle.eo_sexp.specs.AtomKind.{AtomKind}
+use Rattle.eo_sexp.specs.AtomKind as kind
 use Rattle.eo_sexp.specs.Sexp.{Sexp, Atom, Listed, Sexps, NoSexp, Next, children_of}
 use Rattle.eo_shape.specs.Words.{symbol_of, keyword_of, numeral_of, is_some_word}
 use Rattle.eo_sig.specs.Signature.{Attribute, Binder, is_free}
-use Rattle.eo_term.specs.declared.OpCode.{OpCode}
 use Rattle.eo_term.specs.Tree.{Tree, Con, Num, Bits, Str, Op, to_trees}
 use Rattle.eo_names.specs.Binders.{pair_local, variable, list_of}
-use Rattle.eo_names.specs.Contexts.{Setting, InProof, InReference, InAssert, Context, Local, is_reference, is_assert, is_list}
+use Rattle.eo_names.specs.Contexts.{Setting, InAssert, Context, Local, is_reference, is_assert, is_list}
 use Rattle.eo_names.specs.Meanings.{Meant, ATree, AMacro, AnOperator, Nothing, meant, Word, Underscore, Arrow, Let, Annotation, Name, word_of}
-use Rattle.eo_names.specs.Readers.{Label, Reader, go_on, ◌>>=◌, give, fail, with_labels, read, unless, built}
+use Rattle.eo_names.specs.Readers.{Label, Reader, ◌>>=◌, give, fail, with_labels, read, unless, built}
 use Rattle.eo_names.specs.Folding.{applied, attribute_at, least, folded, arrow, plainly}
 
 -- ---- atoms
@@ -35,7 +34,7 @@ abbrev pub word_alone : Word → Meant → Checked Tree
 word_alone Name m = tree_alone m
 word_alone w m = Err BadArity
 
-unfoldable pub atom : Context → List Local → Kind → List ℕ → Checked Tree
+unfoldable pub atom : Context → List Local → AtomKind → List ℕ → Checked Tree
 atom c locals kind.Symbol text = word_alone (word_of c.setting text) (meant c locals text)
 atom c locals kind.Literal text = value_or BadLiteral (option_map literal_tree (literal_value text))
 atom c locals kind.String text = value_or BadLiteral (option_map Str (string_value text))

@@ -1,30 +1,21 @@
 -- What is read in a scope, over a table and a signature: the definitions of meaning at the code's own values.
-use Rattle.std.specs.Prelude.{ℕ, List, [], map}
+use Rattle.std.specs.Prelude.{ℕ, List, []}
 use Rattle.eo_base.specs.Checks.{Checked}
-use Rattle.eo_sexp.specs.declared.Kind.{Kind}
+use Rattle.eo_sexp.specs.AtomKind.{AtomKind}
 use Rattle.eo_sexp.specs.Sexp.{Sexp, Sexps, Listed, Span, sexps_of}
 use Rattle.eo_shape.specs.Words.{symbol_of}
 use Rattle.eo_sig.specs.Reading.{Kept}
 use Rattle.eo_term.specs.Terms.{Terms}
 use Rattle.eo_term.specs.Tree.{Tree}
 use Rattle.eo_elab.specs.declared.plan.Form.{Form}
-use Rattle.eo_names.specs.declared.scope.Scope.{Scope}
 use Rattle.eo_names.specs.declared.usage.Use.{Use}
-use Rattle.eo_names.specs.Folding.{folded}
-use Rattle.eo_names.specs.Grouped.{if_low}
 use Rattle.eo_elab.specs.Forms.{Parts, parts_of, application, tree_application, meant_application, word_application, headed, formed, arguments_used, arguments_for, all_after}
-use Rattle.eo_names.specs.Binders.{list_of, variable}
-use Rattle.eo_names.specs.Contexts.{Context, Local, is_list}
-use Rattle.eo_names.specs.Readers.{Label}
+use Rattle.eo_names.specs.Contexts.{Context}
 use Rattle.eo_elab.specs.Meaning.{atom, meaning, means, means_all, in_let, in_binder, pair_list, pairs_after}
 use Rattle.eo_names.specs.Meanings.{Meant, word_of, meant}
-use Rattle.eo_names.specs.Names.{read_locals}
-use Rattle.eo_names.specs.Usage.{made_of}
-use Rattle.eo_names.specs.Scopes.{bound_in}
 use Rattle.eo_names.specs.Ready.{context}
 use Rattle.eo_names.specs.Worlds.{World, Read}
 use Rattle.eo_elab.specs.Declarations.{meanings, constant_meant, attribute}
-use Rattle.eo_names.specs.declared.locals.LocalName.{LocalName}
 use Rattle.eo_shape.specs.declared.AttributeShape.{AttributeShape}
 use Rattle.eo_shape.specs.Reading.{read_attribute}
 use Rattle.eo_sig.specs.Signature.{Attribute}
@@ -56,7 +47,7 @@ module _ (w : World) where
   term_in s = means w.names w.locals s []
 
   -- an atom alone
-  abbrev pub atom_in : Kind → List ℕ → Checked Tree
+  abbrev pub atom_in : AtomKind → List ℕ → Checked Tree
   atom_in kind text = atom w.names w.locals kind text
 
   -- a list of these

@@ -6,12 +6,13 @@ ghost use Rattle.eo_lit.specs.Literals.{literal_value, string_value};
 ghost use Rattle.eo_term.specs.Tree.{Str};
 ghost use Rattle.eo_term.specs.Growth.{Grows};
 ghost use Rattle.eo_elab.specs.Meaning.{tree_alone, literal_tree};
-ghost use Rattle.eo_sexp.specs.declared.Kind.TheVariants as kinds;
+ghost use Rattle.eo_sexp.specs.AtomKind as kinds;
 ghost use Rattle.eo_names.specs.Symbols.{read_meant, IsLive};
 ghost use Rattle.eo_names.specs.Gives.{GivesTree};
 ghost use Rattle.eo_names.specs.Scopes.{bound_in};
 ghost use Rattle.eo_names.specs.Ready.{IsReady};
 ghost use Rattle.eo_names.specs.Worlds.{world};
+ghost use Rattle.eo_elab.specs.Gives.{atom_told};
 ghost use Rattle.eo_elab.specs.Worlds.{atom_in};
 
 use crate::ElabRefused;
@@ -38,7 +39,7 @@ pub(crate) fn atom(
     table: &mut Table,
 ) -> Result<Id, ElabRefused>
     requires { IsReady (length table.old.trees) sig.now (bound_in scope.now) }
-    ensures gives { GivesTree table.new result (atom_in (world table.old sig.now scope.now) kind text.now) }
+    ensures gives { GivesTree table.new result (atom_told (world table.old sig.now scope.now) kind text.now) }
     ensures grows { Grows table.old table.new }
 {
     match kind {

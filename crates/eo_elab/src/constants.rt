@@ -15,6 +15,7 @@ ghost use Rattle.eo_elab.specs.Worlds.{meanings_in, attribute_in, constant_in};
 
 use crate::{ElabRefused, Locals, term};
 use eo_base::Name;
+use eo_names::names_law;
 use eo_sexp::{Children, Sexp};
 use eo_shape::AttributeShape;
 use eo_sig::{Attribute, ConstDecl, Entry, Param, Params, Signature};
@@ -52,6 +53,7 @@ pub(crate) fn meanings(
     ensures gives { GivesTrees table.new result (meanings_in (world_of table.old sig.now locals.now) terms.now) }
     ensures grows { Grows table.old table.new }
 {
+    names_law();
     let mut ids = Ids::new(alloc);
     for s in terms.again() {
         let id = term(alloc, &s, locals, sig, table)?;

@@ -20,7 +20,7 @@ use crate::parameters::{Bound, bind, parameter};
 use crate::{ElabRefused, Locals, term};
 use eo_base::Name;
 use eo_base::limits::PARAMETERS;
-use eo_names::function_type;
+use eo_names::{function_type, names_law};
 use eo_sexp::{Children, Sexp};
 use eo_shape::{AttributeShape, Command, ParameterShapes, command_of};
 use eo_sig::{Attribute, ConstDecl, Declaration, LiteralClass, MacroDecl, Signature};
@@ -165,6 +165,7 @@ fn typed(
     ensures gives { GivesTyped table.new result (typed (context_in table.old sig.now) [] ty.now (read_attribute attribute.now)) }
     ensures grows { Grows table.old table.new }
 {
+    names_law();
     let none = Locals::new(alloc)?;
     let ty = term(alloc, ty, &none, sig, table)?;
     let attribute = attribute_meant(alloc, attribute, &none, sig, table)?;
@@ -213,6 +214,7 @@ fn type_of_function(
     ensures gives { GivesTree table.new result (type_of_function (context_in table.old sig.now) inputs.now output.now) }
     ensures grows { Grows table.old table.new }
 {
+    names_law();
     let none = Locals::new(alloc)?;
     let mut types = meanings(alloc, inputs, &none, sig, table)?;
     let output = term(alloc, output, &none, sig, table)?;
@@ -305,6 +307,7 @@ fn typed_over(
     ensures gives { GivesTyped table.new result (typed_over_in table.old sig.now bound.now ty.now attribute.now) }
     ensures grows { Grows table.old table.new }
 {
+    names_law();
     let result = term(alloc, ty, &bound.locals, sig, table)?;
     let whole = bound_type(table, 0, bound.params.as_slice(), result)?;
     prove!(table.height(whole) <= HEIGHT_LIMIT);

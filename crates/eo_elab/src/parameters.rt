@@ -14,6 +14,7 @@ ghost use Rattle.eo_elab.specs.Worlds.{context_in};
 
 use crate::{ElabRefused, Locals, term};
 use eo_base::Name;
+use eo_names::names_law;
 use eo_shape::{ParameterShape, ParameterShapes};
 use eo_sig::{Param, Params, Signature};
 use eo_term::{Id, Node, Table};
@@ -43,6 +44,7 @@ pub(crate) fn bind(
     ensures count { IfOk result (λ b. length b.params ≡ length shapes.now) }
     ensures grows { Grows table.old table.new }
 {
+    sig.laws();
     let mut bound = no_parameters(alloc)?;
     for shape in shapes.again() {
         bound.read(alloc, &shape, sig, table)?;
@@ -76,6 +78,7 @@ impl Bound {
         ensures count { OnOk result (length self.new.params ≡ suc (length self.old.params)) }
         ensures grows { Grows table.old table.new }
     {
+        names_law();
         if self.has(shape.name) {
             return Err(ElabRefused::Redeclared);
         }

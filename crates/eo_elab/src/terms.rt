@@ -8,7 +8,7 @@ ghost use Rattle.eo_elab.specs.Worlds.{meaning_in};
 
 use crate::walk::mean;
 use crate::{ElabRefused, Locals};
-use eo_names::Scope;
+use eo_names::{Scope, names_law};
 use eo_sexp::{Children, Sexp};
 use eo_sig::Signature;
 use eo_term::{Id, Table};
@@ -41,5 +41,6 @@ pub fn term(
     ensures grows { Grows table.old table.new }
     ensures keeps { Keeps sig.now locals.now table.old.trees table.new.trees }
 {
+    names_law();
     mean(alloc, s, &Scope::Outer(locals), sig, table)
 }

@@ -15,7 +15,7 @@ use crate::ElabRefused;
 use crate::atoms::atom;
 use crate::plan::{Form, form_of, use_of_term};
 use crate::shapes::pair_of;
-use eo_names::{Bindings, Scope, Use, bind, use_arguments};
+use eo_names::{Bindings, Scope, Use, bind, names_law, use_arguments};
 use eo_sexp::{Children, Sexp};
 use eo_sig::Signature;
 use eo_term::{Id, Ids, Table};
@@ -81,6 +81,7 @@ fn mean_head(
     ensures gives { GivesTerm table.new result (headed_in (world table.old sig.now scope.now) head.now args.now) }
     ensures grows { Grows table.old table.new }
 {
+    names_law();
     let f = mean(alloc, head, scope, sig, table)?;
     let used = use_of_term(f, args, sig, table)?;
     mean_use(alloc, &used, args, scope, sig, table)
@@ -102,6 +103,7 @@ fn mean_use(
     ensures gives { (h : Sexp) → GivesTerm table.new result (use_in (world table.old sig.now scope.now) table.old h args.now used.now) }
     ensures grows { Grows table.old table.new }
 {
+    names_law();
     let ids = mean_arguments(alloc, used, args, scope, sig, table)?;
     use_arguments(alloc, *used, ids.as_slice(), scope, sig, table)
 }
@@ -147,6 +149,7 @@ fn mean_all(
     ensures count { IfOk result (λ ids. length ids ≡ length before + length terms.now) }
     ensures grows { Grows table.old table.new }
 {
+    names_law();
     let mut ids = before;
     for s in terms.again() {
         let id = mean(alloc, &s, scope, sig, table)?;
@@ -168,6 +171,7 @@ fn mean_let(
     ensures gives { GivesTerm table.new result (let_in (world table.old sig.now scope.now) args.now) }
     ensures grows { Grows table.old table.new }
 {
+    names_law();
     let Some((pairs, body)) = args.only_two() else {
         return Err(ElabRefused::BadCommand);
     };
@@ -189,6 +193,7 @@ fn mean_bound(
     ensures gives { GivesTerms table.new result (binder_in (world table.old sig.now scope.now) args.now collector) }
     ensures grows { Grows table.old table.new }
 {
+    names_law();
     let Some((pairs, others)) = args.split_first() else {
         return Err(ElabRefused::BadCommand);
     };
@@ -220,6 +225,7 @@ fn mean_pairs(
     ensures gives { GivesPairs table.new result (pairs_in (world table.old sig.now scope.now) pairs.now) }
     ensures grows { Grows table.old table.new }
 {
+    names_law();
     let Some(children) = pairs.list() else {
         return Err(ElabRefused::BadCommand);
     };

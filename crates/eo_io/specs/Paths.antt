@@ -18,8 +18,8 @@ abbrev pub folder : List ℕ → List ℕ
 folder path = if list_any is_slash path then before_last is_slash path ++ 47 ∷ [] else []
 
 -- the path as the file that names it means it
-abbrev pub joined : (from name : List ℕ) → List ℕ
-joined from name = if is_absolute name then name else folder from ++ name
+abbrev pub seen_from : (from name : List ℕ) → List ℕ
+seen_from from name = if is_absolute name then name else folder from ++ name
 
 -- `..` drops the part before it, where there is one that is no `..`, and is dropped at the root
 abbrev pub up : Bool → List (List ℕ) → List (List ℕ)
@@ -51,7 +51,7 @@ folded path = if is_utf8 path then path_of_parts (is_absolute path) (parts_of pa
 
 -- The path of a file that is named in the file `from`, or among the words, where `from` is empty. None where it is bad: it is no UTF-8, no part of it stays, or it is too long.
 abbrev pub fold_path : (from name : List ℕ) → Option (List ℕ)
-fold_path from name = folded (joined from name)
+fold_path from name = folded (seen_from from name)
 
 -- The table of paths after one more is added: a path that is there keeps its number, and another goes last.
 abbrev pub with_path : List (List ℕ) → List ℕ → List (List ℕ)

@@ -9,7 +9,6 @@ use Rattle.eo_base.proofs.Tests.{or_first, or_second}
 use Rattle.eo_base.specs.declared.FaultName.TheVariants.{TermHeight, BadArity}
 use Rattle.eo_sig.specs.Signature.{Signature, Attribute, Plain, RightNil, LeftNil, Right, Left, Chain, Pairs, Binder}
 use Rattle.eo_term.specs.Tree.{Tree, Con, Var, App, is_tall}
-use Rattle.eo_term.proofs.Heights.{tall_second}
 use Rattle.eo_term.specs.Terms.{tree_at}
 use Rattle.indexmap.specs.Layout.{set_value_at}
 use Rattle.eo_names.specs.Folding.{folded, folded_within, by_attribute, attribute_at, least, applied_to_two}
@@ -18,7 +17,7 @@ use Rattle.eo_names.specs.Grouped.{if_low}
 use Rattle.eo_names.specs.Readers.{◌>>=◌, read, built, give, unless, with_labels}
 use Rattle.eo_names.specs.Contexts.{is_list, Local}
 use Rattle.eo_names.specs.Names.{Binding, read_pairs, BindingsBelow, with_term}
-use Rattle.eo_names.proofs.FoldLemmas.{tall_left, tall_right}
+use Rattle.eo_names.proofs.FoldLemmas.{tall_second, tall_left, tall_right}
 use Rattle.eo_names.proofs.FoldSteps.{too_few, not_too_few}
 use Rattle.eo_names.proofs.FoldTall.{too_tall, folded_tall}
 
@@ -145,10 +144,10 @@ ids_trees ts (b ∷ bs) = ap (λ us. tree_at ts b.1 ∷ us) (ids_trees ts bs)
 
 -- ---- the code
 
-pub set_seen : {K : Type 0} (text : K → List ℕ) (es : List (K × ℕ)) (i w : ℕ) → map (λ (e : K × ℕ). (text e.0, e.1)) (set_value_at es i w) ≡ with_term (map (λ (e : K × ℕ). (text e.0, e.1)) es) i w
-set_seen text [] i w = refl
-set_seen text (e ∷ es) zero w = refl
-set_seen text (e ∷ es) (suc i) w = ap (λ bs. (text e.0, e.1) ∷ bs) (set_seen text es i w)
+pub set_seen : (es : List Binding) (i w : ℕ) → set_value_at es i w ≡ with_term es i w
+set_seen [] i w = refl
+set_seen (e ∷ es) zero w = refl
+set_seen (e ∷ es) (suc i) w = ap (λ bs. e ∷ bs) (set_seen es i w)
 
 pub length_pairs : (ts : List Tree) (bs : List Binding) → length (read_pairs ts bs) ≡ length bs
 length_pairs ts [] = refl

@@ -11,40 +11,34 @@ use Rattle.eo_term.specs.Terms.{tree_at}
 use Rattle.eo_names.specs.Contexts.{Local, local_named}
 use Rattle.eo_names.specs.Names.{Binding, BindingsBelow, read_bindings, names_in}
 
-pub values_bound : {V : Type 0} (items : V → List ℕ) (es : List (V × ℕ)) → values_of es ≡ map (λ (b : Binding). b.1) (map (λ (e : V × ℕ). (items e.0, e.1)) es)
-values_bound items [] = refl
-values_bound items (e ∷ es) = ap (λ is. e.1 ∷ is) (values_bound items es)
+pub values_bound : (es : List Binding) → values_of es ≡ map (λ (b : Binding). b.1) es
+values_bound [] = refl
+values_bound (e ∷ es) = ap (λ is. e.1 ∷ is) (values_bound es)
 
-module _ {V : Type 0} (items : V → List ℕ) (name : List ℕ) where
-  abbrev pub shown : List (V × ℕ) → List Binding
-  shown es = map (λ (e : V × ℕ). (items e.0, e.1)) es
-
-  abbrev test : V → Bool
-  test v = bytes_eq name (items v)
-
-  pub lookup_local : (ts : List Tree) (es : List (V × ℕ)) → option_map (tree_at ts) (lookup test es) ≡ local_named (read_bindings ts (shown es)) name
+module _ (name : List ℕ) where
+  pub lookup_local : (ts : List Tree) (es : List Binding) → option_map (tree_at ts) (lookup (bytes_eq name) es) ≡ local_named (read_bindings ts es) name
   lookup_local ts [] = refl
-  lookup_local ts (e ∷ es) = by (bytes_eq name (items e.0)) (bytes_eq (items e.0) name) (bytes_eq-flip name (items e.0)) (lookup_local ts es)
+  lookup_local ts (e ∷ es) = by (bytes_eq name e.0) (bytes_eq e.0 name) (bytes_eq-flip name e.0) (lookup_local ts es)
     where
-      by : (a b : Bool) → a ≡ b → option_map (tree_at ts) (lookup test es) ≡ local_named (read_bindings ts (shown es)) name → option_map (tree_at ts) (cond a (Some e.1) (lookup test es)) ≡ option_map (λ (l : Local). l.tree) (cond b (Some (record { name = items e.0; tree = tree_at ts e.1; list = false })) (find (λ (l : Local). bytes_eq l.name name) (read_bindings ts (shown es))))
+      by : (a b : Bool) → a ≡ b → option_map (tree_at ts) (lookup (bytes_eq name) es) ≡ local_named (read_bindings ts es) name → option_map (tree_at ts) (cond a (Some e.1) (lookup (bytes_eq name) es)) ≡ option_map (λ (l : Local). l.tree) (cond b (Some (record { name = e.0; tree = tree_at ts e.1; list = false })) (find (λ (l : Local). bytes_eq l.name name) (read_bindings ts es)))
       by true true h rest = refl
       by false false h rest = rest
       by true false h rest = absurd (true≢false h)
       by false true h rest = absurd (true≢false (sym h))
 
-  pub lookup_live : (n : ℕ) (es : List (V × ℕ)) → BindingsBelow n (shown es) → IfSome (lookup test es) (λ i. i < n)
+  pub lookup_live : (n : ℕ) (es : List Binding) → BindingsBelow n es → IfSome (lookup (bytes_eq name) es) (λ i. i < n)
   lookup_live n [] h = tt
-  lookup_live n (e ∷ es) h = by (bytes_eq name (items e.0)) (lookup_live n es (All-tail (λ (b : Binding). b.1 < n) (items e.0, e.1) (shown es) h))
+  lookup_live n (e ∷ es) h = by (bytes_eq name e.0) (lookup_live n es (All-tail (λ (b : Binding). b.1 < n) e es h))
     where
-      by : (a : Bool) → IfSome (lookup test es) (λ i. i < n) → IfSome (cond a (Some e.1) (lookup test es)) (λ i. i < n)
-      by true rest = All-head (λ (b : Binding). b.1 < n) (items e.0, e.1) (shown es) h
+      by : (a : Bool) → IfSome (lookup (bytes_eq name) es) (λ i. i < n) → IfSome (cond a (Some e.1) (lookup (bytes_eq name) es)) (λ i. i < n)
+      by true rest = All-head (λ (b : Binding). b.1 < n) e es h
       by false rest = rest
 
-  pub lookup_names : (es : List (V × ℕ)) → is_some (lookup test es) ≡ names_in (shown es) name
+  pub lookup_names : (es : List Binding) → is_some (lookup (bytes_eq name) es) ≡ names_in es name
   lookup_names [] = refl
-  lookup_names (e ∷ es) = by (bytes_eq name (items e.0)) (bytes_eq (items e.0) name) (bytes_eq-flip name (items e.0)) (lookup_names es)
+  lookup_names (e ∷ es) = by (bytes_eq name e.0) (bytes_eq e.0 name) (bytes_eq-flip name e.0) (lookup_names es)
     where
-      by : (a b : Bool) → a ≡ b → is_some (lookup test es) ≡ names_in (shown es) name → is_some (cond a (Some e.1) (lookup test es)) ≡ (b || names_in (shown es) name)
+      by : (a b : Bool) → a ≡ b → is_some (lookup (bytes_eq name) es) ≡ names_in es name → is_some (cond a (Some e.1) (lookup (bytes_eq name) es)) ≡ (b || names_in es name)
       by true true h rest = refl
       by false false h rest = rest
       by true false h rest = absurd (true≢false h)
@@ -54,5 +48,5 @@ module _ {V : Type 0} (items : V → List ℕ) (name : List ℕ) where
   none_found None h = refl
   none_found (Some i) h = absurd (true≢false h)
 
-  pub lookup_absent : (es : List (V × ℕ)) → names_in (shown es) name ≡ false → lookup test es ≡ None
-  lookup_absent es h = none_found (lookup test es) (lookup_names es ∙ h)
+  pub lookup_absent : (es : List Binding) → names_in es name ≡ false → lookup (bytes_eq name) es ≡ None
+  lookup_absent es h = none_found (lookup (bytes_eq name) es) (lookup_names es ∙ h)

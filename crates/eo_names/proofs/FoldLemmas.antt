@@ -1,7 +1,7 @@
 -- Folds over lists of trees, from a place on.
 use Rattle.std.proofs.Common.{◌≡◌, ℕ, zero, suc, ◌+◌, ◌<◌, ◌≤◌, true, Bool, List, [], ◌∷◌, map, drop, fold, length, get_or, false, refl, sym, ap, ◌∙◌, subst, All, arith}
 use Rattle.std.proofs.lemmas.List.{at_drop_more}
-use Rattle.std.proofs.lemmas.Bool.{lt-ltb, ltb-true}
+use Rattle.eo_base.proofs.Tests.{still_above}
 use Rattle.eo_base.specs.Limits.{height_limit}
 use Rattle.eo_term.specs.Tree.{Tree, Con, App, Arr, height, is_tall}
 use Rattle.eo_term.specs.Terms.{tree_at}
@@ -12,7 +12,13 @@ use Rattle.eo_names.specs.Names.{read_locals, AreBelow}
 use Rattle.eo_names.specs.Folding.{applied_to_two, list_onto, last_onto, right_nil}
 
 pub higher : (t u : Tree) → height t ≤ height u → is_tall t ≡ true → is_tall u ≡ true
-higher t u h e = let l = ltb-true height_limit (height t) e in lt-ltb height_limit (height u) (omega (arith, h, l))
+higher t u h e = still_above height_limit (height t) (height u) h e
+
+pub tall_first : (a b : Tree) → is_tall a ≡ true → is_tall (App a b) ≡ true
+tall_first a b e = higher a (App a b) (omega arith) e
+
+pub tall_second : (a b : Tree) → is_tall b ≡ true → is_tall (App a b) ≡ true
+tall_second a b e = higher b (App a b) (omega arith) e
 
 pub tall_left : (f a b : Tree) → is_tall a ≡ true → is_tall (applied_to_two f a b) ≡ true
 tall_left f a b e = higher a (applied_to_two f a b) (omega arith) e

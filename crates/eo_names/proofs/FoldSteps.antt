@@ -6,18 +6,11 @@ use Rattle.eo_base.specs.Limits.{height_limit}
 use Rattle.eo_base.specs.declared.FaultName.TheVariants.{BadArity, TermHeight}
 use Rattle.eo_base.specs.Checks.{Checked}
 use Rattle.eo_term.specs.Tree.{Tree, Con, height, is_tall}
-use Rattle.eo_term.specs.Terms.{Terms, Since}
 use Rattle.eo_sig.specs.Signature.{Signature, Attribute, Plain, RightNil, LeftNil, Right, Left, Chain, Pairs, Binder}
-use Rattle.eo_sig.specs.Reading.{Kept}
-use Rattle.eo_sig.proofs.Same.{signature_grown, macros_grown, below_grown}
-use Rattle.eo_names.specs.declared.locals.LocalName.{LocalName}
 use Rattle.eo_names.specs.Folding.{applied, right_nil, left_nil, right, left, links, all_pairs, least, attribute_at, by_attribute, folded_within}
 use Rattle.eo_names.specs.Grouped.{grouped, joined_items, if_low}
 use Rattle.eo_names.specs.Turns.{is_tall_turn}
 use Rattle.eo_names.proofs.FoldTall.{too_tall, three, links_more, pairs_more, folded_tall}
-use Rattle.eo_names.specs.Contexts.{InProof}
-use Rattle.eo_names.specs.Ready.{IsReady, Keeps}
-use Rattle.eo_names.proofs.FoldLemmas.{locals_grown, names_more}
 
 -- by turns
 module _ (S : Signature) (il : Tree → Bool) (k : ℕ) (us : List Tree) where
@@ -60,14 +53,3 @@ low_term t l = by (is_tall t) (grind (arith, nat_tests))
     by : (b : Bool) → b ≡ false → ◌≡◌ {A = Checked Tree} (if b then Err TermHeight else Ok t) (Ok t)
     by true h = absurd (true≢false h)
     by false h = refl
-
--- a table that grows keeps what names stand for
-pub keeps_grown : (k : Kept) (ls : List LocalName) (old new : Terms) → IsReady (length old.trees) k ls → Since old new → Keeps k ls old.trees new.trees
-keeps_grown k ls old new h g =
-    let s = signature_grown old new k h.below g in
-    let m = macros_grown old new k h.below g in
-    record {
-      context = λ i. record { signature = s i; macros = m i; setting = InProof };
-      names = locals_grown ls old.trees new.trees (length old.trees) h.names g.tree;
-      ready = record { below = below_grown old new k g h.below; names = names_more ls (length old.trees) (length new.trees) g.more_trees h.names };
-    }

@@ -1,10 +1,11 @@
 -- What a constant makes of its arguments in turn, from a place on.
 use Rattle.std.proofs.Common.{◌≡◌, ℕ, zero, suc, ◌+◌, ◌-◌, ◌<◌, ◌≤◌, true, List, [], ◌∷◌, ◌++◌, map, drop, length, get_or, All, refl, sym, ap, ◌∙◌, arith}
 use Rattle.std.specs.List.{list_any}
-use Rattle.std.proofs.lemmas.List.{map-append, append-nil, at_drop_more, drop-map, take_all}
+use Rattle.std.proofs.lemmas.List.{append-nil, at_drop_more, drop-map, take_all}
 use Rattle.std.proofs.Common.{append_assoc, length-drop, take}
-use Rattle.std.proofs.lemmas.List.Elements.{All-head, All-tail, All-weaker, All-push, All-drop}
+use Rattle.std.proofs.lemmas.List.Elements.{All-drop}
 use Rattle.std.proofs.lemmas.List.{length-map}
+use Rattle.eo_base.proofs.Elements.{map_same, push_same}
 use Rattle.eo_term.specs.Tree.{Tree, Con, is_tall}
 use Rattle.eo_term.specs.Terms.{tree_at}
 use Rattle.eo_names.specs.Folding.{applied_to_two, links, all_pairs}
@@ -14,11 +15,10 @@ use Rattle.eo_names.proofs.FoldTall.{HasTall, any_at, any_first, any_second}
 -- numbers keep their trees where a table grows
 module _ (n : ℕ) (ts us : List Tree) (same : (i : ℕ) → i < n → tree_at us i ≡ tree_at ts i) where
   pub map_grown : (is : List ℕ) → All (λ i. i < n) is → map (tree_at us) is ≡ map (tree_at ts) is
-  map_grown [] h = refl
-  map_grown (i ∷ is) h = λ k. same i (All-head (λ j. j < n) i is h) k ∷ map_grown is (All-tail (λ j. j < n) i is h) k
+  map_grown = map_same n (tree_at ts) (tree_at us) same
 
   pub push_grown : (made : List ℕ) (i : ℕ) (t : Tree) → All (λ j. j < n) made → tree_at us i ≡ t → map (tree_at us) (made ++ i ∷ []) ≡ map (tree_at ts) made ++ t ∷ []
-  push_grown made i t h e = map-append (tree_at us) made (i ∷ []) ∙ (λ k. map_grown made h k ++ e k ∷ [])
+  push_grown = push_same n (tree_at ts) (tree_at us) same
 
   -- f and a with each of those from place k on
   pub pairs_grown : (f a : ℕ) (is : List ℕ) (k : ℕ) → f < n → a < n → All (λ i. i < n) is
@@ -26,9 +26,6 @@ module _ (n : ℕ) (ts us : List Tree) (same : (i : ℕ) → i < n → tree_at u
   pairs_grown f a is k g b h =
       (λ j. map (applied_to_two (tree_at us f) (tree_at us a)) (map (tree_at us) (take_all (length is - k) (drop k is) (omega (arith, length-drop k is)) j)))
       ∙ (λ j. map (applied_to_two (same f g j) (same a b j)) (map_grown (drop k is) (All-drop (λ i. i < n) k is h) j))
-
-pub push_live : (n m i : ℕ) (made : List ℕ) → n ≤ m → i < m → All (λ j. j < n) made → All (λ j. j < m) (made ++ i ∷ [])
-push_live n m i made l b h = All-push (λ j. j < m) made i (All-weaker (λ j. j < n) (λ j. j < m) (λ j q. omega arith) made h) b
 
 -- what was made, and what is left to make
 module _ (made : List Tree) (t : Tree) (rest whole : List Tree) where

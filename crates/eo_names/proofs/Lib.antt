@@ -1,4 +1,3 @@
-pub mod Outcomes
 pub mod FoldLemmas
 pub mod FoldTall
 pub mod FoldSteps

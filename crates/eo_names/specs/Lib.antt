@@ -13,3 +13,4 @@ pub mod Turns
 pub mod Usage
 pub mod Worlds
 pub mod Gives
+pub mod Laws

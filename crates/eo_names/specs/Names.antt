@@ -1,8 +1,8 @@
 -- Local names as the program keeps them, with numbers of terms, and the names of trees that they are over a list of trees.
-use Rattle.std.specs.Prelude.{ℕ, zero, suc, ◌<◌, Bool, false, List, [], ◌∷◌, map, All, bytes_eq}
+use Rattle.std.specs.Prelude.{◌≡◌, ℕ, zero, suc, ◌<◌, Bool, false, List, [], ◌∷◌, ◌++◌, map, All, bytes_eq}
 use Rattle.std.specs.List.{list_any}
 use Rattle.eo_term.specs.Tree.{Tree}
-use Rattle.eo_term.specs.Terms.{tree_at}
+use Rattle.eo_term.specs.Terms.{tree_at, SameTrees}
 use Rattle.eo_names.specs.declared.locals.LocalName.{LocalName}
 use Rattle.eo_names.specs.Contexts.{Local}
 
@@ -39,6 +39,11 @@ names_in bs name = list_any (λ (b : Binding). bytes_eq b.0 name) bs
 -- names with the trees of their terms
 abbrev pub read_pairs : List Tree → List Binding → List (List ℕ × Tree)
 read_pairs ts bs = map (λ (b : Binding). (b.0, tree_at ts b.1)) bs
+
+-- where trees stay, one name more is read behind those that were there
+abbrev pub ReadsOneMore : List Binding → List ℕ → ℕ → List Binding → Type 0
+ReadsOneMore old name id new =
+    (n : ℕ) (ts us : List Tree) → BindingsBelow n old → SameTrees n ts us → read_pairs us new ≡ read_pairs ts old ++ (name, tree_at us id) ∷ []
 
 -- another term at a place
 abbrev pub with_term : List Binding → ℕ → ℕ → List Binding

@@ -9,7 +9,8 @@ ghost use Rattle.eo_names.specs.Scopes.{bound_in};
 ghost use Rattle.eo_names.specs.Usage.{plain_tree, UseBelow, Suits};
 ghost use Rattle.eo_names.specs.Ready.{IsReady};
 ghost use Rattle.eo_term.specs.Growth.{tree_in, trees_in, Grows};
-ghost use Rattle.eo_names.specs.Gives.{Builds, GivesTerm};
+ghost use Rattle.eo_term.specs.Builds.{Builds};
+ghost use Rattle.eo_names.specs.Gives.{GivesTerm};
 ghost use Rattle.eo_names.specs.Worlds.{world, made_in};
 
 use crate::ElabRefused;

@@ -6,7 +6,7 @@ ghost use Rattle.eo_names.specs.Folding.{attribute_at, least};
 ghost use Rattle.eo_names.specs.Names.{AreBelow};
 ghost use Rattle.eo_names.specs.Scopes.{bound_in};
 ghost use Rattle.eo_term.specs.Growth.{Grows};
-ghost use Rattle.eo_names.specs.Gives.{Builds};
+ghost use Rattle.eo_term.specs.Builds.{Builds};
 ghost use Rattle.eo_names.specs.Worlds.{grouped_in};
 
 use crate::fold::{apply_to_all, group_left, group_list, group_right};

@@ -7,12 +7,14 @@ ghost use Rattle.eo_names.specs.Names.{BindingsBelow};
 ghost use Rattle.eo_names.specs.Scopes.{bound_in};
 ghost use Rattle.eo_names.specs.Ready.{IsReady};
 ghost use Rattle.eo_term.specs.Growth.{tree_in, Grows};
-ghost use Rattle.eo_names.specs.Gives.{Builds, GivesTerm, BindsVariables};
+ghost use Rattle.eo_term.specs.Builds.{Builds};
+ghost use Rattle.eo_names.specs.Gives.{GivesTerm, BindsVariables};
 ghost use Rattle.eo_names.specs.Worlds.{world, bound_list_in, seen_in};
 
 use crate::ElabRefused;
 use crate::attributes::least_of;
 use crate::folding::fold_constant;
+use crate::laws::names_law;
 use crate::locals::Bindings;
 use crate::scope::Scope;
 use eo_sig::Signature;
@@ -36,6 +38,7 @@ pub fn bind(
     ensures names { OnOk result (seen_in table.new names.new ≡ map variable (seen_in table.old names.old)) }
     ensures grows { Grows table.old table.new }
 {
+    names_law();
     // The variables are counted before any of them is made.
     if names.len() < least_of(collector, sig) {
         return Err(ElabRefused::BadArity);

@@ -5,7 +5,7 @@ ghost use Rattle.eo_names.specs.Folding.{applied, applied_to_two, right};
 ghost use Rattle.eo_names.specs.Names.{AreBelow};
 ghost use Rattle.eo_names.specs.Scopes.{bound_in};
 ghost use Rattle.eo_term.specs.Growth.{tree_in, trees_in, Grows};
-ghost use Rattle.eo_names.specs.Gives.{Builds};
+ghost use Rattle.eo_term.specs.Builds.{Builds};
 ghost use Rattle.eo_names.specs.Worlds.{left_in, onto_in, last_in, right_nil_in};
 
 use crate::scope::Scope;

@@ -12,6 +12,7 @@ use crate::ElabRefused;
 use crate::attributes::{attribute_of, group, least_count};
 use crate::fold::apply_constant;
 use crate::joins::{neighbours, pairs};
+use crate::laws::names_law;
 use crate::scope::Scope;
 use eo_sig::{Attribute, Signature};
 use eo_term::{HEIGHT_LIMIT, Id, Ids, Table, TermRefused};
@@ -63,6 +64,7 @@ fn fold_within(
     ensures gives { GivesTree table.new result (turned_in (world table.old sig.now scope.now) (suc turns) k (trees_in table.old args.now)) }
     ensures grows { Grows table.old table.new }
 {
+    names_law();
     let turn = turn_of(alloc, k, args, scope, sig, table)?;
     match &turn {
         Turn::Made(made) => {
@@ -113,6 +115,7 @@ fn turn_of(
     ensures gives { GivesTurn (world table.old sig.now scope.now) table.new result k (trees_in table.old args.now) }
     ensures grows { Grows table.old table.new }
 {
+    names_law();
     let attribute = attribute_of(sig, k);
     if args.len() < least_count(attribute) {
         return Err(ElabRefused::BadArity);

@@ -2,7 +2,8 @@
 ghost use Rattle.std.specs.Prelude.{◌<◌, length, All};
 ghost use Rattle.eo_names.specs.Folding.{links, all_pairs};
 ghost use Rattle.eo_term.specs.Growth.{tree_in, trees_in, Grows};
-ghost use Rattle.eo_names.specs.Gives.{BuildsAll, AddsAll};
+ghost use Rattle.eo_term.specs.Builds.{BuildsAll};
+ghost use Rattle.eo_names.specs.Gives.{AddsAll};
 ghost use Rattle.eo_names.specs.Worlds.{with_each};
 
 use crate::fold::apply_to_two;

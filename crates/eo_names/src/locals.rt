@@ -1,17 +1,19 @@
 //! The names that the place of a term gives a meaning: parameters, and what `let` and binders
 //! bind.
 ghost use Rattle.std.specs.Prelude.{◌≡◌, ℕ, ◌<◌, List, [], ◌∷◌, ◌++◌, map, length, false, ◌&&◌};
-ghost use Rattle.std.specs.Prelude.{IfOk, IfSome, OnOk, OnErr, Some, option_map, slice_get};
+ghost use Rattle.std.specs.Prelude.{IfOk, IfSome, OnOk, OnErr, Some, bytes_eq, option_map, slice_get};
 ghost use Rattle.std.specs.List.{list_any};
 ghost use Rattle.eo_term.specs.Tree.{Tree, tree_eq};
 ghost use Rattle.eo_term.specs.Terms.{tree_at};
 ghost use Rattle.eo_names.specs.Contexts.{local_named, is_list};
-ghost use Rattle.eo_names.specs.Names.{local, read_locals, AreBelow, read_bindings, BindingsBelow, names_in, with_term};
+ghost use Rattle.eo_names.specs.Names.{local, read_locals, AreBelow, BindingsBelow, names_in, with_term, ReadsOneMore};
+ghost use Rattle.eo_names.specs.Names.{read_bindings, read_pairs};
 
-use eo_base::Name;
+use eo_base::{Name, NameRef};
 use eo_term::{Id, Ids, Node, Table};
 use indexmap::IndexMap;
 use std::alloc::{AllocError, Global};
+use std::hash::{BuildHasherDefault, DefaultHasher};
 use std::marker::Model;
 
 /// A name that stands for a term.
@@ -122,19 +124,20 @@ impl Locals {
     }
 }
 
-/// What a `let` or a binder binds, in order, no name twice. A name is found by its hash.
+/// What a `let` or a binder binds, in order, no name twice. A name is found by its hash, which is
+/// SipHash, since a file chooses the names.
 #[derive(Drop)]
 pub struct Bindings {
     alloc: Global,
-    names: IndexMap<Vec<u8>, Id>,
+    names: IndexMap<Name, Id, BuildHasherDefault<DefaultHasher>>,
 }
 
 impl Model for Bindings {
-    ghost use Rattle.std.specs.Prelude.{ℕ, List, map};
+    ghost use Rattle.std.specs.Prelude.{ℕ, List};
 
     ghost Value = { List (List ℕ × ℕ) };
 
-    ghost view = { λ a. map (λ e. (e.0.items, e.1)) a.names.entries };
+    ghost view = { λ a. a.names.entries };
 }
 
 impl Bindings {
@@ -144,15 +147,16 @@ impl Bindings {
     {
         Bindings {
             alloc,
-            names: IndexMap::new(alloc),
+            names: IndexMap::with_hasher(alloc, BuildHasherDefault::new()),
         }
     }
 
     /// Whether the name is bound.
     pub fn contains(&self, name: &[u8]) -> bool
-        ensures { result ≡ names_in self.now name.now }
+        ensures bound { result ≡ names_in self.now name.now }
+        ensures read { (ts : List Tree) → result ≡ list_any (λ p. bytes_eq p.0 name.now) (read_pairs ts self.now) }
     {
-        self.names.contains_key(name)
+        self.names.contains_key(NameRef(name))
     }
 
     /// The term that the name stands for, if it is bound.
@@ -160,7 +164,7 @@ impl Bindings {
         ensures value { (ts : List Tree) → option_map (tree_at ts) result ≡ local_named (read_bindings ts self.now) name.now }
         ensures live { (n : ℕ) → BindingsBelow n self.now → IfSome result (λ i. i < n) }
     {
-        self.names.get(name).copied()
+        self.names.get(NameRef(name)).copied()
     }
 
     /// The terms, in the order in which their names were bound.
@@ -187,7 +191,7 @@ impl Bindings {
         ensures { slice_get self.now i ≡ Some (result.0.now, result.1) }
     {
         let (name, id) = self.names.get_index(i).unwrap();
-        (name.as_slice(), *id)
+        (name.as_bytes(), *id)
     }
 
     /// Puts another term in the place of the one at this place. The name stays.
@@ -203,8 +207,9 @@ impl Bindings {
     pub fn push(&mut self, name: &[u8], id: Id) -> Result<(), AllocError>
         requires { names_in self.old name.now ≡ false }
         ensures pushed { OnOk result (self.new ≡ self.old ++ (name.now, id) ∷ []) }
+        ensures reads { OnOk result (ReadsOneMore self.old name.now id self.new) }
     {
-        let key = name.to_vec(self.alloc)?;
+        let key = Name::new(self.alloc, name)?;
         self.names.insert(key, id)?;
         Ok(())
     }

@@ -74,9 +74,52 @@ fn is_same(answer: &OpResult, want: Sample) -> bool {
     }
 }
 
+/// An operator on one argument, and what is wanted of it.
+type One = (OpName, Sample, Sample);
+
+/// The same on two arguments.
+type Two = (OpName, Sample, Sample, Sample);
+
+/// What is wanted of the part of a string or of a bit string from one place to another.
+type Part = (Sample, i128, i128, Sample);
+
+fn is_right_of_one(alloc: Global, row: One) -> Result<bool, AllocError> {
+    let (op, argument, want) = row;
+    let arguments = [literal(alloc, argument)?];
+    Ok(is_same(&apply(alloc, op, &arguments), want))
+}
+
+fn is_right_of_two(alloc: Global, row: Two) -> Result<bool, AllocError> {
+    let (op, first, second, want) = row;
+    let arguments = [literal(alloc, first)?, literal(alloc, second)?];
+    Ok(is_same(&apply(alloc, op, &arguments), want))
+}
+
+fn is_right_part(alloc: Global, row: Part) -> Result<bool, AllocError> {
+    let (whole, first, last, want) = row;
+    let arguments = [literal(alloc, whole)?, Lit::Num(first), Lit::Num(last)];
+    Ok(is_same(&apply(alloc, OpName::Extract, &arguments), want))
+}
+
+// The number of the first row that is not answered as it wants, if there is one.
+fn wrong<Row: Copy, F: Fn(Global, Row) -> Result<bool, AllocError>>(
+    alloc: Global,
+    rows: &[Row],
+    is_right: F,
+) -> Result<Option<usize>, AllocError>
+    requires { F.IsAlwaysCallable is_right }
+{
+    for (number, row) in rows.iter().enumerate() {
+        if !is_right(alloc, *row)? {
+            return Ok(Some(number));
+        }
+    }
+    Ok(None)
+}
+
 #[test]
 fn operators_of_one_argument(rt: HostRuntime) -> Result<(), Fail> {
-    for (op, argument, want) in [
+    let rows = [
         (OpName::IsZ, Number(3), Truth(true)),
         (OpName::IsZ, Binary(2, 3), Truth(false)),
         (OpName::IsBin, Binary(0, 0), Truth(true)),
@@ -116,20 +159,14 @@ fn operators_of_one_argument(rt: HostRuntime) -> Result<(), Fail> {
         (OpName::ToStr, Binary(8, 65), Stuck),
         (OpName::Add, Number(1), Stuck),
         (OpName::Typeof, Number(1), Stuck),
-    ] {
-        let arguments = [literal(rt.alloc(), argument)?];
-        let answer = apply(rt.alloc(), op, &arguments);
-        assert!(rt;
-            is_same(&answer, want),
-            "{op:?} of {argument:?} is {answer:?}"
-        );
-    }
+    ];
+    assert_eq!(rt; wrong(rt.alloc(), &rows, is_right_of_one)?, None);
     Ok(())
 }
 
 #[test]
 fn operators_of_two_arguments(rt: HostRuntime) -> Result<(), Fail> {
-    for (op, first, second, want) in [
+    let rows = [
         (OpName::And, Truth(true), Truth(false), Truth(false)),
         (OpName::And, Binary(4, 12), Binary(4, 10), Binary(4, 8)),
         (OpName::Or, Truth(true), Truth(false), Truth(true)),
@@ -211,20 +248,14 @@ fn operators_of_two_arguments(rt: HostRuntime) -> Result<(), Fail> {
         (OpName::IsZ, Number(1), Number(2), Stuck),
         (OpName::Neg, Number(1), Number(2), Stuck),
         (OpName::ListConcat, Number(1), Number(2), Stuck),
-    ] {
-        let arguments = [literal(rt.alloc(), first)?, literal(rt.alloc(), second)?];
-        let answer = apply(rt.alloc(), op, &arguments);
-        assert!(rt;
-            is_same(&answer, want),
-            "{op:?} of {first:?} and {second:?} is {answer:?}"
-        );
-    }
+    ];
+    assert_eq!(rt; wrong(rt.alloc(), &rows, is_right_of_two)?, None);
     Ok(())
 }
 
 #[test]
 fn parts(rt: HostRuntime) -> Result<(), Fail> {
-    for (whole, first, last, want) in [
+    let rows = [
         (Binary(4, 10), 1, 2, Binary(2, 1)),
         (Binary(4, 10), 0, 3, Binary(4, 10)),
         (Binary(4, 10), 3, 3, Binary(1, 1)),
@@ -243,14 +274,8 @@ fn parts(rt: HostRuntime) -> Result<(), Fail> {
         (Ascii("abcd"), 2, 1, Ascii("")),
         (Ascii(""), 0, LEAST, Ascii("")),
         (Number(5), 0, 1, Stuck),
-    ] {
-        let arguments = [literal(rt.alloc(), whole)?, Lit::Num(first), Lit::Num(last)];
-        let answer = apply(rt.alloc(), OpName::Extract, &arguments);
-        assert!(rt;
-            is_same(&answer, want),
-            "{whole:?} from {first} to {last} is {answer:?}"
-        );
-    }
+    ];
+    assert_eq!(rt; wrong(rt.alloc(), &rows, is_right_part)?, None);
     Ok(())
 }
 

@@ -91,9 +91,9 @@ mutual
   put_nothing_in_all NoTree = refl
   put_nothing_in_all (More t ts) = ap₂ More (put_nothing t) (put_nothing_in_all ts)
 
-pub put_missed : (ts : List Tree) (s : Slots) (set own : ℕ) (t : Tree) → IsAssigned set s → ((i : ℕ) → has own i ≡ occurs i t) → ((i : ℕ) → has own i ≡ true → (i < 64) × (has set i ≡ false)) → put (held ts s) t ≡ t
-put_missed ts s set own t a same apart =
-    put_agree (held ts s) empty t (λ i o. let p = apart i (same i ∙ o) in ap (option_map (tree_at ts)) (a.lacks i p.0 p.1)) ∙ put_nothing t
+pub put_missed : (ts : List Tree) (s : Slots) (set own : ℕ) (t : Tree) → IsAssigned set s → ((i : ℕ) → has own i ≡ occurs i t) → ((i : ℕ) → has own i ≡ true → i < 64) → ((i : ℕ) → has own i ≡ true → has set i ≡ false) → put (held ts s) t ≡ t
+put_missed ts s set own t a same small apart =
+    put_agree (held ts s) empty t (λ i o. let own_has = same i ∙ o in ap (option_map (tree_at ts)) (a.lacks i (small i own_has) (apart i own_has))) ∙ put_nothing t
 
 pub closed_equal : (σ : Assignment) (p t : Tree) → is_closed p ≡ true → p ≡ t → Matches σ (p ∷ []) (t ∷ []) σ
 closed_equal σ p t h e = record {

@@ -1,8 +1,10 @@
 -- Steps of substitution.
-use Rattle.std.specs.Prelude.{◌≡◌, ℕ, ◌<◌, true, false, List, length, None, Result, Ok, Err}
-use Rattle.eo_term.specs.Tree.{Tree, is_tall}
+use Rattle.std.specs.Prelude.{◌≡◌, ℕ, ◌<◌, ◌≤◌, true, false, List, length, None, Result, Ok, Err}
+use Rattle.eo_term.specs.declared.OpCode.{OpCode}
+use Rattle.eo_term.specs.Arguments.{arguments_of, count_of}
+use Rattle.eo_term.specs.Tree.{Tree, Op, is_tall}
 use Rattle.eo_term.specs.Memo.{told}
-use Rattle.eo_term.specs.Terms.{Terms, tree_at}
+use Rattle.eo_term.specs.Terms.{Terms, tree_at, HasArity}
 use Rattle.eo_term.specs.Growth.{tree_in}
 use Rattle.eo_pattern.specs.Matching.{Assignment, put}
 use Rattle.eo_pattern.specs.Slots.{Slots, held}
@@ -18,6 +20,13 @@ pub record IsMade (σ : Assignment) (ts : List Tree) (k : ℕ) (new : List Tree)
   pub live : v < length new
   pub tree : tree_at new v ≡ put σ (tree_at ts k)
   pub low : is_tall (put σ (tree_at ts k)) ≡ false
+
+-- the tree is this operator over so many arguments
+pub record IsOperator (t : Tree) (c : OpCode) (n : ℕ) : Type 0 where
+  pub tree : Op c (arguments_of t) ≡ t
+  pub count : count_of (arguments_of t) ≡ n
+  pub arity : HasArity c n
+  pub small : n ≤ 64
 
 -- the term p is older than the term k, the memo does not tell of it, and where it becomes too tall, so does k
 pub record IsNext (σ : Assignment) (ts : List Tree) (memo : List (ℕ × ℕ)) (k p : ℕ) : Type 0 where

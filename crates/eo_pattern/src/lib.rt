@@ -2,11 +2,13 @@
 //! puts it in.
 #![tactic(auto)]
 
+mod laws;
 mod matched;
 mod matching;
 mod subst;
 mod substitution;
 
+pub use laws::matching_law;
 pub use matching::match_terms;
 pub use subst::Subst;
 pub use substitution::substitute;

@@ -8,7 +8,7 @@ ghost use Rattle.eo_term.specs.Growth.{Grows, tree_in};
 ghost use Rattle.eo_term.specs.Arguments.{arguments_of, count_of};
 ghost use Rattle.eo_pattern.specs.Matching.{put};
 ghost use Rattle.eo_pattern.specs.Slots.{held, AreBelow, Holds, IsPut, IsAssigned};
-ghost use Rattle.eo_pattern.specs.Steps.{put_in, IsStep, IsInside, AreKnown};
+ghost use Rattle.eo_pattern.specs.Steps.{put_in, IsMade, IsOperator, IsStep, IsInside, AreKnown};
 
 use crate::Subst;
 use eo_base::limits::PARAMETERS;
@@ -23,10 +23,8 @@ use eo_term::{Id, Memo, Node, OpCode, ParamSet, Step, TYPE, Table, TermRefused, 
 pub fn substitute(table: &mut Table, subst: &Subst, id: Id) -> Result<Id, TermRefused>
     requires live { id < length table.old.trees }
     requires below { AreBelow (length table.old.trees) subst.now }
-    ensures live { IfOk result (λ i. i < length table.new.trees) }
-    ensures tree { IfOk result (λ i. tree_at table.new.trees i ≡ put (held table.old.trees subst.now) (tree_at table.old.trees id)) }
-    ensures tall { IsTall result → is_tall (put (held table.old.trees subst.now) (tree_at table.old.trees id)) ≡ true }
-    ensures low { IfOk result (λ _. is_tall (put (held table.old.trees subst.now) (tree_at table.old.trees id)) ≡ false) }
+    ensures made { IfOk result (IsMade (held table.old.trees subst.now) table.old.trees id table.new.trees) }
+    ensures tall { IsTall result → is_tall (put_in table.old subst.now id) ≡ true }
     ensures err { OnErr result (table.new ≡ table.old) }
     ensures holds { Holds subst.now table.old.trees table.new.trees }
     ensures grows { Grows table.old table.new }
@@ -43,10 +41,8 @@ pub fn substitute(table: &mut Table, subst: &Subst, id: Id) -> Result<Id, TermRe
 fn put_from(table: &mut Table, subst: &Subst, id: Id) -> Result<Id, TermRefused>
     requires live { id < length table.old.trees }
     requires below { AreBelow (length table.old.trees) subst.now }
-    ensures live { IfOk result (λ i. i < length table.new.trees) }
-    ensures tree { IfOk result (λ i. tree_in table.new i ≡ put_in table.old subst.now id) }
+    ensures made { IfOk result (IsMade (held table.old.trees subst.now) table.old.trees id table.new.trees) }
     ensures tall { IsTall result → is_tall (put_in table.old subst.now id) ≡ true }
-    ensures low { IfOk result (λ _. is_tall (put_in table.old subst.now id) ≡ false) }
     ensures grows { Grows table.old table.new }
 {
     table.laws();
@@ -70,10 +66,8 @@ fn put_walk(
     requires assigned { IsAssigned assigned.now subst.now }
     requires told { (k : ℕ) → told walk.old.memo k ≡ None }
     requires waiting { walk.old.waiting ≡ [] }
-    ensures live { IfOk result (λ i. i < length table.new.trees) }
-    ensures tree { IfOk result (λ i. tree_in table.new i ≡ put_in table.old subst.now walk.old.top) }
+    ensures made { IfOk result (IsMade (held table.old.trees subst.now) table.old.trees walk.old.top table.new.trees) }
     ensures tall { IsTall result → is_tall (put_in table.old subst.now walk.old.top) ≡ true }
-    ensures low { IfOk result (λ _. is_tall (put_in table.old subst.now walk.old.top) ≡ false) }
     ensures grows { Grows table.old table.new }
 {
     loop {
@@ -157,10 +151,7 @@ fn put_op(
     requires below { AreBelow (length table.old.trees) subst.now }
     requires assigned { IsAssigned assigned.now subst.now }
     requires memo { TellsOnly (IsPut (held table.old.trees subst.now) table.old.trees) memo.now }
-    requires tree { Op code (arguments_of (tree_at table.old.trees id)) ≡ tree_at table.old.trees id }
-    requires count { count_of (arguments_of (tree_at table.old.trees id)) ≡ count }
-    requires arity { HasArity code count }
-    requires small { count ≤ 64 }
+    requires operator { IsOperator (tree_in table.old id) code count }
     ensures step { IfOk result (λ s. IsStep (held table.old.trees subst.now) table.old.trees memo.now id table.new.trees s) }
     ensures tall { IsTall result → is_tall (put_in table.old subst.now id) ≡ true }
     ensures grows { Grows table.old table.new }

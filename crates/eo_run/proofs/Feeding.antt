@@ -1,7 +1,7 @@
 -- What the answers of a collector leave of a file to be read.
 use Rattle.std.proofs.Common.{◌≡◌, refl, ℕ, ◌+◌, ◌≤◌, ap, subst, ◌∙◌, arith}
 use Rattle.eo_base.specs.declared.FaultName.{FaultName}
-use Rattle.eo_sexp.specs.declared.Spot.{Spot}
+use Rattle.eo_sexp.specs.Spot.{Spot}
 use Rattle.eo_sexp.specs.declared.Fed.TheVariants as fed
 use Rattle.eo_sexp.specs.declared.Finished.TheVariants as finished
 use Rattle.eo_sexp.specs.Texts.{Phase, Reads, Then, Ends, Fails, Placed}

@@ -8,7 +8,7 @@ use Rattle.eo_base.specs.Causes.{Rose}
 use Rattle.eo_base.specs.Checks.{Checked}
 use Rattle.eo_io.specs.Library.{Files, Rest, file_at, Opens, OpenHasCause}
 use Rattle.eo_io.specs.declared.Opened.TheVariants as opened
-use Rattle.eo_sexp.specs.declared.Spot.{Spot}
+use Rattle.eo_sexp.specs.Spot.{Spot}
 use Rattle.eo_sexp.specs.Texts.{first_spot, spot_after}
 use Rattle.eo_run.specs.State.{State, first_state, begin_reference, end_fault, has_false}
 use Rattle.eo_run.specs.Step.{is_in_proof}

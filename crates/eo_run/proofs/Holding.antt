@@ -8,7 +8,7 @@ use Rattle.eo_base.proofs.Elements.{ids_more}
 use Rattle.eo_term.specs.Tree.{Tree, tree_eq, truth}
 use Rattle.eo_term.specs.Growth.{Grows}
 use Rattle.eo_term.specs.Terms.{Terms, tree_at, first_trees}
-use Rattle.eo_sig.specs.Signature.{Entry, Macro, first_signature}
+use Rattle.eo_sig.specs.Signature.{SignatureEntry, Macro, first_signature}
 use Rattle.eo_sig.specs.Reading.{Kept, IsBelow, Stays, Adds, AddsMacro, first_kept}
 use Rattle.eo_sig.specs.Reading.{signature as signature_of, macros as macros_of}
 use Rattle.eo_names.specs.declared.locals.LocalName.{LocalName}
@@ -113,7 +113,7 @@ module _ (h : Held) (whole : IsWhole h) where
     keeps_table = keeps_types h.types (whole.lasts.grown h.signature h.table t grows.now (record { below = whole.signature; types = whole.types })).types whole.lasts
 
   module _ (k : Kept) (below : IsBelow (length trees) k) where
-    pub whole_entry : (e : Entry) → Adds trees h.signature e k → IsWhole (record h { signature = k })
+    pub whole_entry : (e : SignatureEntry) → Adds trees h.signature e k → IsWhole (record h { signature = k })
     whole_entry e adds = record {
       signature = below;
       assertions = whole.assertions;
@@ -131,7 +131,7 @@ module _ (h : Held) (whole : IsWhole h) where
       lasts = whole.lasts;
     }
 
-    pub state_entry : (e : Entry) → Adds trees h.signature e k → state_of (record h { signature = k }) ≡ with_entry (state_of h) e
+    pub state_entry : (e : SignatureEntry) → Adds trees h.signature e k → state_of (record h { signature = k }) ≡ with_entry (state_of h) e
     state_entry e adds = (λ j. record { signature = adds.signature j; macros = adds.macros j; assertions = map (tree_at trees) h.assertions; has_reference = h.has_reference; facts = map (read_fact trees) h.facts; closed = h.closed; commands = h.commands })
 
     pub state_macro : (m : Macro) → AddsMacro trees h.signature m k → state_of (record h { signature = k }) ≡ with_macro (state_of h) m

@@ -8,7 +8,7 @@ use Rattle.eo_base.specs.declared.FaultName.{FaultName}
 use Rattle.eo_base.specs.declared.FaultName.TheVariants.{FileLong}
 use Rattle.eo_base.specs.Limits.{limits}
 use Rattle.eo_io.specs.Library.{Rest, ReadsBytes}
-use Rattle.eo_sexp.specs.declared.Spot.{Spot}
+use Rattle.eo_sexp.specs.Spot.{Spot}
 use Rattle.eo_sexp.specs.Texts.{Reads, Ends, first_spot, spot_after, reads_all, reads_file}
 use Rattle.eo_sexp.specs.Texts as texts
 use Rattle.eo_sexp.specs.Collecting.{Collecting, new_collector, here_of, IsLive, HasRoom}

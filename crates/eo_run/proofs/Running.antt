@@ -2,7 +2,7 @@
 use Rattle.std.proofs.Common.{◌≡◌, refl, ℕ, Bool, List, ap, ◌∙◌}
 use Rattle.std.specs.Prelude.{Ok, Err}
 use Rattle.eo_base.specs.declared.FaultName.{FaultName}
-use Rattle.eo_sexp.specs.declared.Spot.{Spot}
+use Rattle.eo_sexp.specs.Spot.{Spot}
 use Rattle.eo_sexp.specs.Texts.{Phase, Reads, Then, Ends, Placed}
 use Rattle.eo_sexp.specs.Texts as texts
 use Rattle.eo_sexp.specs.Answering.{end_of}

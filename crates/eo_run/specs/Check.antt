@@ -3,7 +3,7 @@ use Rattle.std.specs.Prelude.{ℕ, List, Option, Some, None, Ok, Err}
 use Rattle.std.specs.Option.{option_map_or}
 use Rattle.eo_base.specs.declared.FaultName.{FaultName}
 use Rattle.eo_io.specs.Library.{Files, file_at}
-use Rattle.eo_sexp.specs.declared.Spot.{Spot}
+use Rattle.eo_sexp.specs.Spot.{Spot}
 use Rattle.eo_sexp.specs.Texts.{first_spot, spot_after}
 use Rattle.eo_run.specs.State.{end_fault}
 use Rattle.eo_run.specs.Run.{Ran, refusal_at, run_check}

@@ -5,7 +5,7 @@ use Rattle.eo_base.specs.declared.FaultName.TheVariants.{FileAbsent}
 use Rattle.eo_base.specs.Causes.{Rose}
 use Rattle.eo_base.specs.Limits.{limits}
 use Rattle.eo_io.specs.Library.{Files, Rest}
-use Rattle.eo_sexp.specs.declared.Spot.{Spot}
+use Rattle.eo_sexp.specs.Spot.{Spot}
 use Rattle.eo_sexp.specs.Texts.{Phase, Reads, Ends, Placed, first_spot, spot_after}
 use Rattle.eo_sexp.specs.Collecting.{Collecting, AtCommand, new_collector, here_of, IsLive}
 use Rattle.eo_sexp.specs.Cutting.{IsWaiting, rest_of}

@@ -5,7 +5,7 @@ use Rattle.eo_base.specs.declared.FaultName.TheVariants.{FileAbsent}
 use Rattle.eo_base.specs.Checks.{Checked}
 use Rattle.eo_base.specs.Limits.{limits}
 use Rattle.eo_io.specs.Library.{Files, file_at}
-use Rattle.eo_sexp.specs.declared.Spot.{Spot}
+use Rattle.eo_sexp.specs.Spot.{Spot}
 use Rattle.eo_sexp.specs.Texts.{Reads, Then, Ends, Fails, first_spot, reads_file}
 use Rattle.eo_run.specs.State.{State, first_state, begin_reference}
 use Rattle.eo_run.specs.Step.{is_in_proof, step}

@@ -4,7 +4,7 @@ use Rattle.std.specs.List.{list_any}
 use Rattle.eo_base.specs.declared.FaultName.{FaultName}
 use Rattle.eo_base.specs.declared.FaultName.TheVariants.{NoReference, NoRefutation, SecondReference}
 use Rattle.eo_base.specs.Checks.{Checked}
-use Rattle.eo_sig.specs.Signature.{Signature, Entry, Macro, first_signature}
+use Rattle.eo_sig.specs.Signature.{Signature, SignatureEntry, Macro, first_signature}
 use Rattle.eo_term.specs.Tree.{Tree, tree_eq, truth}
 use Rattle.eo_names.specs.Contexts.{Context, InProof}
 
@@ -34,7 +34,7 @@ first_state closed =
 abbrev pub context : State → Context
 context st = record { signature = st.signature; macros = st.macros; setting = InProof }
 
-abbrev pub with_entry : State → Entry → State
+abbrev pub with_entry : State → SignatureEntry → State
 with_entry st e = record st { signature = st.signature ++ e ∷ [] }
 
 abbrev pub with_macro : State → Macro → State

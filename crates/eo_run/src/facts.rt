@@ -2,6 +2,7 @@
 ghost use Rattle.std.specs.Prelude.{◌≡◌, List, [], ◌∷◌, ◌++◌, false, OnOk, OnErr};
 ghost use Rattle.eo_run.specs.Ids.{is_named, holds_false};
 
+use eo_base::{Name, NameRef};
 use eo_term::{FALSE, Id};
 use indexmap::IndexMap;
 use std::alloc::{AllocError, Global};
@@ -13,20 +14,20 @@ use std::marker::Model;
 #[derive(Drop)]
 pub(crate) struct Facts {
     alloc: Global,
-    formulas: IndexMap<Vec<u8>, Id, BuildHasherDefault<DefaultHasher>>,
+    formulas: IndexMap<Name, Id, BuildHasherDefault<DefaultHasher>>,
     // Whether one of them is `false`.
     refutes: bool,
 }
 
 impl Model for Facts {
-    ghost use Rattle.std.specs.Prelude.{◌≡◌, ℕ, List, map};
+    ghost use Rattle.std.specs.Prelude.{◌≡◌, ℕ, List};
     ghost use Rattle.eo_run.specs.Ids.{holds_false};
 
     ghost Value = { List (List ℕ × ℕ) };
 
-    ghost view = { λ a. map (λ e. (e.0.items, e.1)) a.formulas.entries };
+    ghost view = { λ a. a.formulas.entries };
 
-    ghost invariant = { λ a. a.refutes ≡ holds_false (map (λ e. (e.0.items, e.1)) a.formulas.entries) };
+    ghost invariant = { λ a. a.refutes ≡ holds_false a.formulas.entries };
 }
 
 impl Facts {
@@ -45,7 +46,7 @@ impl Facts {
     pub(crate) fn has(&self, name: &[u8]) -> bool
         ensures { result ≡ is_named self.now name.now }
     {
-        self.formulas.contains_key(name)
+        self.formulas.contains_key(NameRef(name))
     }
 
     /// Whether one of the formulas is `false`.
@@ -61,7 +62,7 @@ impl Facts {
         ensures added { OnOk result (self.new ≡ self.old ++ (name.now, formula) ∷ []) }
         ensures err { OnErr result (self.new ≡ self.old) }
     {
-        let name = name.to_vec(self.alloc)?;
+        let name = Name::new(self.alloc, name)?;
         self.formulas.insert(name, formula)?;
         self.refutes |= formula == FALSE;
         Ok(())

@@ -147,8 +147,8 @@ module _ (limits : Limits) (some : 1 ≤ limits.token) where
         let lists : length (with_child c word_child).open_lists ≡ length b.open_lists = child-lists c word_child ∙ ap (λ (v : Built). length v.open_lists) same in
         subst (λ (v : Built). AddsChild limits c word_child v false) (sym new) (adds-inner limits c word_child (omega (arith, within, lists)))
 
-    word_reader : IsReader limits (held d r) (at + n)
-    word_reader = subst (IsReader limits (held d r)) word_long (ended-reader limits (held c word) (held d r) word_child (length c.bytes) (word_run).reader f.gap word_added)
+    pub word_reader : IsReader limits (held d r) (at + n)
+    word_reader = subst (IsReader limits (held d r)) word_long (ended-reader limits (held c word) (held d r) token.Word (length c.bytes) (length c.bytes) (word_run).reader refl f.gap word_added)
 
     -- a word, and the byte behind it
     pub word-stops : (E : Type 0) (e : Built) (s : Reader) (result : Result ReaderTurn E) → is_plain token.Word (get_or rest n 0) ≡ false → OnOk result (e.bytes ≡ d.bytes) →

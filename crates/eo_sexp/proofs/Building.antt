@@ -1,18 +1,21 @@
 -- What a buffer stands for, as it grows.
 use Rattle.std.proofs.Common.{◌≡◌, refl, ℕ, suc, ◌+◌, ◌-◌, ◌<◌, ◌≤◌, Bool, true, false, List, [], ◌∷◌, ◌++◌, take, drop, length, length-append, length-drop, set, ap, sym, subst, ◌∙◌, arith}
 use Rattle.std.specs.List.{slice_range}
-use Rattle.std.proofs.lemmas.List.{take-append-le, drop-append-le, take-append-drop, take-set, drop-set}
+use Rattle.std.proofs.lemmas.List.{length-take, take-append-le, drop-append-le, take-append-drop, take-set, drop-set}
 use Rattle.std.proofs.Math.Seq.{take-append_seam, take-length}
 use Rattle.std.proofs.Math.ListN.{drop_of_length-le}
-use Rattle.eo_sexp.specs.declared.Kind.{Kind}
+use Rattle.eo_sexp.specs.declared.token.AtomKind.{AtomKind}
+use Rattle.eo_sexp.specs.Token.{kind_meant}
 use Rattle.eo_sexp.specs.Sexp.{Sexp, Atom, Listed}
 use Rattle.eo_sexp.specs.Sexp.{sexps_of}
 use Rattle.eo_sexp.specs.declared.lent.Node.{Node}
 use Rattle.eo_sexp.specs.declared.lent.Node.TheVariants as node
 use Rattle.eo_sexp.specs.declared.buffer.Open.{Open}
 use Rattle.eo_sexp.specs.Nodes.{trees, token_text, AreLinked, HasText, Holds, IsSexp, first_tree, first_of}
-use Rattle.eo_sexp.specs.Built.{OpenList, with_child, closed, opened}
+use Rattle.eo_sexp.specs.Built.{OpenList, Built, with_child, closed, opened, parts_in, parts_of}
 use Rattle.eo_sexp.specs.Buffers.{open_lists, outside, built, AreOpen, counted}
+use Rattle.eo_sexp.specs.Sizes.{size_of_all}
+use Rattle.eo_sexp.proofs.Sizes.{size-split}
 use Rattle.eo_sexp.proofs.Parts.{linked_behind, some_node}
 
 take_more : {A : Type 0} → (n : ℕ) (xs ys : List A) → n ≤ length xs → take n (xs ++ ys) ≡ take n xs
@@ -23,7 +26,7 @@ take_more n xs ys h = take-append-le n xs ys h
 -- nodes stand for the same s-expressions whatever is behind them
 pub trees-append : (bytes : List ℕ) (ns more : List Node) → AreLinked bytes ns → trees bytes (ns ++ more) ≡ trees bytes ns ++ trees bytes more
 trees-append bytes [] more h = refl
-trees-append bytes (node.Atom k d from to ∷ ns) more h = ap (λ ss. Atom k (token_text bytes d from to) (record { from = from; to = to }) ∷ ss) (trees-append bytes ns more h.1)
+trees-append bytes (node.Atom k d from to ∷ ns) more h = ap (λ ss. Atom (kind_meant k) (token_text bytes d from to) (record { from = from; to = to }) ∷ ss) (trees-append bytes ns more h.1)
 trees-append bytes (node.List c i from to ∷ ns) more h =
     let ts : List Sexp = trees bytes ns in
     let many : c ≤ length ts = h.0.many in
@@ -154,8 +157,8 @@ text-append bytes more false from to h = slice-append bytes more from to h.0 h.1
 pub trees-bytes : (bytes more : List ℕ) (ns : List Node) → AreLinked bytes ns → trees (bytes ++ more) ns ≡ trees bytes ns
 trees-bytes bytes more [] h = refl
 trees-bytes bytes more (node.Atom k d from to ∷ ns) h =
-    ap (λ t. Atom k t (record { from = from; to = to }) ∷ trees (bytes ++ more) ns) (text-append bytes more d from to h.0)
-    ∙ ap (λ ss. Atom k (token_text bytes d from to) (record { from = from; to = to }) ∷ ss) (trees-bytes bytes more ns h.1)
+    ap (λ t. Atom (kind_meant k) t (record { from = from; to = to }) ∷ trees (bytes ++ more) ns) (text-append bytes more d from to h.0)
+    ∙ ap (λ ss. Atom (kind_meant k) (token_text bytes d from to) (record { from = from; to = to }) ∷ ss) (trees-bytes bytes more ns h.1)
 trees-bytes bytes more (node.List c i from to ∷ ns) h = ap (λ ss. Listed (sexps_of (take c ss)) (record { from = from; to = to }) ∷ drop c ss) (trees-bytes bytes more ns h.1)
 
 text-within : (bytes more : List ℕ) (d : Bool) (from to : ℕ) → HasText bytes d from to → HasText (bytes ++ more) d from to
@@ -217,6 +220,27 @@ pub count-open : (bytes : List ℕ) (ns : List Node) (os : List Open) → length
 count-open bytes ns [] = refl
 count-open bytes ns (o ∷ os) = ap suc (count-open bytes (take o.node ns) os)
 
+-- ---- how many nodes
+
+size-trees : (bytes : List ℕ) (ns : List Node) → size_of_all (trees bytes ns) ≡ length ns
+size-trees bytes [] = refl
+size-trees bytes (node.Atom k d from to ∷ ns) = omega (arith, size-trees bytes ns)
+size-trees bytes (node.List c i from to ∷ ns) = omega (arith, size-trees bytes ns, size-split c (trees bytes ns))
+
+size-open : (bytes : List ℕ) (ns : List Node) (os : List Open) → AreOpen bytes ns os → parts_in (open_lists bytes ns os) + size_of_all (outside bytes ns os) ≡ length ns
+size-open bytes ns [] h = omega (arith, size-trees bytes ns)
+size-open bytes ns (o ∷ os) h =
+    let within : o.node < length ns = h.0.within in
+    omega (arith, within, size-trees bytes (drop (o.node + 1) ns), size-open bytes (take o.node ns) os h.1, length-drop (o.node + 1) ns, length-take o.node ns)
+
+-- a node for each list and atom
+pub node-parts : (bytes : List ℕ) (ns : List Node) (os : List Open) (b : Built) → AreOpen bytes ns os → built bytes ns os ≡ b → length ns ≡ parts_of b
+node-parts bytes ns os b h e = sym (size-open bytes ns os h) ∙ ap parts_of e
+
+pub text-begins : (bytes : List ℕ) (d : Bool) (from to : ℕ) → HasText bytes d from to → (from ≤ to) × (from ≤ length bytes)
+text-begins bytes true from to h = (omega (arith, h.0), omega (arith, h.0, h.1))
+text-begins bytes false from to h = (h.0, omega (arith, h.0, h.1))
+
 -- ---- what is whole
 
 pub whole-first : (bytes : List ℕ) (ns : List Node) (os : List Open) → AreOpen bytes ns os → open_lists bytes ns os ≡ [] → 0 < length (outside bytes ns os) → IsSexp bytes ns × (first_tree bytes ns ≡ first_of (outside bytes ns os))
@@ -225,12 +249,12 @@ whole-first bytes ns (o ∷ os) h e s = cc
 
 -- ---- one atom alone
 
-pub alone-open : (bytes : List ℕ) (ns : List Node) (os : List Open) (k : Kind) (d : Bool) (from to : ℕ) → open_lists bytes ns os ≡ [] → HasText bytes d from to → AreOpen bytes (node.Atom k d from to ∷ []) os
+pub alone-open : (bytes : List ℕ) (ns : List Node) (os : List Open) (k : AtomKind) (d : Bool) (from to : ℕ) → open_lists bytes ns os ≡ [] → HasText bytes d from to → AreOpen bytes (node.Atom k d from to ∷ []) os
 alone-open bytes ns [] k d from to e h = (h, tt)
 alone-open bytes ns (o ∷ os) k d from to e h = cc
 
-pub alone-built : (bytes : List ℕ) (ns : List Node) (os : List Open) (k : Kind) (d : Bool) (from to : ℕ) → open_lists bytes ns os ≡ [] → outside bytes ns os ≡ [] →
-    built bytes (node.Atom k d from to ∷ []) os ≡ with_child (built bytes ns os) (Atom k (token_text bytes d from to) (record { from = from; to = to }))
+pub alone-built : (bytes : List ℕ) (ns : List Node) (os : List Open) (k : AtomKind) (d : Bool) (from to : ℕ) → open_lists bytes ns os ≡ [] → outside bytes ns os ≡ [] →
+    built bytes (node.Atom k d from to ∷ []) os ≡ with_child (built bytes ns os) (Atom (kind_meant k) (token_text bytes d from to) (record { from = from; to = to }))
 alone-built bytes ns [] k d from to e h =
-    ap (λ ss. record { bytes = bytes; open_lists = []; done = ss ++ Atom k (token_text bytes d from to) (record { from = from; to = to }) ∷ [] }) (sym h)
+    ap (λ ss. record { bytes = bytes; open_lists = []; done = ss ++ Atom (kind_meant k) (token_text bytes d from to) (record { from = from; to = to }) ∷ [] }) (sym h)
 alone-built bytes ns (o ∷ os) k d from to e h = cc

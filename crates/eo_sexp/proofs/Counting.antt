@@ -2,7 +2,7 @@
 use Rattle.std.proofs.Common.{◌≡◌, refl, ℕ, ◌+◌, Bool, true, false, List, [], ◌∷◌, ◌++◌, length, take, sym, ap, ◌∙◌, arith}
 use Rattle.std.proofs.Math.Seq.{take-append_seam}
 use Rattle.eo_base.specs.Limits.{Limits}
-use Rattle.eo_sexp.specs.declared.Spot.{Spot}
+use Rattle.eo_sexp.specs.Spot.{Spot}
 use Rattle.eo_sexp.specs.Texts.{Next, Command, End, Fault, next_from, Phase, Held, hold, is_unsat, if_pair, begins_pair, before_pair, if_unsat, settled, settle, end_of, from_front, answer, so_far, next_spot, spot_after}
 use Rattle.eo_sexp.specs.Collecting.{Collecting, Within, AtCommand, Failed, NoMemory, here_of, IsWithin, ready, becomes, waiting, fed_from, fed_with, finished_from, finished_with}
 use Rattle.eo_sexp.specs.Lexicon.{pass}

@@ -3,7 +3,7 @@ use Rattle.std.proofs.Common.{◌≡◌, refl, ℕ, suc, ◌+◌, ◌-◌, ◌^�
 use Rattle.std.specs.Prelude.{Some, None, ◌⊎◌}
 use Rattle.std.proofs.lemmas.List.{drop_all}
 use Rattle.eo_base.specs.Limits.{limits}
-use Rattle.eo_sexp.specs.declared.Spot.{Spot}
+use Rattle.eo_sexp.specs.Spot.{Spot}
 use Rattle.eo_sexp.specs.declared.Fed.{Fed}
 use Rattle.eo_sexp.specs.declared.Fed.TheVariants as fed
 use Rattle.eo_sexp.specs.declared.incremental.State.{State}

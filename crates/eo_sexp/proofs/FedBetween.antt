@@ -4,7 +4,7 @@ use Rattle.std.specs.Prelude.{nat_le, codes, ◌&&◌}
 use Rattle.std.proofs.lemmas.Bool.{le-leb}
 use Rattle.eo_base.specs.declared.FaultName.TheVariants.{BadByte, ExtraClose}
 use Rattle.eo_base.specs.Limits.{Limits}
-use Rattle.eo_sexp.specs.declared.Spot.{Spot}
+use Rattle.eo_sexp.specs.Spot.{Spot}
 use Rattle.eo_sexp.specs.Sexp.{Sexp}
 use Rattle.eo_sexp.specs.Lexicon.{Class, Space, Comment, Open, Close, Quote, Bar, Word, Other, class, is_space, is_word, is_line_end, Passed, advance, pass, skip}
 use Rattle.eo_sexp.specs.Commands.{Whole, Refused, front, atom, sexp, command}

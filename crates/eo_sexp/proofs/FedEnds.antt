@@ -3,13 +3,13 @@ use Rattle.std.proofs.Common.{◌≡◌, refl, ℕ, ◌+◌, ◌≤◌, Bool, tr
 use Rattle.std.specs.Prelude.{Option, Some, None, codes, bytes_eq, if◌then◌else◌}
 use Rattle.std.proofs.lemmas.List.{take_all}
 use Rattle.eo_base.specs.declared.FaultName.TheVariants.{Unclosed, CommandLong, TokenLong}
-use Rattle.eo_base.specs.declared.FaultName.{FaultName}
 use Rattle.eo_base.specs.Limits.{limits}
-use Rattle.eo_sexp.specs.declared.Spot.{Spot}
+use Rattle.eo_sexp.specs.Spot.{Spot}
 use Rattle.eo_sexp.specs.declared.Finished.{Finished}
 use Rattle.eo_sexp.specs.declared.Finished.TheVariants as finished
 use Rattle.eo_sexp.specs.declared.reader.Reader.{Reader}
 use Rattle.eo_sexp.specs.Built.{Built, nothing}
+use Rattle.eo_sexp.specs.declared.incremental.State.{State}
 use Rattle.eo_sexp.specs.declared.incremental.State.TheVariants as state
 use Rattle.eo_sexp.specs.declared.incremental.Machine.{Machine}
 use Rattle.eo_sexp.specs.Sexp.{Sexp, Atom}
@@ -174,8 +174,17 @@ pub finishes-from : (c : Collecting) (mid new : Machine) (result : Finished) →
 unfolding finished_with
 finishes-from c mid new result e f = (f.meant ∙ ap (finished_from limits) e, f.answer)
 
-pub finishes-failed : (c : Collecting) (mid : Machine) (name : FaultName) (at : Spot) → meaning mid ≡ ready c → mid.state ≡ state.Failed name at → Finishes limits c (finished.Fault name at) (meaning mid)
-unfolding finished_with finished_from
-finishes-failed c mid name at e s =
-    let means : meaning mid ≡ Failed name at = ap (λ q. meaning_at q (phase_of mid.phase) mid.start mid.begun) s in
-    (means ∙ ap (finished_from limits) (sym means ∙ e), sym (ap finish_answer means))
+standing : (s : State) (q : Phase) (start : Spot) (b : Built) → ((comment : Bool) → s ≡ state.Between comment → ⊥) → (s ≡ state.Begun → ⊥) → ((comment : Bool) → s ≡ state.Pair comment → ⊥) →
+    finished_from limits (meaning_at s q start b) ≡ meaning_at s q start b
+unfolding finished_from
+standing (state.Between comment) q start b f g h = absurd (f comment refl)
+standing state.Begun q start b f g h = absurd (g refl)
+standing (state.Pair comment) q start b f g h = absurd (h comment refl)
+standing state.Command q start b f g h = refl
+standing (state.Failed name at) q start b f g h = refl
+standing state.NoMemory q start b f g h = refl
+
+pub finishes-standing : (c : Collecting) (mid : Machine) → meaning mid ≡ ready c → ((comment : Bool) → mid.state ≡ state.Between comment → ⊥) → (mid.state ≡ state.Begun → ⊥) → ((comment : Bool) → mid.state ≡ state.Pair comment → ⊥) →
+    Finishes limits c (finish_answer (meaning mid)) (meaning mid)
+unfolding finished_with
+finishes-standing c mid e f g h = (sym (standing mid.state (phase_of mid.phase) mid.start mid.begun f g h) ∙ ap (finished_from limits) e, refl)

@@ -4,7 +4,7 @@ use Rattle.std.specs.Prelude.{Option}
 use Rattle.std.proofs.lemmas.List.{drop-append-le, take-append-le}
 use Rattle.eo_base.specs.declared.FaultName.TheVariants.{CommandLong}
 use Rattle.eo_base.specs.Limits.{limits}
-use Rattle.eo_sexp.specs.declared.Spot.{Spot}
+use Rattle.eo_sexp.specs.Spot.{Spot}
 use Rattle.eo_sexp.specs.declared.incremental.State.{State}
 use Rattle.eo_sexp.specs.declared.incremental.State.TheVariants as state
 use Rattle.eo_sexp.specs.declared.incremental.Machine.{Machine}

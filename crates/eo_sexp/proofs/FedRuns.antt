@@ -4,7 +4,7 @@ use Rattle.std.specs.Prelude.{Option, codes, bytes_eq}
 use Rattle.eo_base.specs.Limits.{limits}
 use Rattle.eo_base.specs.declared.FaultName.TheVariants.{CommandLong}
 use Rattle.eo_base.specs.declared.FaultName.{FaultName}
-use Rattle.eo_sexp.specs.declared.Spot.{Spot}
+use Rattle.eo_sexp.specs.Spot.{Spot}
 use Rattle.eo_sexp.specs.declared.reader.Reader.{Reader}
 use Rattle.eo_sexp.specs.declared.reader.ReaderTurn.{ReaderTurn}
 use Rattle.eo_sexp.specs.declared.reader.ReaderTurn.TheVariants as turn

@@ -6,7 +6,7 @@ use Rattle.std.proofs.lemmas.List.{take_all}
 use Rattle.eo_base.specs.declared.FaultName.{FaultName}
 use Rattle.eo_base.specs.declared.FaultName.TheVariants.{CommandLong, TokenLong}
 use Rattle.eo_base.specs.Limits.{limits}
-use Rattle.eo_sexp.specs.declared.Spot.{Spot}
+use Rattle.eo_sexp.specs.Spot.{Spot}
 use Rattle.eo_sexp.specs.declared.reader.Reader.{Reader}
 use Rattle.eo_sexp.specs.Built.{Built, nothing, with_byte}
 use Rattle.eo_sexp.specs.declared.reader.ReaderTurn.TheVariants as turn

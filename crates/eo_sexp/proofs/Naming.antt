@@ -4,9 +4,8 @@ use Rattle.std.specs.Prelude.{⊤, Option, Some, None, if◌then◌else◌, nat_
 use Rattle.eo_base.specs.declared.FaultName.{FaultName}
 use Rattle.eo_base.specs.declared.FaultName.TheVariants.{TokenLong, CommandLong}
 use Rattle.eo_base.specs.Limits.{Limits}
-use Rattle.eo_sexp.specs.declared.Spot.{Spot}
-use Rattle.eo_sexp.specs.declared.Kind.{Kind}
-use Rattle.eo_sexp.specs.declared.Kind.TheVariants as kind
+use Rattle.eo_sexp.specs.Spot.{Spot}
+use Rattle.eo_sexp.specs.AtomKind as kind
 use Rattle.eo_sexp.specs.Sexp.{Sexp, Sexps}
 use Rattle.eo_sexp.specs.Lexicon.{Class, Space, Comment, Open, Close, Quote, Bar, Word, Other, class, Input, advance, skip, Body, Closes, Stops, RunsOut, string, quoted, is_word}
 use Rattle.eo_sexp.specs.Commands.{Reading, Whole, Refused, Cut, ◌>>=◌, comes_first, at_most, delimited, word_before, word, front, prepend, and_others, listed, opened, atom, turn, children, lists, sexp, command}
@@ -35,7 +34,7 @@ names-bind (Whole x rest) f h g = g x rest
 names-bind (Refused name at) f h g = h
 names-bind (Cut if_ends) f h g = tt
 
-names-delimited : (k : Kind) (t : Input) (b : Body) → Names (delimited k t b)
+names-delimited : (k : kind.AtomKind) (t : Input) (b : Body) → Names (delimited k t b)
 unfolding delimited
 names-delimited k t (Closes size) = tt
 names-delimited k t (Stops size) = refl

@@ -7,6 +7,7 @@ use Rattle.eo_sexp.specs.Lexicon.{Close, class, Input, advance, skip}
 use Rattle.eo_sexp.specs.OpenLists as nest
 use Rattle.eo_sexp.specs.Sexp.{sexps_of}
 use Rattle.eo_sexp.specs.Reader.{inner, outer, gap_reading, child_reading, AddsChild, ClosesList, IsWhole}
+use Rattle.eo_sexp.proofs.Sizes.{size-append}
 use Rattle.eo_sexp.proofs.Resuming.{skip-front, resume-close}
 
 attach-none : (ss : List Sexp) → nest.attach ss NoSexp ≡ sexps_of ss
@@ -33,7 +34,7 @@ module _ (limits : Limits) where
   adds_inner : (bytes : List ℕ) (fs : List OpenList) (done : List Sexp) (s : Sexp) (whole : Bool) →
       ((0 < length (with_child (record { bytes = bytes; open_lists = fs; done = done }) s).open_lists) × (whole ≡ false)) → AddsChild limits (record { bytes = bytes; open_lists = fs; done = done }) s (with_child (record { bytes = bytes; open_lists = fs; done = done }) s) whole
   adds_inner bytes [] done s false e = absurd (omega (arith, e.0))
-  adds_inner bytes (f ∷ fs) done s false e = (refl, omega arith, refl, λ rest. child-added f fs s rest)
+  adds_inner bytes (f ∷ fs) done s false e = (refl, omega arith, refl, λ rest. child-added f fs s rest, omega (arith, size-append f.children (s ∷ [])))
   adds_inner bytes fs done s true e = cc
 
   -- a child is added
@@ -86,6 +87,7 @@ module _ (limits : Limits) where
     refl,
     λ at x more t c.
         close-to f (g ∷ gs) to n at x more t c ∙ child-added g gs (Listed (sexps_of f.children) (record { from = f.at; to = to })) (record { at = to; bytes = more }),
+    omega (arith, size-append g.children (Listed (sexps_of f.children) (record { from = f.at; to = to }) ∷ [])),
   )
 
   -- the innermost list is closed

@@ -3,7 +3,7 @@ use Rattle.std.proofs.Common.{◌≡◌, ◌≢◌, refl, ℕ, ◌+◌, ◌≤�
 use Rattle.std.proofs.Math.Seq.{take-length}
 use Rattle.std.proofs.lemmas.List.Elements.{All-weaker}
 use Rattle.eo_base.specs.Limits.{limits}
-use Rattle.eo_sexp.specs.declared.Spot.{Spot}
+use Rattle.eo_sexp.specs.Spot.{Spot}
 use Rattle.eo_sexp.specs.declared.incremental.State.TheVariants as state
 use Rattle.eo_sexp.specs.declared.incremental.Machine.{Machine}
 use Rattle.eo_sexp.specs.Lexicon.{is_line_end, pass}

@@ -4,7 +4,7 @@ use Rattle.std.specs.Prelude.{Option, Some, None, ◌⊎◌, if◌then◌else◌
 use Rattle.eo_base.specs.declared.FaultName.{FaultName}
 use Rattle.eo_base.specs.declared.FaultName.TheVariants.{BadByte, Nesting, Width}
 use Rattle.eo_base.specs.Limits.{Limits}
-use Rattle.eo_sexp.specs.Built.{OpenList, Built}
+use Rattle.eo_sexp.specs.Built.{OpenList, Built, parts_in}
 use Rattle.eo_sexp.specs.declared.reader.Place.{Place}
 use Rattle.eo_sexp.specs.declared.reader.Place.TheVariants as place
 use Rattle.eo_sexp.specs.declared.reader.ReaderTurn.{ReaderTurn}
@@ -17,7 +17,7 @@ use Rattle.eo_sexp.specs.Sexp.{Sexp, Atom}
 use Rattle.eo_sexp.specs.Lexicon.{Class, Space, Comment, Open, Close, Quote, Bar, Word, Other, class, is_line_end, Input, pass, skip, Passed}
 use Rattle.eo_sexp.specs.Commands.{Reading, Whole, Refused, Cut, ◌>>=◌, atom}
 use Rattle.eo_sexp.specs.Token.{token_class, opening, IsToken, token_size, atom_kind, atom_text, token_turn, token_end, may_end}
-use Rattle.eo_sexp.specs.Reader.{Held, IsAtom, inner, outer, gap_reading, child_reading, token_reading, place_reading, reading, IsPlace, IsReader, AddsChild, ClosesList, BeginsToken, Begins, Turns, atom_of, is_full}
+use Rattle.eo_sexp.specs.Reader.{Held, IsAtom, inner, outer, gap_reading, child_reading, token_reading, place_reading, reading, IsPlace, HasBytes, IsReader, AddsChild, ClosesList, BeginsToken, Begins, Turns, atom_of, is_full}
 use Rattle.eo_sexp.proofs.Resuming.{StandsStill, resume-cut}
 use Rattle.eo_sexp.proofs.TokenEnds.{token_cut}
 use Rattle.eo_sexp.proofs.TokenTurns.{TokenTurns, token_turns}
@@ -56,8 +56,16 @@ module _ (limits : Limits) where
   pub stands-as : (r : Held) (at : ℕ) (p : Place) → r.place ≡ p → IsReader limits r at → IsPlace limits (length r.frames) p r.from r.text at
   stands-as r at p e h = subst (λ q. IsPlace limits (length r.frames) q r.from r.text at) e h.stands
 
-  pub as-reader : (r : Held) (at : ℕ) (p : Place) → r.place ≡ p → length r.frames ≤ limits.nesting → r.done ≡ [] → IsPlace limits (length r.frames) p r.from r.text at → IsReader limits r at
-  as-reader r at p e n d s = record { nested = n; stands = subst (λ q. IsPlace limits (length r.frames) q r.from r.text at) (sym e) s; none = d }
+  pub as-reader : (r : Held) (at : ℕ) (p : Place) → r.place ≡ p → length r.frames ≤ limits.nesting → r.done ≡ [] → IsPlace limits (length r.frames) p r.from r.text at → HasBytes limits (parts_in r.frames) p r.from at → IsReader limits r at
+  as-reader r at p e n d s w = record {
+    nested = n;
+    stands = subst (λ q. IsPlace limits (length r.frames) q r.from r.text at) (sym e) s;
+    none = d;
+    own = subst (λ q. HasBytes limits (parts_in r.frames) q r.from at) (sym e) w;
+  }
+
+  pub own-as : (r : Held) (at : ℕ) (p : Place) → r.place ≡ p → IsReader limits r at → HasBytes limits (parts_in r.frames) p r.from at
+  own-as r at p e h = subst (λ q. HasBytes limits (parts_in r.frames) q r.from at) e h.own
 
   some-open : (r : Held) (at : ℕ) → r.place ≡ place.Gap → IsReader limits r at → 0 < length r.frames
   some-open r at p h = let n : 0 < length r.frames = stands-as r at place.Gap p h in omega (arith, n)
@@ -67,8 +75,9 @@ module _ (limits : Limits) where
   pub turns-space : (old new : Held) (at x : ℕ) → IsReader limits old at → old.place ≡ place.Gap → new.frames ≡ old.frames → new.done ≡ old.done → new.place ≡ place.Gap → class x ≡ Space → Turns limits old at x turn.Goes new
   turns-space old new at x h p f d q e =
       let same = ap length f in
-      let n : 0 < length old.frames = stands-as old at place.Gap p h in (
-        as-reader new (suc at) place.Gap q (omega (arith, h.nested, same)) (d ∙ h.none) (omega (arith, n, same)),
+      let n : 0 < length old.frames = stands-as old at place.Gap p h in
+      let own : parts_in old.frames ≤ at = own-as old at place.Gap p h in (
+        as-reader new (suc at) place.Gap q (omega (arith, h.nested, same)) (d ∙ h.none) (omega (arith, n, same)) (omega (arith, own, ap parts_in f)),
         λ more. reading-gap old at (x ∷ more) p ∙ gap-space limits old.frames at x more e
             ∙ ap (λ v. gap_reading limits v (pass false (suc at) more).rest) (sym f) ∙ sym (reading-gap new (suc at) more q),
       )
@@ -76,8 +85,9 @@ module _ (limits : Limits) where
   pub turns-comment : (old new : Held) (at x : ℕ) → IsReader limits old at → old.place ≡ place.Gap → new.frames ≡ old.frames → new.done ≡ old.done → new.place ≡ place.Comment → class x ≡ Comment → Turns limits old at x turn.Goes new
   turns-comment old new at x h p f d q e =
       let same = ap length f in
-      let n : 0 < length old.frames = stands-as old at place.Gap p h in (
-        as-reader new (suc at) place.Comment q (omega (arith, h.nested, same)) (d ∙ h.none) (omega (arith, n, same)),
+      let n : 0 < length old.frames = stands-as old at place.Gap p h in
+      let own : parts_in old.frames ≤ at = own-as old at place.Gap p h in (
+        as-reader new (suc at) place.Comment q (omega (arith, h.nested, same)) (d ∙ h.none) (omega (arith, n, same)) (omega (arith, own, ap parts_in f)),
         λ more. reading-gap old at (x ∷ more) p ∙ gap-comment limits old.frames at x more e
             ∙ ap (λ v. gap_reading limits (v) (pass true (suc at) more).rest) (sym f) ∙ sym (reading-comment new (suc at) more q),
       )
@@ -85,16 +95,18 @@ module _ (limits : Limits) where
   in_comment : (b : Bool) (old new : Held) (at x : ℕ) → is_line_end x ≡ b → IsReader limits old at → old.place ≡ place.Comment → new.frames ≡ old.frames → new.done ≡ old.done → new.place ≡ (if b then place.Gap else place.Comment) → Turns limits old at x turn.Goes new
   in_comment true old new at x b h p f d q =
       let same = ap length f in
-      let n : 0 < length old.frames = stands-as old at place.Comment p h in (
-        as-reader new (suc at) place.Gap q (omega (arith, h.nested, same)) (d ∙ h.none) (omega (arith, n, same)),
+      let n : 0 < length old.frames = stands-as old at place.Comment p h in
+      let own : parts_in old.frames ≤ at = own-as old at place.Comment p h in (
+        as-reader new (suc at) place.Gap q (omega (arith, h.nested, same)) (d ∙ h.none) (omega (arith, n, same)) (omega (arith, own, ap parts_in f)),
         λ more. reading-comment old at (x ∷ more) p
             ∙ ap (λ (u : Passed). gap_reading limits old.frames u.rest) (pass-in_comment at x more ∙ ap (λ l. pass (not l) (suc at) more) b)
             ∙ ap (λ v. gap_reading limits (v) (pass false (suc at) more).rest) (sym f) ∙ sym (reading-gap new (suc at) more q),
       )
   in_comment false old new at x b h p f d q =
       let same = ap length f in
-      let n : 0 < length old.frames = stands-as old at place.Comment p h in (
-        as-reader new (suc at) place.Comment q (omega (arith, h.nested, same)) (d ∙ h.none) (omega (arith, n, same)),
+      let n : 0 < length old.frames = stands-as old at place.Comment p h in
+      let own : parts_in old.frames ≤ at = own-as old at place.Comment p h in (
+        as-reader new (suc at) place.Comment q (omega (arith, h.nested, same)) (d ∙ h.none) (omega (arith, n, same)) (omega (arith, own, ap parts_in f)),
         λ more. reading-comment old at (x ∷ more) p
             ∙ ap (λ (u : Passed). gap_reading limits old.frames u.rest) (pass-in_comment at x more ∙ ap (λ l. pass (not l) (suc at) more) b)
             ∙ ap (λ v. gap_reading limits (v) (pass true (suc at) more).rest) (sym f) ∙ sym (reading-comment new (suc at) more q),
@@ -119,8 +131,9 @@ module _ (limits : Limits) where
   pub turns-open : (old new : Held) (at x : ℕ) → IsReader limits old at → old.place ≡ place.Gap → length old.frames < limits.nesting → is_full limits old.frames ≡ false →
       new.frames ≡ record { at = at; children = [] } ∷ old.frames → new.done ≡ old.done → new.place ≡ old.place → class x ≡ Open → Turns limits old at x turn.Goes new
   turns-open old new at x h p d m f n q e =
-      let same = ap length f in (
-        as-reader new (suc at) place.Gap (q ∙ p) (omega (arith, d, same)) (n ∙ h.none) (omega (arith, same)),
+      let same = ap length f in
+      let own : parts_in old.frames ≤ at = own-as old at place.Gap p h in (
+        as-reader new (suc at) place.Gap (q ∙ p) (omega (arith, d, same)) (n ∙ h.none) (omega (arith, same)) (omega (arith, own, ap parts_in f)),
         λ more.
             reading-gap old at (x ∷ more) p
             ∙ gap-open limits old.frames (record { at = at; children = [] }) at x more (some-open old at p h) d m refl refl e
@@ -134,7 +147,8 @@ module _ (limits : Limits) where
 
   pub turns-close : (old new : Held) (at to x : ℕ) → IsReader limits old at → old.place ≡ place.Gap → new.place ≡ old.place → suc at ≡ to → class x ≡ Close → ClosesList limits (bare old) to (bare new) false → Turns limits old at x turn.Goes new
   turns-close old new at to x h p q t e c = (
-    as-reader new (suc at) place.Gap (q ∙ p) (omega (arith, h.nested, c.0)) (c.2 ∙ h.none) c.1,
+    as-reader new (suc at) place.Gap (q ∙ p) (omega (arith, h.nested, c.0)) (c.2 ∙ h.none) c.1
+        (let own : parts_in old.frames ≤ at = own-as old at place.Gap p h in omega (arith, own, c.4)),
     λ more.
         reading-gap old at (x ∷ more) p ∙ gap-at limits Close old.frames at x more tt e ∙ c.3 at x more t e
         ∙ ap (λ k. gap_reading limits new.frames (record { at = k; bytes = more })) (sym t)
@@ -152,7 +166,7 @@ module _ (limits : Limits) where
 
   pub turns-atom : (old new : Held) (at x : ℕ) → IsReader limits old at → old.place ≡ place.Gap → is_full limits old.frames ≡ false → IsAtom (class x) → BeginsToken limits old at x new → Turns limits old at x turn.Goes new
   turns-atom old new at x h p m a b = (
-    record { nested = omega (arith, h.nested, ap length b.frames); stands = b.stands (length new.frames); none = b.done ∙ h.none },
+    record { nested = omega (arith, h.nested, ap length b.frames); stands = b.stands (length new.frames); none = b.done ∙ h.none; own = b.own (parts_in new.frames) (let own : parts_in old.frames ≤ at = own-as old at place.Gap p h in omega (arith, own, ap parts_in b.frames)) },
     λ more.
         reading-gap old at (x ∷ more) p
         ∙ gap-atom limits (class x) old.frames at x more (some-open old at p h) m a (atom-stands (class x) a) refl
@@ -174,8 +188,10 @@ module _ (limits : Limits) where
   turns-goes old new t u at x h p k f d q a i =
       let s = stands-as old at (place.Token t) p h in
       let long = ap length i ∙ length-append old.text (x ∷ []) in
-      let start = ap length k.2 in (
-        as-reader new (suc at) (place.Token u) q (omega (arith, h.nested, ap length f)) (d ∙ h.none) (subst (IsToken u) (sym i) k.0, omega (arith, s.1, long, start, a), omega (arith, k.3, long, start)),
+      let start = ap length k.2 in
+      let own = own-as old at (place.Token t) p h in (
+        as-reader new (suc at) (place.Token u) q (omega (arith, h.nested, ap length f)) (d ∙ h.none) (subst (IsToken u) (sym i) k.0, omega (arith, s.1, long, start, a), omega (arith, k.3, long, start))
+            (omega (arith, own.0, ap parts_in f, a), omega (arith, own.1, a)),
         λ more.
             reading-token old t at (x ∷ more) p
             ∙ ap (λ c. token_reading limits old.frames (atom limits c (record { at = old.from; bytes = opening t ++ (old.text ++ x ∷ more) }))) k.1
@@ -223,7 +239,8 @@ module _ (limits : Limits) where
   pub turns-closes : (old new : Held) (t : Token) (at to x : ℕ) → IsReader limits old at → old.place ≡ place.Token t → suc at ≡ to → TokenTurns limits t old.text x token_turns_to.Closes →
       new.place ≡ place.Gap → AddsChild limits (bare old) (atom_of old t to) (bare new) false → Turns limits old at x turn.Goes new
   turns-closes old new t at to x h p e k q c = (
-    as-reader new (suc at) place.Gap q (omega (arith, h.nested, c.0)) (c.2 ∙ h.none) (omega (arith, c.0, c.1)),
+    as-reader new (suc at) place.Gap q (omega (arith, h.nested, c.0)) (c.2 ∙ h.none) (omega (arith, c.0, c.1))
+        (let own = own-as old at (place.Token t) p h in omega (arith, own.0, own.1, c.4)),
     λ more.
         closed-token old t at to x h p e k more ∙ c.3 (record { at = suc at; bytes = more }) ∙ gap-pass limits new.frames (suc at) more ∙ sym (reading-gap new (suc at) more q),
   )
@@ -249,8 +266,10 @@ module _ (limits : Limits) where
   )
 
   -- behind the token the byte is one between two tokens
-  pub ended-reader : (old mid : Held) (s : Sexp) (at : ℕ) → IsReader limits old at → mid.place ≡ place.Gap → AddsChild limits (bare old) s (bare mid) false → IsReader limits mid at
-  ended-reader old mid s at h q c = as-reader mid at place.Gap q (omega (arith, h.nested, c.0)) (c.2 ∙ h.none) (omega (arith, c.0, c.1))
+  pub ended-reader : (old mid : Held) (t : Token) (to at : ℕ) → IsReader limits old at → old.place ≡ place.Token t → mid.place ≡ place.Gap → AddsChild limits (bare old) (atom_of old t to) (bare mid) false → IsReader limits mid at
+  ended-reader old mid t to at h p q c =
+      as-reader mid at place.Gap q (omega (arith, h.nested, c.0)) (c.2 ∙ h.none) (omega (arith, c.0, c.1))
+      (let own = own-as old at (place.Token t) p h in omega (arith, own.0, own.1, c.4))
 
   turns-as : (old mid new : Held) (at x : ℕ) (k : ReaderTurn) → ((more : List ℕ) → reading limits old at (x ∷ more) ≡ reading limits mid at (x ∷ more)) → Turns limits mid at x k new → Turns limits old at x k new
   turns-as old mid new at x turn.Goes e h = (h.0, λ more. e more ∙ h.1 more)
@@ -269,7 +288,7 @@ module _ (limits : Limits) where
   pub list-read : 1 ≤ limits.nesting → (new : Held) (x : ℕ) → new.frames ≡ record { at = 0; children = [] } ∷ [] → new.done ≡ [] → new.place ≡ place.Gap → class x ≡ Open → Begins limits x new
   list-read n new x f d p e =
       let same = ap length f in (
-        as-reader new 1 place.Gap p (omega (arith, same, n)) d (omega (arith, same)),
+        as-reader new 1 place.Gap p (omega (arith, same, n)) d (omega (arith, same)) (omega (arith, ap parts_in f)),
         λ more.
             list-begins limits (record { at = 0; children = [] }) x more n refl refl e ∙ ap (λ fs. gap_reading limits fs (pass false 1 more).rest) (sym f) ∙ sym (reading-gap new 1 more p),
       )

@@ -1,19 +1,8 @@
--- How large an s-expression is: how many lists and atoms it has.
-use Rattle.std.proofs.Common.{◌≡◌, ℕ, ◌+◌, ◌<◌, List, Some, refl, ap, ◌∙◌, arith}
+-- The sizes of lists of s-expressions.
+use Rattle.std.proofs.Common.{◌≡◌, ℕ, zero, suc, ◌+◌, ◌<◌, List, [], ◌∷◌, ◌++◌, take, drop, Some, refl, ap, ◌∙◌, arith}
 use Rattle.eo_sexp.specs.Sexp.{Sexp, Atom, Listed, Sexps, NoSexp, Next, children_of, sexps_of}
+use Rattle.eo_sexp.specs.Sizes.{size, size_in, size_of_all}
 use Rattle.eo_sexp.specs.Pairs.{list_of}
-
-abbrev mutual
-  pub size : Sexp → ℕ
-  size (Atom k text span) = 1
-  size (Listed ss span) = 1 + size_in ss
-
-  pub size_in : Sexps → ℕ
-  size_in NoSexp = 0
-  size_in (Next s ss) = size s + size_in ss
-
-abbrev pub size_of_all : List Sexp → ℕ
-size_of_all ss = size_in (sexps_of ss)
 
 pub sexps_of-children : (ss : Sexps) → sexps_of (children_of ss) ≡ ss
 sexps_of-children NoSexp = refl
@@ -26,3 +15,12 @@ size_inside (Listed inside span) ss e =
     let same : ss ≡ children_of inside = cc in
     let all : size_of_all ss ≡ size_in inside = ap size_of_all same ∙ ap size_in (sexps_of-children inside) in
     omega (arith, all)
+
+pub size-append : (ss ts : List Sexp) → size_of_all (ss ++ ts) ≡ size_of_all ss + size_of_all ts
+size-append [] ts = omega arith
+size-append (s ∷ ss) ts = omega (arith, size-append ss ts)
+
+pub size-split : (n : ℕ) (ss : List Sexp) → size_of_all (take n ss) + size_of_all (drop n ss) ≡ size_of_all ss
+size-split zero ss = omega arith
+size-split (suc n) [] = omega arith
+size-split (suc n) (s ∷ ss) = omega (arith, size-split n ss)

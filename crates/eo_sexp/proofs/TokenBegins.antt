@@ -9,7 +9,8 @@ use Rattle.eo_sexp.specs.declared.classes.Class.TheVariants as byte
 use Rattle.eo_sexp.specs.declared.reader.Place.TheVariants as place
 use Rattle.eo_sexp.specs.Commands.{atom, sexp}
 use Rattle.eo_sexp.specs.Token.{class_of, IsToken, token_size}
-use Rattle.eo_sexp.specs.Reader.{Held, IsAtom, token_reading, place_reading, IsPlace, BeginsToken, Begins}
+use Rattle.eo_sexp.specs.Built.{parts_in}
+use Rattle.eo_sexp.specs.Reader.{HasBytes, Held, IsAtom, token_reading, place_reading, IsPlace, BeginsToken, Begins}
 use Rattle.eo_sexp.proofs.Bounds.{class-word}
 use Rattle.eo_sexp.proofs.TokenTurns.{is_one_of-one}
 use Rattle.eo_sexp.proofs.TokenEnds.{word-begins, string-begins, quoted-begins}
@@ -81,6 +82,7 @@ module _ (limits : Limits) (some : 1 ≤ limits.token) where
     done = d;
     stands = λ n. subst (λ q. IsPlace limits n q new.from new.text (suc at)) (sym p)
         (subst (λ k. IsToken (token.Text false) new.text × (k + token_size (token.Text false) new.text ≡ suc at) × (token_size (token.Text false) new.text ≤ limits.token)) (sym a) (quote-stands new.text at t));
+    own = λ n few. subst (λ q. HasBytes limits n q new.from (suc at)) (sym p) (omega (arith, few, a), omega (arith, a));
     reads = λ fs more.
         ap (λ c. token_reading limits fs (atom limits c (record { at = at; bytes = x ∷ more }))) e
         ∙ ap (λ y. token_reading limits fs (atom limits Quote (record { at = at; bytes = y ∷ more }))) (quote-is x e)
@@ -96,6 +98,7 @@ module _ (limits : Limits) (some : 1 ≤ limits.token) where
     done = d;
     stands = λ n. subst (λ q. IsPlace limits n q new.from new.text (suc at)) (sym p)
         (subst (λ k. IsToken token.Quoted new.text × (k + token_size token.Quoted new.text ≡ suc at) × (token_size token.Quoted new.text ≤ limits.token)) (sym a) (bar-stands new.text at t));
+    own = λ n few. subst (λ q. HasBytes limits n q new.from (suc at)) (sym p) (omega (arith, few, a), omega (arith, a));
     reads = λ fs more.
         ap (λ c. token_reading limits fs (atom limits c (record { at = at; bytes = x ∷ more }))) e
         ∙ ap (λ y. token_reading limits fs (atom limits Bar (record { at = at; bytes = y ∷ more }))) (bar-is x e)
@@ -111,6 +114,7 @@ module _ (limits : Limits) (some : 1 ≤ limits.token) where
     done = d;
     stands = λ n. subst (λ q. IsPlace limits n q new.from new.text (suc at)) (sym p)
         (subst (λ k. IsToken token.Word new.text × (k + token_size token.Word new.text ≡ suc at) × (token_size token.Word new.text ≤ limits.token)) (sym a) (word-stands new.text at x t e));
+    own = λ n few. subst (λ q. HasBytes limits n q new.from (suc at)) (sym p) (omega (arith, few, a), omega (arith, a));
     reads = λ fs more.
         ap (λ c. token_reading limits fs (atom limits c (record { at = at; bytes = x ∷ more }))) e
         ∙ ap (λ k. token_reading limits fs (atom limits Word (record { at = k; bytes = x ∷ more }))) (sym a)
@@ -123,7 +127,7 @@ module _ (limits : Limits) (some : 1 ≤ limits.token) where
   unfolding token_reading sexp
   atom-begins old new x e d a b =
       let none : new.frames ≡ [] = b.frames ∙ e in (
-        record { nested = omega (arith, ap length none); stands = b.stands (length new.frames); none = b.done ∙ d },
+        record { nested = omega (arith, ap length none); stands = b.stands (length new.frames); none = b.done ∙ d; own = b.own (parts_in new.frames) (omega (arith, ap parts_in none)) },
         λ more.
             go (class x) a (record { at = 0; bytes = x ∷ more })
             ∙ b.reads [] more

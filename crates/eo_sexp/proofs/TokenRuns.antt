@@ -14,13 +14,13 @@ use Rattle.eo_sexp.specs.declared.reader.Place.TheVariants as place
 use Rattle.eo_sexp.specs.declared.reader.Reader.{Reader}
 use Rattle.eo_sexp.specs.Lexicon.{is_space, is_text, is_quotable, is_word, is_one_of}
 use Rattle.eo_sexp.specs.Commands.{atom}
-use Rattle.eo_sexp.specs.Built.{Built}
+use Rattle.eo_sexp.specs.Built.{Built, parts_in}
 use Rattle.eo_sexp.specs.Token.{token_class, opening, IsToken, token_size, go_on, close, token_turn, is_plain}
 use Rattle.eo_sexp.specs.Reader.{Held, held, text_at, IsReader, token_reading, RunsTo}
 use Rattle.eo_sexp.proofs.TokenTurns.{TokenTurns, token_turns}
 use Rattle.eo_sexp.proofs.RunSteps.{plain-spot}
 use Rattle.eo_sexp.proofs.TokenPlaces.{opening-within}
-use Rattle.eo_sexp.proofs.ReaderSteps.{stands-as, as-reader, reading-token}
+use Rattle.eo_sexp.proofs.ReaderSteps.{stands-as, own-as, as-reader, reading-token}
 
 picks : (b : Bool) (p q : TokenTurn) → b ≡ true → (if b then p else q) ≡ p
 picks true p q e = refl
@@ -79,6 +79,7 @@ module _ (limits : Limits) where
       let old : Held = held b r in
       let new : Held = held c r in
       let s = stands-as limits old (length b.bytes) (place.Token t) p h in
+      let own = own-as limits old (length b.bytes) (place.Token t) p h in
       let long : length xs ≡ n = length-take-le n rest within in
       let bytes : c.bytes ≡ b.bytes ++ xs = ap (λ (w : Built). w.bytes) same in
       let count : length c.bytes ≡ length b.bytes + n = omega (arith, ap length bytes, length-append b.bytes xs, long) in
@@ -101,7 +102,7 @@ module _ (limits : Limits) where
               subst (IsToken t) (sym text) (plain-token t old.text xs s.0 plain (omega (arith, s.1, long))),
               omega (arith, s.1, count, ap length text, length-append old.text xs, long),
               omega (arith, s.1, ap length text, length-append old.text xs, long),
-            );
+            ) (omega (arith, own.0, ap (λ (w : Built). parts_in w.open_lists) same), omega (arith, own.1, count));
         reads = λ more.
             reading-token limits old t (length b.bytes) (xs ++ more) p
             ∙ ap (λ l. token_reading limits old.frames (atom limits (token_class t) (record { at = r.from; bytes = opening t ++ l }))) (sym (append_assoc old.text xs more))

@@ -10,7 +10,7 @@ use Rattle.eo_base.specs.declared.FaultName.TheVariants.{BadByte, TokenLong}
 use Rattle.eo_base.specs.declared.FaultName.{FaultName}
 use Rattle.eo_base.specs.Faults.{number}
 use Rattle.eo_base.specs.Limits.{Limits}
-use Rattle.eo_sexp.specs.declared.Kind.TheVariants as kind
+use Rattle.eo_sexp.specs.AtomKind as kind
 use Rattle.eo_sexp.specs.declared.token.Token.{Token}
 use Rattle.eo_sexp.specs.declared.token.Token.TheVariants as token
 use Rattle.eo_sexp.specs.declared.token.TokenTurn.{TokenTurn}

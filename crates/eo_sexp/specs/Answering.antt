@@ -3,7 +3,7 @@ use Rattle.std.specs.Prelude.{◌≡◌, ℕ, ◌+◌, Bool, true, false, List, 
 use Rattle.eo_base.specs.declared.FaultName.{FaultName}
 use Rattle.eo_base.specs.declared.FaultName.TheVariants.{BadByte, Unclosed, ExtraClose, TokenLong, CommandLong, Nesting, Width}
 use Rattle.eo_base.specs.Limits.{Limits}
-use Rattle.eo_sexp.specs.declared.Spot.{Spot}
+use Rattle.eo_sexp.specs.Spot.{Spot}
 use Rattle.eo_sexp.specs.Texts.{Reads, Then, Ends, Fails, first_spot, spot_after, reads_all}
 use Rattle.eo_sexp.specs.Collecting.{Collecting, Within, AtCommand, Failed, NoMemory, new_collector, here_of, IsLive, IsWithin, fed_with, finished_with}
 use Rattle.eo_sexp.specs.Cutting.{IsWaiting}

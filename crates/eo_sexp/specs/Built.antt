@@ -1,7 +1,8 @@
 -- A command that is begun: its bytes, the lists that are open, and the s-expressions that are whole.
-use Rattle.std.specs.Prelude.{ℕ, List, [], ◌∷◌, ◌++◌, length}
+use Rattle.std.specs.Prelude.{ℕ, ◌+◌, List, [], ◌∷◌, ◌++◌, length}
 use Rattle.eo_sexp.specs.Sexp.{Sexp, Listed}
 use Rattle.eo_sexp.specs.Sexp.{sexps_of}
+use Rattle.eo_sexp.specs.Sizes.{size_of_all}
 
 -- the byte of its `(`, and its children so far
 pub record OpenList : Type 0 where
@@ -17,6 +18,14 @@ pub record Built : Type 0 where
 
 abbrev pub nothing : Built
 nothing = record { bytes = []; open_lists = []; done = [] }
+
+-- how many lists and atoms the open lists are made of so far, and all that is begun
+abbrev pub parts_in : List OpenList → ℕ
+parts_in [] = 0
+parts_in (f ∷ fs) = 1 + size_of_all f.children + parts_in fs
+
+abbrev pub parts_of : Built → ℕ
+parts_of b = parts_in b.open_lists + size_of_all b.done
 
 -- behind the child s of the innermost list, or behind s where no list is open
 abbrev pub behind_child : List ℕ → List OpenList → List Sexp → Sexp → Built

@@ -1,12 +1,16 @@
 pub mod Answering
+pub mod AtomKind
 pub mod Collecting
 pub mod Commands
 pub mod Cutting
+pub mod Kinds
 pub mod Lexicon
 pub mod Machine
 pub mod OpenLists
 pub mod Reader
 pub mod Sexp
+pub mod Sizes
+pub mod Spot
 pub mod SexpCode
 pub mod Texts
 pub mod Token

@@ -4,7 +4,7 @@ use Rattle.eo_base.specs.declared.FaultName.{FaultName}
 use Rattle.eo_base.specs.declared.FaultName.TheVariants.{CommandLong}
 use Rattle.eo_base.specs.Faults.{number}
 use Rattle.eo_base.specs.Limits.{Limits, limits}
-use Rattle.eo_sexp.specs.declared.Spot.{Spot}
+use Rattle.eo_sexp.specs.Spot.{Spot}
 use Rattle.eo_sexp.specs.declared.Fed.{Fed}
 use Rattle.eo_sexp.specs.declared.Fed.TheVariants as fed
 use Rattle.eo_sexp.specs.declared.incremental.Phase.{Phase as FilePhase}

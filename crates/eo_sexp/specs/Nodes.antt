@@ -3,9 +3,10 @@ use Rattle.std.specs.Prelude.{◌≡◌, ℕ, ◌+◌, ◌-◌, ◌<◌, ◌≤�
 use Rattle.std.specs.List.{slice_range}
 use Rattle.eo_sexp.specs.Sexp.{Sexp, Atom, Listed, NoSexp}
 use Rattle.eo_sexp.specs.Sexp.{sexps_of}
-use Rattle.eo_sexp.specs.declared.Kind.{Kind}
+use Rattle.eo_sexp.specs.declared.token.AtomKind.{AtomKind}
 use Rattle.eo_sexp.specs.declared.lent.Node.{Node}
 use Rattle.eo_sexp.specs.declared.lent.Node.TheVariants as node
+use Rattle.eo_sexp.specs.Token.{kind_meant}
 
 -- the bytes of a token, without its delimiters
 abbrev pub token_text : List ℕ → (delimited : Bool) → (from to : ℕ) → List ℕ
@@ -13,13 +14,13 @@ token_text bytes true from to = slice_range bytes (from + 1) (to - 1)
 token_text bytes false from to = slice_range bytes from to
 
 -- the atom of these bytes that the token is
-abbrev pub token_atom : List ℕ → Kind → (delimited : Bool) → (from to : ℕ) → Sexp
-token_atom bytes k delimited from to = Atom k (token_text bytes delimited from to) (record { from = from; to = to })
+abbrev pub token_atom : List ℕ → AtomKind → (delimited : Bool) → (from to : ℕ) → Sexp
+token_atom bytes k delimited from to = Atom (kind_meant k) (token_text bytes delimited from to) (record { from = from; to = to })
 
 -- the s-expressions that the nodes are, read from the last node on
 abbrev pub trees : List ℕ → List Node → List Sexp
 trees bytes [] = []
-trees bytes (node.Atom k delimited from to ∷ ns) = Atom k (token_text bytes delimited from to) (record { from = from; to = to }) ∷ trees bytes ns
+trees bytes (node.Atom k delimited from to ∷ ns) = Atom (kind_meant k) (token_text bytes delimited from to) (record { from = from; to = to }) ∷ trees bytes ns
 trees bytes (node.List children inside from to ∷ ns) =
     Listed (sexps_of (take children (trees bytes ns))) (record { from = from; to = to }) ∷ drop children (trees bytes ns)
 

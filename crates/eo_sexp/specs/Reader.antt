@@ -7,12 +7,13 @@ use Rattle.eo_sexp.specs.declared.reader.Reader.{Reader}
 use Rattle.eo_sexp.specs.declared.reader.ReaderTurn.{ReaderTurn}
 use Rattle.eo_sexp.specs.declared.reader.ReaderTurn.TheVariants as turn
 use Rattle.eo_sexp.specs.Sexp.{Sexp, Atom}
+use Rattle.eo_sexp.specs.Sizes.{size}
 use Rattle.eo_sexp.specs.Lexicon.{Class, Close, Quote, Bar, Word, class, Input, pass}
 use Rattle.eo_sexp.specs.Commands.{Reading, Whole, Refused, Cut, ◌>>=◌, atom, sexp}
-use Rattle.eo_sexp.specs.declared.Spot.{Spot}
+use Rattle.eo_sexp.specs.Spot.{Spot}
 use Rattle.eo_sexp.specs.Texts.{spot_after}
 use Rattle.eo_sexp.specs.OpenLists as nest
-use Rattle.eo_sexp.specs.Built.{OpenList, Built, with_byte}
+use Rattle.eo_sexp.specs.Built.{OpenList, Built, with_byte, parts_in}
 use Rattle.eo_sexp.specs.declared.token.Token.{Token}
 use Rattle.eo_sexp.specs.declared.token.Token.TheVariants as token
 use Rattle.eo_sexp.specs.Token.{token_class, opening, IsToken, token_size, is_plain, atom_kind, atom_text}
@@ -108,11 +109,18 @@ module _ (limits : Limits) where
   IsPlace n place.Comment from text at = 0 < n
   IsPlace n (place.Token t) from text at = IsToken t text × (from + token_size t text ≡ at) × (token_size t text ≤ limits.token)
 
+  -- each list and atom so far has a byte of its own, before the token that is begun
+  abbrev pub HasBytes : (parts : ℕ) → Place → (from at : ℕ) → Type 0
+  HasBytes n place.Gap from at = n ≤ at
+  HasBytes n place.Comment from at = n ≤ at
+  HasBytes n (place.Token t) from at = (n ≤ from) × (from < at)
+
   -- so many bytes of the command are taken
   pub record IsReader (r : Held) (at : ℕ) : Type 0 where
     pub nested : length r.frames ≤ limits.nesting
     pub stands : IsPlace (length r.frames) r.place r.from r.text at
     pub none : r.done ≡ []
+    pub own : HasBytes (parts_in r.frames) r.place r.from at
 
   -- The child s is added to the innermost list, or is the whole command.
   abbrev pub AddsChild : (old : Built) → Sexp → (new : Built) → (whole : Bool) → Type 0
@@ -120,6 +128,7 @@ module _ (limits : Limits) where
   AddsChild old s new false =
       (length new.open_lists ≡ length old.open_lists) × (0 < length old.open_lists) × (new.done ≡ old.done)
       × ((rest : Input) → child_reading old.open_lists s rest ≡ gap_reading new.open_lists rest)
+      × (parts_in new.open_lists ≡ parts_in old.open_lists + size s)
 
   -- the innermost list is closed by a `)` before byte `to`
   abbrev pub ClosesList : (old : Built) → (to : ℕ) → (new : Built) → (whole : Bool) → Type 0
@@ -129,6 +138,7 @@ module _ (limits : Limits) where
   ClosesList old to new false =
       (length new.open_lists ≤ length old.open_lists) × (0 < length new.open_lists) × (new.done ≡ old.done)
       × ((at x : ℕ) (more : List ℕ) → suc at ≡ to → class x ≡ Close → gap_reading old.open_lists (record { at = at; bytes = x ∷ more }) ≡ gap_reading new.open_lists (record { at = to; bytes = more }))
+      × (parts_in new.open_lists ≡ parts_in old.open_lists)
 
   -- the innermost list, which comes first, may have no further child
   unfoldable pub is_full : List OpenList → Bool
@@ -152,6 +162,7 @@ module _ (limits : Limits) where
     pub frames : new.frames ≡ old.frames
     pub done : new.done ≡ old.done
     pub stands : (n : ℕ) → IsPlace n new.place new.from new.text (suc at)
+    pub own : (n : ℕ) → n ≤ at → HasBytes n new.place new.from (suc at)
     pub reads : (fs : List OpenList) (more : List ℕ) → token_reading fs (atom limits (class x) (record { at = at; bytes = x ∷ more })) ≡ place_reading fs new.place new.from new.text (suc at) more
 
   -- a command begins with the byte x

@@ -3,15 +3,17 @@ use Rattle.std.specs.Prelude.{◌≡◌, ℕ, suc, ◌+◌, ◌-◌, Bool, true,
 use Rattle.std.specs.List.{prefix_len}
 use Rattle.eo_base.specs.declared.FaultName.TheVariants.{BadByte, TokenLong}
 use Rattle.eo_base.specs.Limits.{Limits}
-use Rattle.eo_sexp.specs.declared.Kind.{Kind}
-use Rattle.eo_sexp.specs.declared.Kind.TheVariants as kind
 use Rattle.eo_sexp.specs.declared.classes.Class.{Class as ByteClass}
 use Rattle.eo_sexp.specs.declared.classes.Class.TheVariants as byte
+use Rattle.eo_sexp.specs.declared.token.AtomKind.{AtomKind as TokenKind}
+use Rattle.eo_sexp.specs.declared.token.AtomKind.TheVariants as code
 use Rattle.eo_sexp.specs.declared.token.Token.{Token}
 use Rattle.eo_sexp.specs.declared.token.Token.TheVariants as token
 use Rattle.eo_sexp.specs.declared.token.TokenTurn.{TokenTurn}
 use Rattle.eo_sexp.specs.declared.token.TokenTurn.TheVariants.{Goes, Ends, Closes, Fault}
 use Rattle.eo_sexp.specs.Sexp.{Sexp, Atom}
+use Rattle.eo_sexp.specs.AtomKind.{AtomKind}
+use Rattle.eo_sexp.specs.AtomKind as kind
 use Rattle.eo_sexp.specs.Lexicon.{Class, Space, Comment, Open, Close, Quote, Bar, Word, Other, is_one_of, is_text, is_quotable, is_word, string, kind_of}
 
 -- the class of the definitions
@@ -24,6 +26,13 @@ class_of byte.Quote = Quote
 class_of byte.Bar = Bar
 class_of byte.Word = Word
 class_of byte.Other = Other
+
+-- the kind of the definitions
+abbrev pub kind_meant : TokenKind → AtomKind
+kind_meant code.Symbol = kind.Symbol
+kind_meant code.Keyword = kind.Keyword
+kind_meant code.Literal = kind.Literal
+kind_meant code.String = kind.String
 
 -- the class of a token's first byte
 abbrev pub token_class : Token → Class
@@ -54,7 +63,7 @@ is_plain (token.Text false) x = is_text x && not (is_one_of (codes "\"\n") x)
 is_plain token.Quoted x = is_quotable x && not (is_one_of (codes "\n") x)
 
 -- the kind of the atom that ends with these bytes
-abbrev pub atom_kind : Token → List ℕ → Kind
+abbrev pub atom_kind : Token → List ℕ → AtomKind
 atom_kind token.Word text = kind_of text
 atom_kind (token.Text closed) text = kind.String
 atom_kind token.Quoted text = kind.Symbol

@@ -2,10 +2,10 @@
 ghost use Rattle.std.specs.Prelude.{◌≡◌, ◌<◌, ◌≤◌, ◌+◌, ◌^◌, ℕ, ◌∷◌, [], ◌++◌, length, take, reverse, OnOk, IfOk};
 ghost use Rattle.eo_sexp.specs.Nodes.{token_atom, HasText, first_of};
 ghost use Rattle.eo_sexp.specs.Parts.{IsPart};
-ghost use Rattle.eo_sexp.specs.Built.{nothing, with_child, closed, opened, width_of};
+ghost use Rattle.eo_sexp.specs.Built.{nothing, with_child, closed, opened, width_of, parts_of};
 
-use crate::Kind;
 use crate::lent::{Node, Sexp, first};
+use crate::token::AtomKind;
 use std::alloc::{AllocError, Global};
 use std::marker::Model;
 
@@ -14,9 +14,6 @@ mod counting;
 
 use appending::append;
 use counting::count_child;
-
-// The most nodes, beyond which memory is wanting. A command has fewer bytes.
-const MOST: usize = 4_000_000_000;
 
 /// A list that is open: the byte of its `(`, its node, and how many children it has so far.
 #[derive(Clone, Copy, Debug)]
@@ -120,18 +117,16 @@ impl Buffer {
     /// Adds an atom to the innermost list.
     pub(crate) fn add_atom(
         &mut self,
-        kind: Kind,
+        kind: AtomKind,
         delimited: bool,
         from: usize,
         to: usize,
     ) -> Result<(), AllocError>
         requires text { HasText self.old.bytes delimited from to }
-        requires short { to < 2 ^ 32 }
+        requires short { to ≤ 2 ^ 31 }
+        requires own { parts_of self.old ≤ from }
         ensures { OnOk result (self.new ≡ with_child self.old (token_atom self.old.bytes kind delimited from to)) }
     {
-        if self.nodes.len() >= MOST {
-            return Err(AllocError);
-        }
         self.nodes.push(Node::Atom {
             kind,
             delimited,
@@ -143,9 +138,9 @@ impl Buffer {
     }
 
     /// Adds an atom that is the whole command. It takes no memory.
-    pub(crate) fn be_atom(&mut self, kind: Kind, delimited: bool, from: usize, to: usize)
+    pub(crate) fn be_atom(&mut self, kind: AtomKind, delimited: bool, from: usize, to: usize)
         requires text { HasText self.old.bytes delimited from to }
-        requires short { to < 2 ^ 32 }
+        requires short { to ≤ 2 ^ 31 }
         requires none { self.old.done ≡ [] }
         requires outside { self.old.open_lists ≡ [] }
         ensures { self.new ≡ with_child self.old (token_atom self.old.bytes kind delimited from to) }
@@ -161,13 +156,12 @@ impl Buffer {
 
     /// Opens a list.
     pub(crate) fn open_list(&mut self, at: usize) -> Result<(), AllocError>
-        requires { at < 2 ^ 32 }
+        requires short { at < 2 ^ 31 }
+        requires within { at ≤ length self.old.bytes }
+        requires own { parts_of self.old ≤ at }
         ensures { OnOk result (self.new ≡ opened self.old at) }
     {
         let node = self.nodes.len();
-        if node >= MOST {
-            return Err(AllocError);
-        }
         self.lists.push(Open {
             at: at as u32,
             node,
@@ -190,7 +184,8 @@ impl Buffer {
     /// Closes the innermost list before this byte. It takes no memory.
     pub(crate) fn close_list(&mut self, to: usize)
         requires some { 0 < length self.old.open_lists }
-        requires short { to < 2 ^ 32 }
+        requires short { to ≤ 2 ^ 31 }
+        requires behind { length self.old.bytes < to }
         ensures { self.new ≡ closed self.old to }
     {
         let Open { at, node, children } = self.lists.pop().unwrap();

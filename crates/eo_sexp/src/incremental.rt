@@ -8,7 +8,7 @@ ghost use Rattle.eo_sexp.specs.Lexicon.{class, Open, Close};
 ghost use Rattle.eo_sexp.specs.Texts.{AfterPair, Start, after as phase_after, next_spot};
 ghost use Rattle.eo_sexp.specs.Collecting.{Collecting, new_collector, HasRoom, Feeds, HasMemory};
 ghost use Rattle.eo_sexp.specs.Collecting.{Finishes, IsLive, start_of, here_of, IsAtCommand};
-ghost use Rattle.eo_sexp.specs.Collecting.{IsWithin, Holds, ready};
+ghost use Rattle.eo_sexp.specs.Collecting.{IsWithin, Holds, ready, finish_answer};
 ghost use Rattle.eo_sexp.specs.Parts.{HoldsParts};
 ghost use Rattle.eo_sexp.specs.Built.{nothing};
 ghost use Rattle.eo_sexp.specs.Machine.{phase_of, meaning, IsSound, IsBegun, IsPairFact, IsPlaced};
@@ -96,6 +96,19 @@ fn next_spot(at: Spot, x: u8) -> Spot
     Spot {
         line: if x == b'\n' { at.line + 1 } else { at.line },
         offset: at.offset + 1,
+    }
+}
+
+// The place behind so many bytes more, with so many line feeds.
+fn further(at: Spot, bytes: usize, lines: usize) -> Spot
+    requires line { at.line ≤ at.offset + 1 }
+    requires few { lines ≤ bytes }
+    requires room { at.offset + bytes ≤ 2 ^ 64 - 2 }
+    ensures { result ≡ record { line = at.line + lines; offset = at.offset + bytes } }
+{
+    Spot {
+        line: at.line + lines as u64,
+        offset: at.offset + bytes as u64,
     }
 }
 
@@ -382,7 +395,7 @@ impl Machine {
         ensures takes { TakesBytes self.old (take result rest.now) self.new }
     {
         let run = comment_run(rest);
-        self.here.offset += run as u64;
+        self.here = further(self.here, run, 0);
         self.start = self.here;
         run
     }
@@ -396,8 +409,7 @@ impl Machine {
         ensures takes { IfOk result (λ n. TakesBytes self.old (take n rest.now) self.new) }
     {
         let Run { taken, lines, turn } = self.reader.run(&mut self.begun, rest)?;
-        self.here.line += lines as u64;
-        self.here.offset += taken as u64;
+        self.here = further(self.here, taken, lines);
         match turn {
             ReaderTurn::Goes => Ok(taken),
             turn => {
@@ -453,6 +465,13 @@ impl Machine {
             State::Command => self.leave(false),
             _ => {}
         }
+    }
+
+    // How many bytes come before the next one.
+    fn offset(&self) -> u64
+        ensures { result ≡ self.now.here.offset }
+    {
+        self.here.offset
     }
 
     // The answer of the last turn, where the first byte of the piece had this offset.
@@ -518,7 +537,7 @@ impl Machine {
         ensures feeds { Feeds limits (meaning self.old) piece.now result (meaning self.new) }
     {
         self.go_on();
-        let first = self.here.offset;
+        let first = self.offset();
         if let Some(fed) = self.answer(first) {
             return fed;
         }
@@ -578,6 +597,17 @@ impl Machine {
         self.finish_open()
     }
 
+    // What the end answers where nothing is open.
+    fn finished(&self) -> Finished
+        ensures { result ≡ finish_answer (meaning self.now) }
+    {
+        match self.state {
+            State::Command => Finished::Command,
+            State::Failed { name, at } => Finished::Fault { name, at },
+            _ => Finished::End,
+        }
+    }
+
     fn finish(&mut self) -> Finished
         requires sound { IsSound self.old }
         requires memory { HasMemory (meaning self.old) }
@@ -588,8 +618,7 @@ impl Machine {
         match self.state {
             State::Between { .. } => self.finish_between(),
             State::Begun | State::Pair { .. } => self.finish_begun(),
-            State::Failed { name, at } => Finished::Fault { name, at },
-            _ => Finished::End,
+            _ => self.finished(),
         }
     }
 

@@ -1,11 +1,13 @@
 //! S-expressions that borrow from the bytes of a command and a flat list of its parts.
 ghost use Rattle.std.specs.Prelude.{◌≡◌, ◌<◌, ◌≤◌, ◌∷◌, ℕ, length, drop, take};
-ghost use Rattle.eo_sexp.specs.Sexp.{sexp_kind, sexp_text, sexp_children, sexp_span};
+ghost use Rattle.eo_sexp.specs.Sexp.{sexp_text, sexp_children, sexp_span};
+ghost use Rattle.eo_sexp.specs.Kinds.{sexp_kind};
 ghost use Rattle.eo_sexp.specs.Pairs.{list_of};
 ghost use Rattle.eo_sexp.specs.Pairs.{pair_of_span, only_one, first_one, first_two, only_two, only_three, first_three};
 ghost use Rattle.eo_sexp.specs.Nodes.{IsSexp, first_tree, AreLinked, trees};
 
 use crate::Kind;
+use crate::token::AtomKind;
 use std::marker::Model;
 
 /// A part of a command. The parts stand in the order of their first bytes, so a list stands right
@@ -19,7 +21,7 @@ pub(crate) enum Node {
     /// A token from one byte up to but without another. `delimited` tells whether it has a bar or a
     /// quote at each end, which are no part of its text.
     Atom {
-        kind: Kind,
+        kind: AtomKind,
         delimited: bool,
         from: u32,
         to: u32,
@@ -96,7 +98,7 @@ impl<'b> Sexp<'b> {
         ensures { result ≡ sexp_kind self.now }
     {
         match self.nodes {
-            [Node::Atom { kind, .. }, ..] => *kind,
+            [Node::Atom { kind, .. }, ..] => kind.told(),
             _ => Kind::List,
         }
     }

@@ -16,6 +16,7 @@ mod token;
 use eo_base::FaultName;
 pub use incremental::Collector;
 pub use lent::{Children, Sexp};
+use std::marker::Model;
 
 /// What an s-expression is.
 #[derive(Clone, Copy, Debug, PartialEq, Eq)]
@@ -32,6 +33,19 @@ pub enum Kind {
 pub struct Spot {
     pub line: u64,
     pub offset: u64,
+}
+
+impl Model for Spot {
+    ghost use Rattle.std.specs.Prelude.{◌<◌, ◌^◌};
+    ghost use Rattle.eo_sexp.specs.Spot.{Spot};
+
+    ghost Value = { Spot };
+
+    ghost view = { λ s. record { line = s.line; offset = s.offset } };
+
+    ghost invariant = { λ s. (s.line < 2 ^ 64) × (s.offset < 2 ^ 64) };
+
+    ghost inverse = { λ s. record { line = s.line; offset = s.offset } };
 }
 
 /// What feeding a piece gave.

@@ -3,19 +3,18 @@ ghost use Rattle.std.specs.Prelude.{◌≡◌, ℕ, ◌+◌, ◌<◌, ◌≤◌,
 ghost use Rattle.std.specs.Prelude.{IsTrue, OnOk, suc, true, false, if◌then◌else◌, ◌==◌};
 ghost use Rattle.eo_base.specs.Limits.{limits};
 ghost use Rattle.eo_sexp.specs.Nodes.{token_atom, HasText};
-ghost use Rattle.eo_sexp.specs.Built.{Built, nothing, with_byte, with_child};
-ghost use Rattle.eo_sexp.specs.Token.{class_of, atom_kind, is_plain};
+ghost use Rattle.eo_sexp.specs.Built.{Built, nothing, with_byte, with_child, parts_of};
+ghost use Rattle.eo_sexp.specs.Token.{class_of, atom_kind, is_plain, kind_meant};
 ghost use Rattle.eo_sexp.specs.Reader.{held, IsAtom, AddsChild, ClosesList, is_full, IsReader};
 ghost use Rattle.eo_sexp.specs.Reader.{Turns, Begins, BeginsToken, Ends, EndsAt, atom_of, text_at};
 ghost use Rattle.eo_sexp.specs.Reader.{is_delimited, FirstOf, IsFirstOf, IsAhead, RunsTo, StopsAt};
 ghost use Rattle.eo_sexp.specs.Reader.{Runs};
 ghost use Rattle.eo_sexp.specs.Lexicon.{Open, class, is_line_end};
 
-use crate::Kind;
 use crate::buffer::Buffer;
 use crate::classes::{Class, classify, is_line_end, is_word};
 use crate::plain::{blank_run, comment_run, plain_run};
-use crate::token::{Token, TokenTurn, kind_of, may_end, token_turn};
+use crate::token::{AtomKind, Token, TokenTurn, kind_of, may_end, token_turn};
 use eo_base::FaultName;
 use eo_base::limits::{COMMAND, NESTING, TOKEN, WIDTH};
 use std::alloc::AllocError;
@@ -63,13 +62,14 @@ pub(crate) struct Reader {
 #[inline(always)]
 fn add_atom(
     buffer: &mut Buffer,
-    kind: Kind,
+    kind: AtomKind,
     delimited: bool,
     from: usize,
     to: usize,
 ) -> Result<bool, AllocError>
     requires text { HasText buffer.old.bytes delimited from to }
-    requires short { to < 2 ^ 32 }
+    requires short { to ≤ 2 ^ 31 }
+    requires own { parts_of buffer.old ≤ from }
     ensures bytes { OnOk result (buffer.new.bytes ≡ buffer.old.bytes) }
     ensures added { IfOk result (λ whole.
         AddsChild limits buffer.old (token_atom buffer.old.bytes kind delimited from to) buffer.new whole) }
@@ -84,7 +84,8 @@ fn add_atom(
 fn close_list(buffer: &mut Buffer, to: usize) -> bool
     requires inside { 0 < length buffer.old.open_lists }
     requires nested { length buffer.old.open_lists ≤ limits.nesting }
-    requires short { to < 2 ^ 32 }
+    requires short { to ≤ 2 ^ 31 }
+    requires behind { length buffer.old.bytes < to }
     ensures bytes { buffer.new.bytes ≡ buffer.old.bytes }
     ensures closed { ClosesList limits buffer.old to buffer.new result }
 {
@@ -609,7 +610,8 @@ impl Reader {
     fn end_token(&self, buffer: &mut Buffer, token: Token, to: usize) -> Result<bool, AllocError>
         requires token { self.now.place ≡ Place.Token token }
         requires ends { EndsAt (held buffer.old self.now) token (length buffer.old.bytes) to }
-        requires short { to < 2 ^ 32 }
+        requires short { to ≤ 2 ^ 31 }
+        requires own { parts_of buffer.old ≤ self.now.from }
         ensures bytes { OnOk result (buffer.new.bytes ≡ buffer.old.bytes) }
         ensures added { IfOk result (λ whole. AddsChild limits buffer.old (atom_of (held buffer.old self.now) token to) buffer.new whole) }
     {
@@ -619,14 +621,14 @@ impl Reader {
 
     // The kind of the atom that the token begun is.
     #[inline(always)]
-    fn kind(&self, bytes: &[u8], token: Token) -> Kind
+    fn kind(&self, bytes: &[u8], token: Token) -> AtomKind
         requires { self.now.from ≤ length bytes.now }
-        ensures { result ≡ atom_kind token (text_at (Place.Token token) self.now.from bytes.now) }
+        ensures { kind_meant result ≡ atom_kind token (text_at (Place.Token token) self.now.from bytes.now) }
     {
         match token {
             Token::Word => kind_of(&bytes[self.from..]),
-            Token::Quoted => Kind::Symbol,
-            Token::Text { .. } => Kind::String,
+            Token::Quoted => AtomKind::Symbol,
+            Token::Text { .. } => AtomKind::String,
         }
     }
 
@@ -635,7 +637,7 @@ impl Reader {
     pub(crate) fn finish(&mut self, buffer: &mut Buffer, to: usize) -> bool
         requires reader { IsReader limits (held buffer.old self.old) to }
         requires at { length buffer.old.bytes ≡ to }
-        requires short { to < 2 ^ 32 }
+        requires short { to ≤ 2 ^ 31 }
         ensures bytes { buffer.new.bytes ≡ buffer.old.bytes }
         ensures ends { Ends limits (held buffer.old self.old) to buffer.new result }
     {
@@ -658,7 +660,7 @@ impl Reader {
     fn end_command(&self, buffer: &mut Buffer, token: Token, to: usize)
         requires token { self.now.place ≡ Place.Token token }
         requires ends { EndsAt (held buffer.old self.now) token (length buffer.old.bytes) to }
-        requires short { to < 2 ^ 32 }
+        requires short { to ≤ 2 ^ 31 }
         requires none { buffer.old.done ≡ [] }
         requires outside { buffer.old.open_lists ≡ [] }
         ensures { buffer.new ≡ with_child buffer.old (atom_of (held buffer.old self.now) token to) }

@@ -2,12 +2,36 @@
 ghost use Rattle.std.specs.Prelude.{◌≡◌};
 ghost use Rattle.eo_base.specs.Limits.{limits};
 ghost use Rattle.eo_sexp.specs.Lexicon.{kind_of};
-ghost use Rattle.eo_sexp.specs.Token.{go_on, close, token_turn, may_end};
+ghost use Rattle.eo_sexp.specs.Kinds.{kind_told};
+ghost use Rattle.eo_sexp.specs.Token.{go_on, close, token_turn, may_end, kind_meant};
 
 use crate::Kind;
 use crate::classes::{is_quotable, is_text, is_word};
 use eo_base::FaultName;
 use eo_base::limits::TOKEN;
+
+/// What an atom is.
+#[derive(Clone, Copy, Debug, PartialEq, Eq)]
+pub(crate) enum AtomKind {
+    Symbol,
+    Keyword,
+    Literal,
+    String,
+}
+
+impl AtomKind {
+    /// The same among all that an s-expression may be.
+    pub(crate) fn told(self) -> Kind
+        ensures { result ≡ kind_told (kind_meant self) }
+    {
+        match self {
+            AtomKind::Symbol => Kind::Symbol,
+            AtomKind::Keyword => Kind::Keyword,
+            AtomKind::Literal => Kind::Literal,
+            AtomKind::String => Kind::String,
+        }
+    }
+}
 
 /// How a token that is begun goes on.
 #[derive(Clone, Copy, Debug, PartialEq, Eq)]
@@ -92,12 +116,12 @@ pub(crate) fn may_end(token: Token) -> bool
 // The kind of a word.
 #[tactic(auto, unfolding(crate::specs::Lexicon::kind_of, crate::specs::Lexicon::begins_digit))]
 #[inline(always)]
-pub(crate) fn kind_of(word: &[u8]) -> Kind
-    ensures { result ≡ kind_of word.now }
+pub(crate) fn kind_of(word: &[u8]) -> AtomKind
+    ensures { kind_meant result ≡ kind_of word.now }
 {
     match word {
-        [b':', ..] => Kind::Keyword,
-        [b'#', ..] | [b'0'..=b'9', ..] | [b'-', b'0'..=b'9', ..] => Kind::Literal,
-        _ => Kind::Symbol,
+        [b':', ..] => AtomKind::Keyword,
+        [b'#', ..] | [b'0'..=b'9', ..] | [b'-', b'0'..=b'9', ..] => AtomKind::Literal,
+        _ => AtomKind::Symbol,
     }
 }

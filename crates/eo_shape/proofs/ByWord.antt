@@ -4,7 +4,7 @@ use Rattle.std.proofs.lemmas.Option.{same_Some}
 use Rattle.std.specs.Prelude.{if◌then◌else◌}
 use Rattle.eo_base.specs.declared.FaultName.TheVariants.{UnknownCommand, BadCommand}
 use Rattle.eo_base.specs.Checks.{Checked, ◌>>=◌, value_or}
-use Rattle.eo_sexp.specs.declared.Kind.TheVariants as kind
+use Rattle.eo_sexp.specs.AtomKind as kind
 use Rattle.eo_sexp.specs.Sexp.{Sexp, Atom, Listed, Sexps, NoSexp, Next, Span, children_of, sexp_children}
 use Rattle.eo_shape.specs.Shapes.{Command, Form, forms, reference_forms, form_of, shaped_by, command_of}
 use Rattle.eo_sexp.specs.Pairs.{first_one}
@@ -30,7 +30,6 @@ by_symbol b (Some w) parts = shaped_by (forms_of b) w parts
 command_of-by_symbol : (b : Bool) (h : Sexp) (rest : Sexps) (span : Span) → command_of b (Listed (Next h rest) span) ≡ by_symbol b (symbol_of h) (children_of rest)
 unfolding command_of
 command_of-by_symbol b (Atom kind.Symbol w at) rest span = refl
-command_of-by_symbol b (Atom kind.List w at) rest span = refl
 command_of-by_symbol b (Atom kind.Keyword w at) rest span = refl
 command_of-by_symbol b (Atom kind.Literal w at) rest span = refl
 command_of-by_symbol b (Atom kind.String w at) rest span = refl

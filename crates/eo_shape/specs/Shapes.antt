@@ -2,7 +2,7 @@
 use Rattle.std.specs.Prelude.{ℕ, Bool, true, false, not, ◌&&◌, nat_le, if◌then◌else◌, List, [], ◌∷◌, Option, Some, None, option_map, option_and_then, bytes_eq, codes, Err}
 use Rattle.eo_base.specs.declared.FaultName.TheVariants.{UnknownCommand, BadCommand}
 use Rattle.eo_base.specs.Checks.{Checked, ◌>>=◌, value_or}
-use Rattle.eo_sexp.specs.declared.Kind.TheVariants as kind
+use Rattle.eo_sexp.specs.AtomKind as kind
 use Rattle.eo_sexp.specs.Sexp.{Sexp, Atom, Listed, Next, children_of}
 use Rattle.eo_lit.specs.declared.LiteralClass.{LiteralClass}
 use Rattle.eo_lit.specs.declared.LiteralClass.TheVariants.{Numeral, Binary, String}

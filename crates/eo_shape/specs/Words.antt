@@ -1,7 +1,7 @@
 -- The bytes of atoms of each kind.
 use Rattle.std.specs.Prelude.{ℕ, Bool, false, List, Option, Some, None, bytes_eq}
 use Rattle.eo_lit.specs.Literals.{numeral}
-use Rattle.eo_sexp.specs.declared.Kind.TheVariants as kind
+use Rattle.eo_sexp.specs.AtomKind as kind
 use Rattle.eo_sexp.specs.Sexp.{Sexp, Atom}
 
 abbrev pub symbol_of : Sexp → Option (List ℕ)

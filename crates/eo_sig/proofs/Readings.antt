@@ -17,7 +17,7 @@ use Rattle.eo_sig.specs.declared.records.MacroDecl.{MacroDecl}
 use Rattle.eo_sig.specs.declared.records.ProgramDecl.{ProgramDecl}
 use Rattle.eo_sig.specs.declared.records.RuleDecl.{RuleDecl}
 use Rattle.eo_sig.specs.Signature as sig
-use Rattle.eo_sig.specs.Reading.{Kept, signature, macros, read_entry, read_constant, read_macro, read_program, read_rule, const_of, program_decl_of, rule_decl_of, constants_of, programs_of, rules_of, EntryBelow, ConstBelow, MacroBelow, ProgramBelow, RuleBelow, IsBelow, Adds, AddsMacro, with_entry, with_macro, IsFree, IsFreeRule}
+use Rattle.eo_sig.specs.Reading.{Kept, signature, macros, read_entry, read_constant, read_macro, read_program, read_rule, const_of, program_decl_of, rule_decl_of, constants_of, programs_of, rules_of, EntryBelow, ConstBelow, MacroBelow, ProgramBelow, RuleBelow, IsBelow, Adds, with_entry, with_macro, IsFree, IsFreeRule}
 use Rattle.eo_sig.specs.Held.{const_name, program_name, rule_name, literal_id, first_literal, IsTable}
 use Rattle.eo_sig.proofs.Tables.{position_same, map_twice, table_names, own_holds}
 
@@ -107,9 +107,6 @@ module _ (ts : List Tree) where
   pub adds_entry : (k : Kept) (x : Declared) → Adds ts k (read_entry ts x) (with_entry x k)
   adds_entry k x = record { signature = map-append (read_entry ts) k.entries (x ∷ []); macros = refl }
 
-  pub adds_macro : (k : Kept) (d : MacroDecl) → AddsMacro ts k (read_macro ts d) (with_macro d k)
-  adds_macro k d = record { signature = refl; macros = map-append (read_macro ts) k.macros (d ∷ []) }
-
 -- what is below n
 
 pub below_entry : (n : ℕ) (k : Kept) (x : Declared) → IsBelow n k → EntryBelow n x → IsBelow n (with_entry x k)
@@ -186,10 +183,6 @@ none_first (Some x) p e = e
 none_second : {X : Type 0} (o p : Option X) → is_none (option_or o p) ≡ true → is_none p ≡ true
 none_second None p e = e
 none_second (Some x) p e = absurd (true≢false (sym e))
-
-pub free_constant : (k : Kept) (w : List ℕ) → IsFree k w → sig.constant_named (signature [] k) w ≡ None
-free_constant k w h =
-    none_of_map sig.NamesConstant (sig.constant_named (signature [] k) w) (none_first _ _ (and_parts _ _ h).1)
 
 pub free_macro : (k : Kept) (w : List ℕ) → IsFree k w → sig.macro_named (macros [] k) w ≡ None
 free_macro k w h =

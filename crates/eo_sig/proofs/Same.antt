@@ -1,10 +1,9 @@
 -- A signature is the same over two lists of trees that have the same below a bound of what it keeps.
 use Rattle.eo_base.proofs.Elements.{ids_more}
-use Rattle.std.proofs.Common.{◌≡◌, ℕ, ◌<◌, ◌≤◌, List, [], ◌∷◌, length, take, map, Option, Some, None, All, refl, sym, ap, ◌∙◌, arith}
+use Rattle.std.proofs.Common.{◌≡◌, ℕ, ◌<◌, ◌≤◌, List, [], ◌∷◌, length, map, Option, Some, None, All, refl, ap, arith}
 use Rattle.std.specs.Prelude.{option_map}
-use Rattle.std.proofs.lemmas.List.{get_or-take}
 use Rattle.std.proofs.lemmas.List.Elements.{All-head, All-tail, All-weaker}
-use Rattle.eo_term.specs.Tree.{Tree, Con}
+use Rattle.eo_term.specs.Tree.{Tree}
 use Rattle.eo_term.specs.Terms.{Terms, tree_at, SameTrees, Since}
 use Rattle.eo_sig.specs.declared.records.Param.{Param}
 use Rattle.eo_sig.specs.declared.records.Attribute as code_attribute
@@ -100,15 +99,6 @@ module _ (old new : Terms) (k : Kept) (h : IsBelow (length old.trees) k) (g : Si
   pub macros_grown : macros new.trees k ≡ macros old.trees k
   macros_grown = macros_same (length old.trees) old.trees new.trees (record { at = g.tree }) k h
 
--- and in one that has been cut, at a place above them
-pub signature_cut : (n : ℕ) (ts us : List Tree) (k : Kept) → IsBelow n k → take n us ≡ take n ts → signature us k ≡ signature ts k
-signature_cut n ts us k h e =
-    signature_same n ts us (record { at = λ i l. sym (get_or-take n us i (Con 0) l) ∙ ap (λ vs. tree_at vs i) e ∙ get_or-take n ts i (Con 0) l }) k h
-
-pub macros_cut : (n : ℕ) (ts us : List Tree) (k : Kept) → IsBelow n k → take n us ≡ take n ts → macros us k ≡ macros ts k
-macros_cut n ts us k h e =
-    macros_same n ts us (record { at = λ i l. sym (get_or-take n us i (Con 0) l) ∙ ap (λ vs. tree_at vs i) e ∙ get_or-take n ts i (Con 0) l }) k h
-
 -- what is below n is below a greater number
 params_more : (n m : ℕ) → n ≤ m → (ps : List Param) → All (λ (p : Param). p.ty < n) ps → All (λ (p : Param). p.ty < m) ps
 params_more n m l ps h = All-weaker (λ (p : Param). p.ty < n) (λ (p : Param). p.ty < m) (λ p g. omega arith) ps h
@@ -162,10 +152,3 @@ below_grown old new k g h = below_more (length old.trees) (length new.trees) k g
 -- where the table grows
 pub stays_grown : (k : Kept) (old new : Terms) → IsBelow (length old.trees) k → Since old new → Stays k old.trees new.trees
 stays_grown k old new h g = record { signature = signature_grown old new k h g; macros = macros_grown old new k h g; below = below_grown old new k g h }
-
--- where it is cut at a place above all that is kept, whatever stands behind it then
-pub stays_cut : (n : ℕ) (k : Kept) (old new : List Tree) → IsBelow n k → n ≤ length new → take n new ≡ take n old → Stays k old new
-stays_cut n k old new h l e = record { signature = signature_cut n old new k h e; macros = macros_cut n old new k h e; below = below_more n (length new) k l h }
-
-pub stays_trans : (k : Kept) (s t u : List Tree) → Stays k s t → Stays k t u → Stays k s u
-stays_trans k s t u a b = record { signature = b.signature ∙ a.signature; macros = b.macros ∙ a.macros; below = b.below }

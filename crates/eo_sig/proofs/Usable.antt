@@ -1,15 +1,15 @@
 -- A signature stays usable as it gets one more entry.
 use Rattle.std.proofs.Common.{◌≡◌, ℕ, zero, suc, Bool, true, false, List, [], ◌∷◌, ◌++◌, slice_get, Option, Some, None, refl, sym, ap, ◌∙◌, subst}
-use Rattle.std.specs.Prelude.{◌⊎◌, codes, option_and_then}
+use Rattle.std.specs.Prelude.{◌⊎◌, option_and_then}
 use Rattle.std.proofs.Common.{inl, inr}
 use Rattle.std.specs.List.{filter_map, cons_option}
 use Rattle.std.proofs.lemmas.Bool.{and_parts}
 use Rattle.std.proofs.lemmas.List.Elements.{filter_map-append}
 use Rattle.std.proofs.lemmas.Option.{none-some, same_Some}
-use Rattle.eo_term.specs.Tree.{Tree, is_value, type_tree, bool_tree}
+use Rattle.eo_term.specs.Tree.{Tree, is_value}
 use Rattle.eo_lit.specs.declared.LiteralClass.{LiteralClass}
 use Rattle.eo_sig.specs.Signature as sig
-use Rattle.eo_sig.specs.Signature.{Signature, Constant, Rule, Entry, Attribute}
+use Rattle.eo_sig.specs.Signature.{Signature, Constant, Rule, SignatureEntry, Attribute}
 use Rattle.eo_sig.specs.Usable.{IsUsable}
 
 -- what the longer list has at a place, the shorter has, or it is the new element
@@ -35,11 +35,11 @@ picked_end pick xs x (Some z) e y k p =
     some_end (inr h) = inr (ap Some h)
 
 -- what a new entry is to be
-pub record EntryIsUsable (e : Entry) : Type 0 where
+pub record EntryIsUsable (e : SignatureEntry) : Type 0 where
   pub terminator : (c : Constant) (n : Tree) → sig.constant_of e ≡ Some c → sig.terminator_of c.attribute ≡ Some n → is_value n ≡ true
   pub ordered : (r : Rule) → sig.rule_of e ≡ Some r → sig.are_ordered 0 r.parameters ≡ true
 
-pub usable_more : (S : Signature) (e : Entry) → IsUsable S → EntryIsUsable e → IsUsable (S ++ e ∷ [])
+pub usable_more : (S : Signature) (e : SignatureEntry) → IsUsable S → EntryIsUsable e → IsUsable (S ++ e ∷ [])
 usable_more S e h g = record {
   terminators = λ f n p. new_terminator f n (sig.constant_at (S ++ e ∷ []) f) refl p;
   rules_ordered = λ k r p. new_rule k r (picked_end sig.rule_of S e (sig.rule_of e) refl r k p);
@@ -89,21 +89,3 @@ usable_literal S l t h = usable_more S (sig.IsLiteralType l t) h (record { termi
 
 pub usable_rule : (S : Signature) (r : Rule) → IsUsable S → sig.are_ordered 0 r.parameters ≡ true → IsUsable (S ++ sig.IsRule r ∷ [])
 usable_rule S r h o = usable_more S (sig.IsRule r) h (record { terminator = λ d n q t. absurd (none-some d q); ordered = λ s q. subst (λ (u : Rule). sig.are_ordered 0 u.parameters ≡ true) (same_Some r s q) o })
-
-pub usable_empty : IsUsable []
-usable_empty = record { terminators = λ f n t. absurd (none-some n t); rules_ordered = λ k r p. absurd (none-some r p) }
-
-plain_first : (S : Signature) (w : List ℕ) (t : Tree) → IsUsable S → IsUsable (S ++ sig.first_constant w t ∷ [])
-plain_first S w t h =
-    usable_more S (sig.first_constant w t) h (record {
-      terminator = λ d n p q. absurd (none-some n (ap (λ (c : Constant). sig.terminator_of c.attribute) (same_Some _ d p) ∙ q));
-      ordered = λ r p. absurd (none-some r p);
-    })
-
--- so is the signature before the first declaration
-pub usable_first : IsUsable sig.first_signature
-usable_first =
-    let a : Signature = sig.first_constant (codes "Type") type_tree ∷ [] in
-    let b : Signature = a ++ sig.first_constant (codes "Bool") type_tree ∷ [] in
-    let c : Signature = b ++ sig.first_constant (codes "true") bool_tree ∷ [] in
-    plain_first c (codes "false") bool_tree (plain_first b (codes "true") bool_tree (plain_first a (codes "Bool") type_tree (plain_first [] (codes "Type") type_tree usable_empty)))

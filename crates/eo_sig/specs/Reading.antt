@@ -17,7 +17,7 @@ use Rattle.eo_sig.specs.declared.records.Entry as code_entry
 use Rattle.eo_sig.specs.declared.records.Entry.TheVariants as names
 use Rattle.eo_sig.specs.declared.records.Declared.{Declared}
 use Rattle.eo_sig.specs.declared.records.Declared.TheVariants as declared
-use Rattle.eo_sig.specs.Signature.{Parameter, Attribute, Plain, RightNil, LeftNil, Right, Left, Chain, Pairs, Binder, Constant, Macro, Case, Program, PremiseShape, Each, Joined, Rule, Entry, IsConstant, IsProgram, IsRule, IsLiteralType, Signature, Named, NamesConstant, NamesMacro, NamesProgram, is_free, is_free_rule}
+use Rattle.eo_sig.specs.Signature.{Parameter, Attribute, Plain, RightNil, LeftNil, Right, Left, Chain, Pairs, Binder, Constant, Macro, Case, Program, PremiseShape, Each, Joined, Rule, SignatureEntry, IsConstant, IsProgram, IsRule, IsLiteralType, Signature, Named, NamesConstant, NamesMacro, NamesProgram, is_free, is_free_rule}
 
 -- What a signature keeps: the declarations in order, and beside them the macros in order.
 pub record Kept : Type 0 where
@@ -87,7 +87,7 @@ read_rule ts d = record {
   sorry = d.sorry;
 }
 
-abbrev pub read_entry : List Tree → Declared → Entry
+abbrev pub read_entry : List Tree → Declared → SignatureEntry
 read_entry ts (declared.Const d) = IsConstant (read_constant ts d)
 read_entry ts (declared.Program d) = IsProgram (read_program ts d)
 read_entry ts (declared.Rule d) = IsRule (read_rule ts d)
@@ -209,9 +209,14 @@ abbrev pub with_macro : MacroDecl → Kept → Kept
 with_macro d k = record { entries = k.entries; macros = k.macros ++ d ∷ [] }
 
 -- over the trees, the signature new has one entry more, and the same macros
-pub record Adds (ts : List Tree) (old : Kept) (e : Entry) (new : Kept) : Type 0 where
+pub record Adds (ts : List Tree) (old : Kept) (e : SignatureEntry) (new : Kept) : Type 0 where
   pub signature : signature ts new ≡ signature ts old ++ e ∷ []
   pub macros : macros ts new ≡ macros ts old
+
+-- so it is over any trees, and the number is that of the new entry among those of its kind
+pub record AddsAt {X : Type 0} (kind : Signature → List X) (old : Kept) (e : List Tree → SignatureEntry) (new : Kept) (n : ℕ) : Type 0 where
+  pub adds : (ts : List Tree) → Adds ts old (e ts) new
+  pub number : (ts : List Tree) → n ≡ length (kind (signature ts old))
 
 pub record AddsMacro (ts : List Tree) (old : Kept) (m : Macro) (new : Kept) : Type 0 where
   pub signature : signature ts new ≡ signature ts old

@@ -68,15 +68,15 @@ pub record Rule : Type 0 where
   pub conclusion : Tree
   pub sorry : Bool
 
-pub data Entry : Type 0 where
-  IsConstant : (constant : Constant) → Entry
-  IsProgram : (program : Program) → Entry
-  IsRule : (rule : Rule) → Entry
-  IsLiteralType : (class : LiteralClass) (type : Tree) → Entry
+pub data SignatureEntry : Type 0 where
+  IsConstant : (constant : Constant) → SignatureEntry
+  IsProgram : (program : Program) → SignatureEntry
+  IsRule : (rule : Rule) → SignatureEntry
+  IsLiteralType : (class : LiteralClass) (type : Tree) → SignatureEntry
 
 -- What is declared, in order of declaration. Constants, programs and rules are each numbered from 0 in that order.
 abbrev pub Signature : Type 0
-Signature = List Entry
+Signature = List SignatureEntry
 
 -- a signature as it stood when only its first entries were declared
 abbrev pub IsStage : Signature → Signature → Type 0
@@ -84,19 +84,19 @@ IsStage stage S = (later : Signature) × (S ≡ stage ++ later)
 
 -- Look-ups, each through the list from its front.
 
-abbrev pub constant_of : Entry → Option Constant
+abbrev pub constant_of : SignatureEntry → Option Constant
 constant_of (IsConstant c) = Some c
 constant_of (IsProgram p) = None
 constant_of (IsRule r) = None
 constant_of (IsLiteralType l t) = None
 
-abbrev pub program_of : Entry → Option Program
+abbrev pub program_of : SignatureEntry → Option Program
 program_of (IsConstant c) = None
 program_of (IsProgram p) = Some p
 program_of (IsRule r) = None
 program_of (IsLiteralType l t) = None
 
-abbrev pub rule_of : Entry → Option Rule
+abbrev pub rule_of : SignatureEntry → Option Rule
 rule_of (IsConstant c) = None
 rule_of (IsProgram p) = None
 rule_of (IsRule r) = Some r
@@ -108,7 +108,7 @@ is_same_class Binary Binary = true
 is_same_class String String = true
 is_same_class _ _ = false
 
-abbrev pub literal_type_of : LiteralClass → Entry → Option Tree
+abbrev pub literal_type_of : LiteralClass → SignatureEntry → Option Tree
 literal_type_of class (IsConstant c) = None
 literal_type_of class (IsProgram p) = None
 literal_type_of class (IsRule r) = None
@@ -175,7 +175,7 @@ is_free_rule S name = not (is_reserved name) && is_none (rule_named S name)
 
 -- The signature before the first declaration.
 
-abbrev pub first_constant : List ℕ → Tree → Entry
+abbrev pub first_constant : List ℕ → Tree → SignatureEntry
 first_constant name type =
     IsConstant (record { name = name; parameters = []; type = type; attribute = Plain; from_reference = false })
 

@@ -5,7 +5,7 @@
 //! of that table, which the call's contract names by `signature trees kept`.
 #![tactic(auto)]
 
-mod lists;
+mod laws;
 mod patterns;
 mod records;
 mod refused;
@@ -14,10 +14,10 @@ mod signature;
 mod types;
 
 pub use eo_lit::LiteralClass;
-pub use lists::{Cases, IdPairs, Params};
+pub use laws::{growth_law, longer_law};
 pub use records::{
-    Attribute, Case, ConstDecl, Declaration, Declared, Entry, MacroDecl, Param, PremiseShape,
-    ProgramDecl, RuleDecl,
+    Attribute, Case, Cases, ConstDecl, Declaration, Declared, Entry, IdPairs, MacroDecl, Param,
+    Params, PremiseShape, ProgramDecl, RuleDecl,
 };
 pub use refused::SigRefused;
 pub use reserved::is_reserved;

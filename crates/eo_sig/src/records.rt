@@ -5,9 +5,9 @@ ghost use Rattle.eo_sig.specs.Signature.{constant_may_hold};
 ghost use Rattle.eo_sig.specs.Growth.{Lasts};
 ghost use Rattle.eo_sig.specs.Reading.{const_of, program_decl_of, rule_decl_of, read_constant, ConstBelow};
 
+use crate::LiteralClass;
 use crate::types::{may_fold, may_type};
-use crate::{Cases, IdPairs, LiteralClass, Params};
-use eo_base::Name;
+use eo_base::{List, Name};
 use eo_term::{Id, Ids, Table};
 
 /// A parameter of a declaration. Its number is its place in the list of parameters, from 0.
@@ -22,6 +22,9 @@ pub struct Param {
     /// Whether it stands for a list of arguments, spelled by a constant with a terminator.
     pub list: bool,
 }
+
+/// Parameters in order.
+pub type Params = List<Param>;
 
 /// How a constant folds its arguments. A `usize` is the number of another constant.
 #[derive(Clone, Copy, Debug)]
@@ -101,6 +104,9 @@ pub struct Case {
     pub body: Id,
 }
 
+/// Cases in order.
+pub type Cases = List<Case>;
+
 /// A program: the first case whose patterns match its arguments gives its value.
 #[derive(Debug, Drop)]
 pub struct ProgramDecl {
@@ -129,6 +135,9 @@ pub enum PremiseShape {
         with: usize,
     },
 }
+
+/// Pairs of terms in order.
+pub type IdPairs = List<(Id, Id)>;
 
 /// A rule.
 #[derive(Debug, Drop)]

@@ -14,7 +14,7 @@ mod keeping;
 mod numbered;
 
 use crate::{Attribute, ConstDecl, Declared, Entry, MacroDecl, Params, is_reserved};
-use eo_base::Name;
+use eo_base::{Name, NameRef};
 use eo_term::{BOOL, Id, TYPE};
 use indexmap::IndexMap;
 use std::alloc::{AllocError, Global};
@@ -22,7 +22,7 @@ use std::hash::{BuildHasherDefault, DefaultHasher};
 use std::marker::Model;
 
 // What is found by name. A file chooses the names, so they are hashed by SipHash.
-type Named<V> = IndexMap<Vec<u8>, V, BuildHasherDefault<DefaultHasher>>;
+type Named<V> = IndexMap<Name, V, BuildHasherDefault<DefaultHasher>>;
 
 /// A place in the history of a signature's macros: how many there were.
 #[derive(Clone, Copy, Debug, PartialEq, Eq)]
@@ -67,7 +67,7 @@ impl Model for Signature {
 
     ghost view = { λ a. record { entries = a.entries.items; macros = map (λ e. e.1) a.macros.entries } };
 
-    ghost invariant = { λ a. IsKept (λ w. w.items) a.entries.items a.constants.entries a.programs.entries a.rules.entries a.macros.entries
+    ghost invariant = { λ a. IsKept (λ w. w) a.entries.items a.constants.entries a.programs.entries a.rules.entries a.macros.entries
         a.numeral a.binary a.string };
 }
 
@@ -102,11 +102,11 @@ impl Signature {
         ensures named { (ts : List Tree) → option_map read_named result ≡ lookup_in ts self.now name.now }
         ensures within { IfSome result (λ e. IsWithin self.now e) }
     {
-        match self.constants.get_index_of(name) {
+        match self.constants.get_index_of(NameRef(name)) {
             Some(n) => Some(Entry::Constant(n)),
-            None => match self.macros.get_index_of(name) {
+            None => match self.macros.get_index_of(NameRef(name)) {
                 Some(n) => Some(Entry::Macro(n)),
-                None => match self.programs.get_index_of(name) {
+                None => match self.programs.get_index_of(NameRef(name)) {
                     Some(n) => Some(Entry::Program(n)),
                     None => None,
                 },
@@ -119,7 +119,7 @@ impl Signature {
         ensures named { (ts : List Tree) → result ≡ sig.rule_named (signature ts self.now) name.now }
         ensures within { IfSome result (λ n. n < length (rules_of self.now)) }
     {
-        self.rules.get_index_of(name)
+        self.rules.get_index_of(NameRef(name))
     }
 
     /// Whether a constant, a macro or a program may get the name: it is not reserved, and none of

@@ -76,12 +76,23 @@ lesser (suc zero) zero e f = refl
 lesser (suc zero) (suc y) e f = absurd (omega arith)
 lesser (suc (suc x)) y e f = let one : suc (suc x) ≡ 1 = eqb-true (suc (suc x)) 1 e in absurd (omega arith)
 
-apart_bit : (a b : ℕ) → bit_and a b ≡ 0 → (i : ℕ) → has a i ≡ true → has b i ≡ false
-unfolding has
-apart_bit a b e i h = lesser (bit_at a i) (bit_at b i) h (sym (bit_at_and a b i) ∙ ap (λ (n : ℕ). bit_at n i) e ∙ bit_at-zero i)
+neither : (x y : ℕ) → x < 2 → y < 2 → (nat_eq x 1 ≡ true → nat_eq y 1 ≡ false) → min x y ≡ 0
+neither zero zero h k f = refl
+neither zero (suc zero) h k f = refl
+neither (suc zero) zero h k f = refl
+neither (suc zero) (suc zero) h k f = clash (sym (f refl))
+neither (suc (suc x)) y h k f = absurd (omega arith)
+neither x (suc (suc y)) h k f = absurd (omega arith)
 
-pub has_apart : (a b : ℕ) → a < 2 ^ 64 → nat_eq (bit_and a b) 0 ≡ true → (i : ℕ) → has a i ≡ true → (i < 64) × (has b i ≡ false)
-has_apart a b l e i h = (omega (arith, has_below a i l h), apart_bit a b (eqb-true (bit_and a b) 0 e) i h)
+pub apart_has : (a b : ℕ) → nat_eq (bit_and a b) 0 ≡ true → (i : ℕ) → has a i ≡ true → has b i ≡ false
+unfolding has
+apart_has a b e i h =
+    lesser (bit_at a i) (bit_at b i) h (sym (bit_at_and a b i) ∙ ap (λ (n : ℕ). bit_at n i) (eqb-true (bit_and a b) 0 e) ∙ bit_at-zero i)
+
+pub has_apart : (a b : ℕ) → ((i : ℕ) → has a i ≡ true → has b i ≡ false) → nat_eq (bit_and a b) 0 ≡ true
+unfolding has
+has_apart a b f =
+    eq-eqb (bit_and a b) 0 (same_from_bits (bit_and a b) 0 (λ i. bit_at_and a b i ∙ neither (bit_at a i) (bit_at b i) (bit_at-lt a i) (bit_at-lt b i) (f i) ∙ sym (bit_at-zero i)))
 
 -- a tree uses only the parameters that occur in it
 mutual

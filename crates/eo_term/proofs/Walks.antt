@@ -2,27 +2,8 @@
 use Rattle.std.proofs.Common.{◌≡◌, ◌⊎◌, inl, inr, ℕ, zero, suc, ◌<◌, ◌≤◌, ◌+◌, Bool, true, false, nat_eq, List, [], ◌∷◌, ◌++◌, Option, Some, None, if◌then◌else◌, refl, sym, ap, ◌∙◌, subst, arith}
 use Rattle.std.proofs.lemmas.Bool.{eqb-true, eqb-false}
 use Rattle.eo_term.specs.Memo.{told}
-use Rattle.eo_term.specs.Walk.{Visits, Begins, Finishes}
-
--- a term below n, of which the memo does not tell, and of which R holds
-pub record IsBegun (n : ℕ) (memo : List (ℕ × ℕ)) (R : ℕ → Type 0) (x : ℕ) : Type 0 where
-  pub live : x < n
-  pub untold : told memo x ≡ None
-  pub leads : R x
-
--- the terms that wait upon the term x, and then the top, each older than the one before it
-abbrev Upon : (ℕ → Type 0) → ℕ → List ℕ → ℕ → Type 0
-Upon P x [] top = (top < x) × P top
-Upon P x (y ∷ ys) top = (y < x) × (P y × Upon P y ys top)
-
--- the terms that wait, the first of which is that which was asked for, and then the top
-abbrev Stacked : (ℕ → Type 0) → ℕ → List ℕ → ℕ → Type 0
-Stacked P id [] top = (top ≡ id) × P top
-Stacked P id (x ∷ xs) top = (x ≡ id) × (P x × Upon P x xs top)
-
--- a walk that was asked for the term id: R holds of each term that was begun and not found
-pub record AreBegun (n : ℕ) (R : ℕ → Type 0) (id : ℕ) (w : Visits) : Type 0 where
-  pub stacked : Stacked (IsBegun n w.memo R) id w.waiting w.top
+pub use Rattle.eo_term.specs.Walk.{IsBegun, AreBegun, left}
+use Rattle.eo_term.specs.Walk.{Visits, Begins, Finishes, Upon, Stacked, weight, weights}
 
 top_upon : (P : ℕ → Type 0) (x : ℕ) (ys : List ℕ) (top : ℕ) → Upon P x ys top → (top < x) × P top
 top_upon P x [] top h = h
@@ -88,19 +69,6 @@ module _ (n : ℕ) (R : ℕ → Type 0) (id : ℕ) where
       record {
         stacked = pop_stacked P Q id v.waiting v.top w.top (λ y l p. record { live = p.live; untold = other_told w.memo v.memo w.top found y (f.memo y) (λ e. omega (arith, l, e)) ∙ p.untold; leads = p.leads }) before;
       }
-
--- The measure of a walk over terms below n. Each of them of which the memo does not tell weighs w.
-
-abbrev weight : ℕ → Option ℕ → ℕ
-weight w None = w
-weight w (Some v) = 0
-
-abbrev weights : ℕ → ℕ → List (ℕ × ℕ) → ℕ
-weights w zero memo = 0
-weights w (suc n) memo = weight w (told memo n) + weights w n memo
-
-abbrev pub left : ℕ → Visits → ℕ
-left n w = weights n n w.memo + w.top
 
 weight_less : (w : ℕ) (o p : Option ℕ) → (p ≡ o) ⊎ ((v : ℕ) × (p ≡ Some v)) → weight w p ≤ weight w o
 weight_less w o p (inl e) = omega (arith, ap (weight w) e)

@@ -9,7 +9,7 @@ use crate::node::{Info, Key, Literal};
 use crate::{Id, Node, OpCode};
 use indexmap::IndexMap;
 use std::alloc::{AllocError, Global};
-use std::hash::{BuildHasherDefault, DefaultHasher};
+use std::hash::{BuildHasher, BuildHasherDefault, DefaultHasher, Hash};
 
 /// Literals with their numbers. A file chooses them freely, so they are hashed by SipHash.
 type Literals = IndexMap<Literal, usize, BuildHasherDefault<DefaultHasher>>;
@@ -169,8 +169,8 @@ impl Nodes {
         ensures entries { entries_of self.new ≡ take terms (entries_of self.old) }
         ensures room { (n : ℕ) → HasRoom n self.old → HasRoom n self.new }
     {
-        let literals = older_literals(&self.literals, terms);
-        let lists = older_lists(&self.lists, terms);
+        let literals = older(&self.literals, terms);
+        let lists = older(&self.lists, terms);
         self.keys.truncate(terms);
         self.literals.truncate(literals);
         self.lists.truncate(lists);
@@ -357,28 +357,13 @@ fn add_list(
     Ok(number)
 }
 
-// How many literals came when there were fewer than so many terms.
-fn older_literals(literals: &Literals, terms: usize) -> usize
-    ensures { IsCut (ages_of literals.now.entries) terms result }
+// How many of what has numbers came when there were fewer than so many terms.
+fn older<K: Eq + Hash, S: BuildHasher>(numbers: &IndexMap<K, usize, S>, terms: usize) -> usize
+    ensures { IsCut (ages_of numbers.now.entries) terms result }
 {
-    let mut count = literals.len();
+    let mut count = numbers.len();
     while count > 0 {
-        let (_, age) = literals.get_index(count - 1).unwrap();
-        if *age < terms {
-            return count;
-        }
-        count -= 1;
-    }
-    count
-}
-
-// How many lists of arguments came when there were fewer than so many terms.
-fn older_lists(lists: &IndexMap<Vec<Id>, usize>, terms: usize) -> usize
-    ensures { IsCut (ages_of lists.now.entries) terms result }
-{
-    let mut count = lists.len();
-    while count > 0 {
-        let (_, age) = lists.get_index(count - 1).unwrap();
+        let (_, age) = numbers.get_index(count - 1).unwrap();
         if *age < terms {
             return count;
         }

@@ -70,7 +70,8 @@ impl ParamSet {
 
     /// Whether the two sets have no parameter in common.
     pub fn is_apart(self, other: ParamSet) -> bool
-        ensures { IsTrue result → (i : ℕ) → has self i ≡ true → (i < 64) × (has other i ≡ false) }
+        ensures apart { IsTrue result ↔ ((i : ℕ) → has self i ≡ true → has other i ≡ false) }
+        ensures small { (i : ℕ) → has self i ≡ true → i < 64 }
     {
         self.bits & other.bits == 0
     }

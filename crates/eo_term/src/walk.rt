@@ -1,7 +1,7 @@
 //! Walks over the parts of a term, without recursion.
 ghost use Rattle.std.specs.Prelude.{◌≡◌, ℕ, [], None, IsTrue, IsFalse, IfOk, OnOk};
 ghost use Rattle.eo_term.specs.Memo.{told};
-ghost use Rattle.eo_term.specs.Walk.{Begins, Finishes};
+ghost use Rattle.eo_term.specs.Walk.{Begins, Finishes, WalksOn};
 
 use crate::{Id, Memo};
 use std::alloc::{AllocError, Global};
@@ -85,3 +85,8 @@ impl Walk {
         Ok(true)
     }
 }
+
+/// A law: a walk over the parts of a term ends. A call costs nothing: it tells a proof this.
+pub fn walk_law()
+    ensures { (n id : ℕ) → WalksOn n id }
+{}

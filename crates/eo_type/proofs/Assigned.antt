@@ -7,7 +7,6 @@ use Rattle.eo_term.specs.Tree.{Tree}
 use Rattle.eo_term.specs.Terms.{tree_at}
 use Rattle.eo_pattern.specs.Matching.{Assignment, empty, Matches, matching}
 use Rattle.eo_pattern.specs.Slots.{Slots, SlotBelow, AreBelow, AreEmpty, held}
-use Rattle.eo_pattern.proofs.Match.{matching_matches}
 
 slot_empty : (n : ℕ) (o : Option ℕ) → o ≡ None → SlotBelow n o
 slot_empty n o e = subst (SlotBelow n) (sym e) tt
@@ -24,9 +23,9 @@ pub empty_held : (ts : List Tree) (s : Slots) → AreEmpty s → held ts s ≡ e
 empty_held ts s h = fun_ext (λ i. ap (option_map (tree_at ts)) (nothing_at s.values i h))
 
 -- what nothing matches
-pub no_matching : (before : Assignment) (ps ts : List Tree) → ((σ : Assignment) → Matches before ps ts σ → ⊥) → matching before ps ts ≡ None
-no_matching before ps ts h = by (matching before ps ts) refl
+pub no_matching : (before : Assignment) (ps ts : List Tree) → ((σ : Assignment) → matching before ps ts ≡ Some σ → Matches before ps ts σ) → ((σ : Assignment) → Matches before ps ts σ → ⊥) → matching before ps ts ≡ None
+no_matching before ps ts sound h = by (matching before ps ts) refl
   where
     by : (o : Option Assignment) → matching before ps ts ≡ o → o ≡ None
     by None e = refl
-    by (Some σ) e = absurd (h σ (matching_matches before ps ts σ e))
+    by (Some σ) e = absurd (h σ (sound σ e))

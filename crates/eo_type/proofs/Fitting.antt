@@ -6,12 +6,10 @@ use Rattle.std.proofs.lemmas.List.Elements.{All-head, All-tail, All-cons, All-ni
 use Rattle.std.proofs.lemmas.Bool.Decides.{Decides-eqb}
 use Rattle.indexmap.specs.IndexMap.{insert_entry}
 use Rattle.eo_term.specs.Terms.{Terms, Since, tree_at}
-use Rattle.eo_term.specs.Growth.{Grows}
 use Rattle.eo_sig.specs.Signature.{Signature}
 use Rattle.eo_term.specs.Tree.{Tree}
-use Rattle.eo_sig.specs.Reading.{Kept, signature, IsBelow}
-use Rattle.eo_sig.specs.Growth.{GrowsUnder}
-use Rattle.eo_sig.proofs.Same.{signature_grown, below_grown, stays_grown, stays_trans}
+use Rattle.eo_sig.specs.Reading.{Kept, Stays, signature}
+use Rattle.eo_sig.specs.Growth.{GrowsUnder, StaysSince, Continues}
 use Rattle.eo_type.specs.Types.{Typed, type_of}
 use Rattle.eo_type.specs.Known.{IsFit, Fits, Fit, Lasts, type_at}
 use Rattle.eo_type.proofs.Longer.{type_of_more}
@@ -56,10 +54,10 @@ lookup_contains (e ∷ es) k = by (eqb k e.0) refl (later (lookup (eqb k) es) (l
     by true q rest = (0, omega arith, ap (λ (j : ℕ). (j, e.1)) (sym ((Decides-eqb k e.0).0 q)))
     by false q rest = rest
 
-module _ (k : Kept) (old new : Terms) (below : IsBelow (length old.trees) k) (g : Since old new) where
+module _ (k : Kept) (old new : Terms) (s : Stays k old.trees new.trees) (g : Since old new) where
   -- a type stays
   pub type_grown : (i : ℕ) → i < length old.trees → type_at k new i ≡ type_at k old i
-  type_grown i l = let s = signature_grown old new k below g in let t = g.tree i l in λ j. type_of (s j) (t j)
+  type_grown i l = let t = g.tree i l in λ j. type_of (s.signature j) (t j)
 
   pair_grown : (e : ℕ × ℕ) → IsFit (signature old.trees k) old.trees e → IsFit (signature new.trees k) new.trees e
   pair_grown e f = record {
@@ -69,27 +67,26 @@ module _ (k : Kept) (old new : Terms) (below : IsBelow (length old.trees) k) (g 
   }
 
   -- and so do all that are kept
-  fits_grown : (types : List (ℕ × ℕ)) → Fits (signature old.trees k) old.trees types → Fits (signature new.trees k) new.trees types
-  fits_grown types h = All-weaker (IsFit (signature old.trees k) old.trees) (IsFit (signature new.trees k) new.trees) pair_grown types h
+  pub fit_grown : (known : List (ℕ × ℕ)) → Fit k old known → Fit k new known
+  fit_grown known f = record { below = s.below; types = All-weaker (IsFit (signature old.trees k) old.trees) (IsFit (signature new.trees k) new.trees) pair_grown known f.types }
 
   -- a type that was found in the old table is one to keep in the new one
   pub fit_kept : (i u : ℕ) → i < length old.trees → u < length new.trees → type_at k old i ≡ Typed (tree_at new.trees u) → IsFit (signature new.trees k) new.trees (i, u)
   fit_kept i u l m e = record { term = omega (arith, l, g.more_trees); type = m; typed = type_grown i l ∙ e }
 
--- a table that grows leaves all that fits
-pub fit_grown : (k : Kept) (old new : Terms) (known : List (ℕ × ℕ)) → Since old new → Fit k old known → Fit k new known
-fit_grown k old new known g f = record { below = below_grown old new k g f.below; types = fits_grown k old new f.below g known f.types }
-
-pub grows_under_on : (k : Kept) (old now new : Terms) → GrowsUnder k old now → Grows now new → GrowsUnder k old new
-grows_under_on k old now new u g =
+pub grows_under_on : (k : Kept) (old now new : Terms) → GrowsUnder k old now → GrowsUnder k now new → GrowsUnder k old new
+grows_under_on k old now new u v =
     record {
-      table = record { now = g.since old u.table.now; since = λ t h. g.since t (u.table.since t h) };
-      stays = stays_trans k old.trees now.trees new.trees u.stays (stays_grown k now new u.stays.below g.now);
+      table = record { now = v.table.since old u.table.now; since = λ t h. v.table.since t (u.table.since t h) };
+      stays = record { signature = v.stays.signature ∙ u.stays.signature; macros = v.stays.macros ∙ u.stays.macros; below = v.stays.below };
     }
 
 -- types that were found stay right in a longer signature
-fits_more : (S later : Signature) (ts : List Tree) (types : List (ℕ × ℕ)) → Fits S ts types → Fits (S ++ later) ts types
-fits_more S later ts types h = All-weaker (IsFit S ts) (IsFit (S ++ later) ts) (λ e f. record { term = f.term; type = f.type; typed = type_of_more S later (tree_at ts e.0) (tree_at ts e.1) f.typed }) types h
+fits_more : (S later : Signature) (law : Continues S later) (ts : List Tree) (types : List (ℕ × ℕ)) → Fits S ts types → Fits (S ++ later) ts types
+fits_more S later law ts types h = All-weaker (IsFit S ts) (IsFit (S ++ later) ts) (λ e f. record { term = f.term; type = f.type; typed = type_of_more S later law (tree_at ts e.0) (tree_at ts e.1) f.typed }) types h
 
-pub lasts : (known : List (ℕ × ℕ)) → Lasts known
-lasts known = record { grown = λ k old new g f. fit_grown k old new known g f; longer = λ S later ts h. fits_more S later ts known h }
+pub lasts : ((k : Kept) → StaysSince k) → ((now later : Signature) → Continues now later) → (known : List (ℕ × ℕ)) → Lasts known
+lasts stays longer known = record {
+  grown = λ k old new g f. fit_grown k old new (stays k old new f.below g) g known f;
+  longer = λ S later ts h. fits_more S later (longer S later) ts known h;
+}

@@ -5,8 +5,8 @@ use Rattle.eo_term.specs.declared.OpName.{OpName}
 use Rattle.eo_term.specs.declared.OpCode.{OpCode}
 use Rattle.eo_term.specs.Tree.{Tree, Con, Num, Bits, Str, Par, Var, App, Arr, Qar, Op, Trees, NoTree, More, truth, to_trees, height, height_all, is_tall, is_closed, is_value, tree_eq}
 use Rattle.eo_term.specs.Terms.{tree_at, trees_at}
-use Rattle.eo_term.proofs.Heights.{higher}
-use Rattle.eo_term.proofs.Values.{clash}
+use Rattle.eo_base.proofs.Tests.{clash, still_above}
+use Rattle.eo_base.specs.Limits.{height_limit}
 use Rattle.eo_ops.specs.Operators.{Literal, Boolean, Number, BitString, Text, OpAnswer, Gives, IsStuck, IsOutOfRange, op_value, literal_tree, answer_map, kind_value, is_variable, on_literals, literals, tree_op_value}
 use Rattle.eo_type.specs.Types.{TypeOutcome, Typed, Untyped, TypeRange, TypeTall, on_typed, typed_if, typed_answer, op_in_type, settled_op, settle, settle_all}
 use Rattle.eo_type.proofs.SettleLemmas.{is_typed, typed_inj, typed_before, typed_if_gives}
@@ -15,7 +15,7 @@ pub lower : (t u : Tree) → height u ≤ height t → is_tall t ≡ false → i
 lower t u h e = by (is_tall u) refl
   where
     by : (b : Bool) → is_tall u ≡ b → b ≡ false
-    by true q = sym (higher u t h q) ∙ e
+    by true q = sym (still_above height_limit (height u) (height t) h q) ∙ e
     by false q = refl
 
 -- Operators give a leaf or one of their arguments.

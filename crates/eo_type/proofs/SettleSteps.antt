@@ -1,19 +1,18 @@
 -- Settling part by part.
-use Rattle.std.proofs.Common.{◌≡◌, ℕ, zero, suc, ◌<◌, ◌≤◌, Bool, true, false, List, [], ◌∷◌, length, map, take, get_or, if◌then◌else◌, nat_eq, Some, None, refl, sym, ap, ◌∙◌, subst, arith}
+use Rattle.std.proofs.Common.{◌≡◌, ℕ, zero, suc, ◌<◌, ◌≤◌, true, false, List, [], ◌∷◌, length, map, take, get_or, if◌then◌else◌, nat_eq, Some, None, refl, sym, ap, ◌∙◌, subst, arith}
 use Rattle.std.specs.Prelude.{Result, Ok, Err, Option}
 use Rattle.std.specs.List.{list_all}
 use Rattle.eo_term.specs.declared.OpCode.{OpCode}
 use Rattle.eo_term.specs.Tree.{Tree, Con, Num, Bits, Str, Par, Var, App, Arr, Qar, Op, Trees, NoTree, More, to_trees, is_tall, is_closed, is_plain}
 use Rattle.eo_term.specs.Memo.{told, TellsOnly}
-use Rattle.eo_term.proofs.Memos.{tells_more, tells_weaker}
 use Rattle.eo_term.specs.Growth.{tree_in}
 use Rattle.eo_term.specs.declared.walk.Step.{Step}
 use Rattle.std.specs.Result.{IsErrAnd}
 use Rattle.eo_type.specs.Steps.{IsSettled, IsNext, Knows, GivesStep}
 use Rattle.eo_term.specs.Terms.{Terms, Since, tree_at}
 use Rattle.eo_term.specs.Arguments.{count_of, argument_at}
-use Rattle.eo_term.proofs.Equality.{both}
-use Rattle.eo_term.proofs.Values.{clash}
+use Rattle.eo_base.proofs.Elements.{holds_more}
+use Rattle.eo_base.proofs.Tests.{both, clash}
 use Rattle.eo_type.specs.declared.refused.TypeRefused.{TypeRefused}
 use Rattle.eo_type.specs.declared.refused.TypeRefused.TheVariants as refused
 use Rattle.eo_type.specs.declared.refused.Stop.{Stop}
@@ -37,12 +36,13 @@ settle_plain (Op c ts) h = clash h
 
 -- what a memo tells stays
 pub settles_grown : (old new : Terms) (m : List (ℕ × ℕ)) → Since old new → TellsOnly (IsSettled old) m → TellsOnly (IsSettled new) m
-settles_grown old new m g t =
-    tells_weaker (IsSettled old) (IsSettled new) m (λ k v p. record {
+settles_grown old new m g t k v e =
+    let p = t k v e in
+    record {
       term = omega (arith, p.term, g.more_trees);
       made = omega (arith, p.made, g.more_trees);
       typed = ap settle (g.tree k p.term) ∙ p.typed ∙ ap Typed (sym (g.tree v p.made));
-    }) t
+    }
 
 -- what a memo tells of a term
 pub told_settled : (t : Terms) (m : List (ℕ × ℕ)) (k : ℕ) (o : Option ℕ) → o ≡ told m k → TellsOnly (IsSettled t) m → Knows t m k o
@@ -67,7 +67,7 @@ module _ (old mid new : Terms) (id k : ℕ) (g : Since old mid) (r : StopsAll ol
   pub step_kept : (v : ℕ) (m n : List (ℕ × ℕ)) → Since mid new → ((j : ℕ) → told n j ≡ (if nat_eq k j then Some v else told m j)) → TellsOnly (IsSettled mid) m → IsTyped new (settle (tree_in mid k)) v → TellsOnly (IsSettled new) n
   step_kept v m n w f t p =
       let live : k < length mid.trees = omega (arith, l, g.more_trees) in
-      tells_more (IsSettled new) m n k v f (settles_grown mid new m w t) (record {
+      holds_more (IsSettled new) (told m) (told n) k v f (settles_grown mid new m w t) (record {
         term = omega (arith, live, w.more_trees);
         made = p.live;
         typed = ap settle (w.tree k live) ∙ p.typed;
@@ -140,10 +140,3 @@ pub settled_typed : (t u : Tree) → is_tall t ≡ false → settle t ≡ Typed 
 settled_typed t u l e =
     let m = settle_low t u e l in
     (λ i. on_typed (if l i then TypeTall else Typed t) (λ v. on_typed (settle v) if_not_tall)) ∙ (λ i. on_typed (e i) if_not_tall) ∙ (λ i. if m i then TypeTall else Typed u)
-
-pub settled_stops : (e : Stop) (t : Tree) → is_tall t ≡ false → Stops e (settle t) → Stops e (settled t)
-settled_stops e t l h =
-    subst (λ (b : Bool). Stops e (on_typed (if b then TypeTall else Typed t) (λ v. on_typed (settle v) if_not_tall))) (sym l) (stops_first e (settle t) if_not_tall h)
-
-pub settled_tall : (t : Tree) → is_tall t ≡ true → settled t ≡ TypeTall
-settled_tall t l = λ i. on_typed (if l i then TypeTall else Typed t) (λ v. on_typed (settle v) if_not_tall)

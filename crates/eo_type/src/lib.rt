@@ -2,7 +2,7 @@
 //! the operators in types replaced by their values.
 #![tactic(auto)]
 
-mod applied;
+mod application;
 mod leaves;
 mod literals;
 mod operators;

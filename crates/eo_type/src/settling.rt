@@ -14,7 +14,7 @@ use crate::operators::op_value;
 use crate::refused::{Stop, answer};
 use eo_base::limits::PARAMETERS;
 use eo_sig::Signature;
-use eo_term::{Id, Memo, Node, OpCode, Step, TYPE, Table, Walk};
+use eo_term::{Id, Memo, Node, OpCode, Step, TYPE, Table, Walk, walk_law};
 use std::alloc::Global;
 
 /// The term in which each operator without parameters is replaced by its value, the innermost and
@@ -61,6 +61,7 @@ fn settle_walk(alloc: Global, table: &mut Table, walk: &mut Walk) -> Result<Id, 
     ensures gives { Gives table.new result (settle (tree_in table.old walk.old.top)) }
     ensures grows { Grows table.old table.new }
 {
+    walk_law();
     loop {
         match settle_node(alloc, table, walk.memo(), walk.top())? {
             Step::Made(made) => {

@@ -12,11 +12,11 @@ ghost use Rattle.eo_sig.specs.Growth.{GrowsUnder};
 ghost use Rattle.eo_type.specs.Known.{IsFit, Fits, Fit, Lasts, class_type, type_at, type_in};
 
 use crate::TypeRefused;
-use crate::applied::{applied, assign, settled};
+use crate::application::{application_type, assign, settled};
 use crate::leaves::{if_value, is_constant};
 use crate::refused::{Stop, answer};
 use eo_pattern::Subst;
-use eo_sig::{LiteralClass, Signature};
+use eo_sig::{LiteralClass, Signature, growth_law, longer_law};
 use eo_term::{Id, Node, Table};
 use indexmap::IndexMap;
 use std::alloc::{AllocError, Global};
@@ -56,6 +56,8 @@ impl Types {
     pub fn laws(&self)
         ensures { Lasts self.now }
     {
+        growth_law();
+        longer_law();
         let _count = self.known.len();
     }
 
@@ -159,12 +161,13 @@ impl Types {
         ensures fits { Fit sig.now table.new self.new }
         ensures grows { GrowsUnder sig.now table.old table.new }
     {
+        sig.laws();
         let alloc = self.alloc;
         let (ty, kind) = self.both(sig, table, fun, arg)?;
         if !table.is_value(kind) {
             return Err(Stop::Untyped);
         }
-        Ok(applied(alloc, table, ty, kind, arg)?)
+        Ok(application_type(alloc, table, ty, kind, arg)?)
     }
 
     // The type of a function type: `Type`, if both parts are types.
@@ -213,6 +216,7 @@ impl Types {
         ensures fits { Fit sig.now table.new self.now }
         ensures grows { GrowsUnder sig.now table.old table.new }
     {
+        sig.laws();
         match sig.literal_type(class) {
             None => Err(Stop::Untyped),
             Some(ty) => literal_in(self.alloc, table, ty, id),

@@ -5,15 +5,21 @@
 //! A second word, `one`, `small`, `steps`, `lines` or `text`, reads only that kind.
 #![tactic(auto)]
 
-ghost use Rattle.std.specs.Prelude.{◌≡◌, ◌<◌, ◌≤◌, length, IfOk};
-ghost use Rattle.eo_sexp.specs.Collecting.{IsLive};
+ghost use Rattle.std.specs.Prelude.{◌≡◌, ◌<◌, ◌≤◌, ◌^◌, [], length, IfOk};
+ghost use Rattle.eo_base.specs.Limits.{limits};
+ghost use Rattle.eo_sexp.specs.Collecting.{IsLive, HasRoom};
+ghost use Rattle.eo_sexp.specs.Cutting.{IsWaiting};
+ghost use Rattle.read_bench.specs.Counting.{commands_of, commands_behind, Gives};
 
-use eo_sexp::{Collector, Fed};
+use eo_sexp::{Collector, Fed, Finished, answers_law, pieces_law};
 use std::alloc::{AllocError, Global};
 use std::time::Instant;
 use std::{env, io};
 
 const PIECE: usize = 65_536;
+
+// No text that may be asked for is longer.
+const LONGEST: usize = 1_000_000_000;
 
 /// A text that repeats `part` between `head` and `tail`, of about `size` bytes.
 fn repeated(
@@ -34,36 +40,93 @@ fn repeated(
     Ok(text)
 }
 
-/// Feeds the text in pieces, and answers how many commands it has.
-fn read(alloc: Global, text: &[u8]) -> Result<u64, AllocError> {
-    let mut collector = Collector::new(alloc, false)?;
+/// What a piece of a text gave.
+enum Given {
+    /// So many bytes are taken, and no command is whole with them.
+    More(usize),
+    /// A command is whole with so many bytes.
+    Command(usize),
+    Fault,
+}
+
+/// How many of the bytes that are left are fed at once.
+fn piece_size(left: usize) -> usize
+    ensures within { result ≤ left }
+    ensures some { 0 < left → 0 < result }
+{
+    if left < PIECE { left } else { PIECE }
+}
+
+/// Feeds the first piece of the rest of a text.
+fn feed_piece(collector: &mut Collector, rest: &[u8]) -> Result<Given, AllocError>
+    requires live { IsLive collector.old }
+    requires waiting { IsWaiting limits collector.old }
+    requires room { HasRoom collector.old rest.now }
+    ensures gives { IfOk result (λ g. Gives g collector.old collector.new rest.now) }
+{
+    pieces_law();
+    answers_law();
+    let size = piece_size(rest.len());
+    match collector.feed(&rest[..size]) {
+        Fed::More => Ok(Given::More(size)),
+        Fed::Command { used } => Ok(Given::Command(used)),
+        Fed::Fault { .. } => Ok(Given::Fault),
+        Fed::Memory => Err(AllocError),
+    }
+}
+
+/// Ends a text, and answers how many commands the end makes whole.
+fn count_last(collector: &mut Collector) -> u64
+    requires live { IsLive collector.old }
+    requires waiting { IsWaiting limits collector.old }
+    requires few { commands_behind collector.old [] < 2 ^ 64 }
+    ensures { result ≡ commands_behind collector.old [] }
+{
+    pieces_law();
+    answers_law();
     let mut commands = 0u64;
-    if text.len() > 1_000_000_000 {
-        return Ok(0);
-    }
-    for _ in 0..u64::MAX {
-        let here = collector.here();
-        let at = here.offset as usize;
-        if at >= text.len() {
-            break;
-        }
-        let end = if text.len() - at < PIECE {
-            text.len()
-        } else {
-            at + PIECE
-        };
-        let end = if end - at > PIECE - at % PIECE {
-            at + (PIECE - at % PIECE)
-        } else {
-            end
-        };
-        match collector.feed(&text[at..end]) {
-            Fed::More => {}
-            Fed::Command { .. } => commands = commands.saturating_add(1),
-            Fed::Fault { .. } | Fed::Memory => return Ok(commands),
+    'atoms: loop {
+        match collector.finish() {
+            Finished::End => return commands,
+            Finished::Command => commands += 1,
+            Finished::Fault { .. } => return commands,
         }
     }
-    Ok(commands)
+}
+
+/// How many commands the text has behind what the collector was fed, before its end or its first
+/// fault.
+fn count(collector: &mut Collector, text: &[u8]) -> Result<u64, AllocError>
+    requires live { IsLive collector.old }
+    requires waiting { IsWaiting limits collector.old }
+    requires room { HasRoom collector.old text.now }
+    requires few { commands_behind collector.old text.now < 2 ^ 64 }
+    ensures { IfOk result (λ n. n ≡ commands_behind collector.old text.now) }
+{
+    let mut commands = 0u64;
+    let mut rest = text;
+    while rest.len() > 0 {
+        match feed_piece(collector, rest)? {
+            Given::More(taken) => rest = &rest[taken..],
+            Given::Command(taken) => {
+                commands += 1;
+                rest = &rest[taken..];
+            }
+            Given::Fault => return Ok(commands),
+        }
+    }
+    Ok(commands + count_last(collector))
+}
+
+/// How many commands the text has before its end or its first fault. It is fed in pieces.
+fn read(alloc: Global, text: &[u8]) -> Result<u64, AllocError>
+    requires { length text.now < 2 ^ 63 }
+    ensures { IfOk result (λ n. n ≡ commands_of text.now) }
+{
+    pieces_law();
+    answers_law();
+    let mut collector = Collector::new(alloc, false)?;
+    count(&mut collector, text)
 }
 
 /// A text of `size` bytes of this kind.
@@ -136,6 +199,9 @@ fn main(rt: HostRuntime) -> io::Result<()> {
         let Ok(text) = text_of(rt.alloc(), kind, size) else {
             return Ok(());
         };
+        if text.len() > LONGEST {
+            continue;
+        }
         let name = name_of(kind);
         let start = Instant::now(&rt)?;
         let commands = read(rt.alloc(), text.as_slice());

@@ -6,7 +6,7 @@ ghost use Rattle.eo_sig.specs.Signature as sig;
 ghost use Rattle.eo_sig.specs.declared.records.Declared.TheVariants as declared;
 ghost use Rattle.eo_sig.specs.Reading.{signature, read_parameter, read_constant, read_macro, read_program, read_rule, read_premises};
 ghost use Rattle.eo_sig.specs.Reading.{IsBelow, ConstBelow, MacroBelow, ProgramBelow, RuleBelow};
-ghost use Rattle.eo_sig.specs.Reading.{with_entry, with_macro, IsFree, IsFreeRule, Adds, AddsMacro};
+ghost use Rattle.eo_sig.specs.Reading.{with_entry, with_macro, IsFree, IsFreeRule, Adds, AddsAt, AddsMacro};
 ghost use Rattle.eo_sig.specs.Refused.{Tells};
 ghost use Rattle.eo_sig.specs.Usable.{AreOrdered, StaysUsable};
 
@@ -29,8 +29,7 @@ impl Signature {
         requires live { ConstBelow (length table.now.trees) d }
         ensures tells { Tells result (sig.constant_fault (read_constant table.now.trees d)) }
         ensures kept { OnOk result (self.new ≡ with_entry (declared.Const d) self.old) }
-        ensures adds { IfOk result (λ n. (ts : List Tree) → Adds ts self.old (sig.IsConstant (read_constant ts d)) self.new) }
-        ensures number { IfOk result (λ n. (ts : List Tree) → n ≡ length (sig.constants (signature ts self.old))) }
+        ensures adds { IfOk result (AddsAt sig.constants self.old (λ ts. sig.IsConstant (read_constant ts d)) self.new) }
         ensures usable { OnOk result (StaysUsable table.now.trees self.old self.new) }
         ensures below { OnOk result ((m : ℕ) → IsBelow m self.old → ConstBelow m d → IsBelow m self.new) }
         ensures err { OnErr result (self.new ≡ self.old) }
@@ -75,8 +74,7 @@ impl Signature {
         requires live { ProgramBelow (length table.now.trees) d }
         ensures tells { Tells result (sig.program_fault (read_program table.now.trees d)) }
         ensures kept { OnOk result (self.new ≡ with_entry (declared.Program d) self.old) }
-        ensures adds { IfOk result (λ n. (ts : List Tree) → Adds ts self.old (sig.IsProgram (read_program ts d)) self.new) }
-        ensures number { IfOk result (λ n. (ts : List Tree) → n ≡ length (sig.programs (signature ts self.old))) }
+        ensures adds { IfOk result (AddsAt sig.programs self.old (λ ts. sig.IsProgram (read_program ts d)) self.new) }
         ensures usable { OnOk result ((ts : List Tree) → StaysUsable ts self.old self.new) }
         ensures below { OnOk result ((m : ℕ) → IsBelow m self.old → ProgramBelow m d → IsBelow m self.new) }
         ensures err { OnErr result (self.new ≡ self.old) }
@@ -107,8 +105,7 @@ impl Signature {
         requires live { RuleBelow (length table.now.trees) d }
         ensures tells { Tells result (sig.rule_fault (signature table.now.trees self.old) (read_rule table.now.trees d)) }
         ensures kept { OnOk result (self.new ≡ with_entry (declared.Rule d) self.old) }
-        ensures adds { IfOk result (λ n. (ts : List Tree) → Adds ts self.old (sig.IsRule (read_rule ts d)) self.new) }
-        ensures number { IfOk result (λ n. (ts : List Tree) → n ≡ length (sig.rules (signature ts self.old))) }
+        ensures adds { IfOk result (AddsAt sig.rules self.old (λ ts. sig.IsRule (read_rule ts d)) self.new) }
         ensures usable { OnOk result ((ts : List Tree) → AreOrdered ts d.params → StaysUsable ts self.old self.new) }
         ensures below { OnOk result ((m : ℕ) → IsBelow m self.old → RuleBelow m d → IsBelow m self.new) }
         ensures err { OnErr result (self.new ≡ self.old) }

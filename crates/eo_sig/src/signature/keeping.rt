@@ -6,6 +6,7 @@ ghost use Rattle.eo_sig.specs.Reading.{signature, macros, constants_of, programs
 
 use super::Signature;
 use crate::{ConstDecl, Declared, LiteralClass, MacroDecl, ProgramDecl, RuleDecl};
+use eo_base::Name;
 use eo_term::Id;
 use std::alloc::AllocError;
 
@@ -19,7 +20,7 @@ impl Signature {
     {
         let number = self.constants.len();
         let place = self.entries.len();
-        let key = d.name.as_bytes().to_vec(self.alloc)?;
+        let key = Name::new(self.alloc, d.name.as_bytes())?;
         self.constants.reserve(1)?;
         self.entries.push(Declared::Const(d))?;
         self.constants.insert(key, place).unwrap();
@@ -35,7 +36,7 @@ impl Signature {
     {
         let number = self.programs.len();
         let place = self.entries.len();
-        let key = d.name.as_bytes().to_vec(self.alloc)?;
+        let key = Name::new(self.alloc, d.name.as_bytes())?;
         self.programs.reserve(1)?;
         self.entries.push(Declared::Program(d))?;
         self.programs.insert(key, place).unwrap();
@@ -51,7 +52,7 @@ impl Signature {
     {
         let number = self.rules.len();
         let place = self.entries.len();
-        let key = d.name.as_bytes().to_vec(self.alloc)?;
+        let key = Name::new(self.alloc, d.name.as_bytes())?;
         self.rules.reserve(1)?;
         self.entries.push(Declared::Rule(d))?;
         self.rules.insert(key, place).unwrap();
@@ -66,7 +67,7 @@ impl Signature {
         ensures err { OnErr result (self.new ≡ self.old) }
     {
         let number = self.macros.len();
-        let key = d.name.as_bytes().to_vec(self.alloc)?;
+        let key = Name::new(self.alloc, d.name.as_bytes())?;
         self.macros.insert(key, d)?;
         Ok(number)
     }

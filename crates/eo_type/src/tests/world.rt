@@ -7,7 +7,7 @@ ghost use Rattle.eo_type.specs.Known.{Fit};
 
 use crate::{TypeRefused, Types, settle};
 use eo_base::Name;
-use eo_sig::{Attribute, ConstDecl, LiteralClass, Params, SigRefused, Signature};
+use eo_sig::{Attribute, ConstDecl, LiteralClass, Params, SigRefused, Signature, growth_law};
 use eo_term::{Id, Node, OpCode, OpName, TYPE, Table, TermRefused};
 use std::alloc::Global;
 use std::marker::Model;
@@ -195,6 +195,7 @@ fn first_table(alloc: Global) -> Result<Table, Fail>
 fn first(alloc: Global) -> Result<Signature, Fail>
     ensures { IfOk result (λ s. (n : ℕ) → 4 ≤ n → IsBelow n s) }
 {
+    growth_law();
     Ok(Signature::new(alloc)?)
 }
 

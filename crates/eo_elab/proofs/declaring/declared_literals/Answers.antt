@@ -9,7 +9,7 @@ use Rattle.eo_names.specs.Names.{local, read_locals}
 use Rattle.eo_elab.specs.Worlds.{context_in}
 use Rattle.eo_elab.proofs.CheckedLemmas.{require-yes, require-no}
 use Rattle.eo_elab.proofs.Giving.{same_context}
-use Rattle.eo_names.proofs.Outcomes.{ok_always}
+use Rattle.eo_base.proofs.Answering.{ok_always}
 use Rattle.eo_elab.proofs.declaring.declared_literals.Goals as goal
 
 mapped-none : {A B : Type 0} (f : A → B) (o : Option A) (b : Bool) → b ≡ is_some o → b ≡ true → is_none (option_map f o) ≡ false
@@ -33,7 +33,7 @@ returns-clause-gives c =
     let us = c.parameter.new.table in
     let k = c.args.sig.now in
     let x = context_in t k in
-    let same = same_context k t us c.requires c.in_ok-literal.ensures.grows in
+    let same = same_context k t us c.laws.ensures c.requires c.in_ok-literal.ensures.grows in
     let one : read_locals us.trees c.add.new.self ≡ self x = ap (read_locals us.trees) (c.in_ok-add.ensures.added ∙ ap (λ ls. local (codes "eo::self") c.in_ok-literal.literal false ∷ ls) c.in_ok-names.ensures) ∙ (λ i. record { name = codes "eo::self"; tree = c.in_ok-literal.ensures.makes.tree i; list = false } ∷ []) in
     let link = require-yes _ Redeclared _ (ap is_none (sym (c.literal_type.ensures.value t.trees)) ∙ mapped-some (tree_at t.trees) c.literal_type.result c.is_some.result c.is_some.ensures c.if-is_some.false)
     ∙ (λ i. meaning (sym same i) (sym one i) c.args.ty.now) in

@@ -43,7 +43,7 @@ returns-in_err-ty-clause-gives c =
     let shape = forms.read_attribute c.args.attribute.now in
     let few : length c.args.params.now ≤ parameters_limit = omega (arith, c.len.ensures, c.if-len-gt-PARAMETERS.false) in
     let b = read_bound us.trees c.in_ok-bound.bound in
-    let same = same_context c.args.sig.now t us c.requires c.in_ok-bound.ensures.grows in
+    let same = same_context c.args.sig.now t us c.laws.ensures c.requires c.in_ok-bound.ensures.grows in
     let made : Tree × Attribute → Checked Constant = λ r. Ok (constant x c.args.name.now b.parameters r.0 r.1) in
     let parts = parameterized-over x c.args.name.now c.args.params.now c.args.ty.now shape b (sym (c.is_free.ensures t.trees) ∙ c.if-not-is_free.false) few c.in_ok-bound.ensures.gives.is in
     fails _ _ _ _ _ _ _ c.from_residual-in_err-ty.ensures.1
@@ -58,7 +58,7 @@ returns-clause-gives c =
     let shape = forms.read_attribute c.args.attribute.now in
     let few : length c.args.params.now ≤ parameters_limit = omega (arith, c.len.ensures, c.if-len-gt-PARAMETERS.false) in
     let b = read_bound us.trees c.in_ok-bound.bound in
-    let same = same_context c.args.sig.now t us c.requires c.in_ok-bound.ensures.grows in
+    let same = same_context c.args.sig.now t us c.laws.ensures c.requires c.in_ok-bound.ensures.grows in
     let made : Tree × Attribute → Checked Constant = λ r. Ok (constant x c.args.name.now b.parameters r.0 r.1) in
     let parts = parameterized-over x c.args.name.now c.args.params.now c.args.ty.now shape b (sym (c.is_free.ensures t.trees) ∙ c.if-not-is_free.false) few c.in_ok-bound.ensures.gives.is in
     let type = tree_in vs c.in_ok-ty.ty in

@@ -42,7 +42,7 @@ returns-in_err-tree-clause-gives c =
     let body = c.args.body.now in
     let few : length shapes ≤ parameters_limit = omega (arith, c.len.ensures, c.if-len-gt-PARAMETERS.false) in
     let b = read_bound us.trees c.in_ok-bound.bound in
-    let same = same_context c.args.sig.now t us c.requires c.in_ok-bound.ensures.grows in
+    let same = same_context c.args.sig.now t us c.laws.ensures c.requires c.in_ok-bound.ensures.grows in
     let parts = defined-parts x c.args.name.now shapes body (sym (c.may_declare.ensures t.trees) ∙ c.if-not-may_declare.false) few ∙ then-ok (body_read x c.args.name.now shapes body) (bind x unbound shapes) b c.in_ok-bound.ensures.gives.is in
     fails _ _ _ _ _ _ _ c.from_residual-in_err-tree.ensures.1
     (λ f e. parts ∙ then-err (λ u. Ok (macro x c.args.name.now b.parameters u)) (meaning x b.locals body) f (ap (λ y. meaning y b.locals body) (sym same) ∙ e)) c.in_err-tree.ensures.gives
@@ -58,7 +58,7 @@ returns-clause-gives c =
     let few : length shapes ≤ parameters_limit = omega (arith, c.len.ensures, c.if-len-gt-PARAMETERS.false) in
     let b = read_bound us.trees c.in_ok-bound.bound in
     let tree = tree_in vs c.in_ok-tree.tree in
-    let same = same_context c.args.sig.now t us c.requires c.in_ok-bound.ensures.grows in
+    let same = same_context c.args.sig.now t us c.laws.ensures c.requires c.in_ok-bound.ensures.grows in
     let parts = defined-parts x c.args.name.now shapes body (sym (c.may_declare.ensures t.trees) ∙ c.if-not-may_declare.false) few ∙ then-ok (body_read x c.args.name.now shapes body) (bind x unbound shapes) b c.in_ok-bound.ensures.gives.is in
     let params = parameters-grown (length us.trees) us.trees vs.trees c.in_ok-bound.bound.params c.in_ok-tree.ensures.grows.now.tree c.in_ok-bound.ensures.gives.live.params in
     record {

@@ -1,4 +1,4 @@
-use Rattle.std.proofs.Common.{◌≡◌, ℕ, ◌≤◌, ◌<◌, ◌++◌, ◌∷◌, [], length, subst, false, ap, sym, ◌∙◌, All}
+use Rattle.std.proofs.Common.{◌≡◌, ◌≤◌, ◌<◌, ◌++◌, ◌∷◌, [], length, subst, false, ap, sym, ◌∙◌, All}
 use Rattle.std.specs.Prelude.{Ok}
 use Rattle.std.proofs.lemmas.List.{map-append}
 use Rattle.std.proofs.lemmas.List.Elements.{All-append, All-cons, All-nil}
@@ -12,17 +12,16 @@ use Rattle.eo_elab.specs.Declaring.{type_of_function}
 use Rattle.eo_names.specs.Folding.{arrow}
 use Rattle.eo_names.specs.Worlds.{World, world_of}
 use Rattle.eo_elab.specs.Worlds.{context_in, meaning_in, meanings_in}
-use Rattle.eo_names.proofs.Giving.{tall_told}
 use Rattle.eo_elab.proofs.ConstantLemmas.{trees-grown, ids-more}
 use Rattle.eo_elab.proofs.DeclaringLemmas.{function-no-inputs, function-no-output, function-whole, arrow-onto, low, high, low-height}
-use Rattle.eo_elab.proofs.Giving.{none_ready, same_world_of, still_ready_of}
+use Rattle.eo_elab.proofs.Giving.{none_ready, tall_told}
 use Rattle.eo_elab.proofs.declaring.type_of_function.Goals as goal
 
 pub meanings-requires : goal.meanings-requires
 meanings-requires c = record { ready = none_ready c.args.sig.now _ _ c.in_ok-none.ensures c.requires }
 
 pub term-requires : goal.term-requires
-term-requires c = record { ready = still_ready_of c.args.sig.now _ c.args.table.now c.meanings.new.table (none_ready c.args.sig.now _ _ c.in_ok-none.ensures c.requires) c.in_ok-types.ensures.grows }
+term-requires c = record { ready = (c.names_law.ensures.stays c.args.sig.now _ c.args.table.now c.meanings.new.table (none_ready c.args.sig.now _ _ c.in_ok-none.ensures c.requires) c.in_ok-types.ensures.grows).ready }
 
 pub returns-in_err-types-clause-gives : goal.returns-in_err-types-clause-gives
 returns-in_err-types-clause-gives c =
@@ -37,7 +36,7 @@ returns-in_err-output-clause-gives c =
     let x = context_in c.args.table.now k in
     let us = c.meanings.new.table in
     let alone : world_of c.args.table.now k c.in_ok-none.none ≡ record { names = x; locals = [] } = ap (world_of c.args.table.now k) c.in_ok-none.ensures in
-    let same = same_world_of k c.in_ok-none.none c.args.table.now us (none_ready k _ _ c.in_ok-none.ensures c.requires) c.in_ok-types.ensures.grows in
+    let same = (c.names_law.ensures.stays k c.in_ok-none.none c.args.table.now us (none_ready k _ _ c.in_ok-none.ensures c.requires) c.in_ok-types.ensures.grows).world in
     fails _ _ _ _ _ _ _ c.from_residual-in_err-output.ensures.1
     (λ f e. function-no-output x c.args.inputs.now c.args.output.now (trees_in us c.in_ok-types.types) (ap (λ (u : World). meanings_in u c.args.inputs.now) (sym alone) ∙ c.in_ok-types.ensures.gives.is) f (ap (λ (u : World). meaning_in u c.args.output.now) (sym (same ∙ alone)) ∙ e)) c.in_err-output.ensures.gives
 
@@ -55,7 +54,7 @@ returns-in_err-made-clause-gives c =
     let us = c.meanings.new.table in
     let vs = c.term.new.table in
     let alone : world_of c.args.table.now k c.in_ok-none.none ≡ record { names = x; locals = [] } = ap (world_of c.args.table.now k) c.in_ok-none.ensures in
-    let same = same_world_of k c.in_ok-none.none c.args.table.now us (none_ready k _ _ c.in_ok-none.ensures c.requires) c.in_ok-types.ensures.grows in
+    let same = (c.names_law.ensures.stays k c.in_ok-none.none c.args.table.now us (none_ready k _ _ c.in_ok-none.ensures c.requires) c.in_ok-types.ensures.grows).world in
     let is = trees_in us c.in_ok-types.types in
     let t = tree_in vs c.in_ok-output.output in
     let parts = function-whole x c.args.inputs.now c.args.output.now is (ap (λ (u : World). meanings_in u c.args.inputs.now) (sym alone) ∙ c.in_ok-types.ensures.gives.is) t (ap (λ (u : World). meaning_in u c.args.output.now) (sym (same ∙ alone)) ∙ c.in_ok-output.ensures.gives.is) in
@@ -73,7 +72,7 @@ returns-clause-gives c =
     let us = c.meanings.new.table in
     let vs = c.term.new.table in
     let alone : world_of c.args.table.now k c.in_ok-none.none ≡ record { names = x; locals = [] } = ap (world_of c.args.table.now k) c.in_ok-none.ensures in
-    let same = same_world_of k c.in_ok-none.none c.args.table.now us (none_ready k _ _ c.in_ok-none.ensures c.requires) c.in_ok-types.ensures.grows in
+    let same = (c.names_law.ensures.stays k c.in_ok-none.none c.args.table.now us (none_ready k _ _ c.in_ok-none.ensures c.requires) c.in_ok-types.ensures.grows).world in
     let is = trees_in us c.in_ok-types.types in
     let t = tree_in vs c.in_ok-output.output in
     let parts = function-whole x c.args.inputs.now c.args.output.now is (ap (λ (u : World). meanings_in u c.args.inputs.now) (sym alone) ∙ c.in_ok-types.ensures.gives.is) t (ap (λ (u : World). meaning_in u c.args.output.now) (sym (same ∙ alone)) ∙ c.in_ok-output.ensures.gives.is) in

@@ -13,7 +13,6 @@ use Rattle.eo_elab.specs.Worlds.{context_in, attribute_in}
 use Rattle.eo_elab.proofs.Giving.{refused_as}
 use Rattle.eo_elab.proofs.BoundLemmas.{parameters-grown}
 use Rattle.eo_elab.proofs.DeclaringLemmas.{over-no-type, over-tall, over-no-attribute, over-both, low-height}
-use Rattle.eo_elab.proofs.Giving.{same_world_of, still_ready_of}
 use Rattle.eo_elab.proofs.declaring.typed_over.Goals as goal
 
 pub returns-in_err-result-clause-gives : goal.returns-in_err-result-clause-gives
@@ -36,7 +35,7 @@ returns-in_err-whole-clause-gives c =
 
 pub attribute_meant-requires : goal.attribute_meant-requires
 attribute_meant-requires c =
-    record { ready = still_ready_of c.args.sig.now c.args.bound.now.locals c.args.table.now c.bound_type.new.table c.requires.bound.ready (search rules) }
+    record { ready = (c.names_law.ensures.stays c.args.sig.now c.args.bound.now.locals c.args.table.now c.bound_type.new.table c.requires.bound.ready (search rules)).ready }
 
 pub returns-in_err-attribute-clause-gives : goal.returns-in_err-attribute-clause-gives
 returns-in_err-attribute-clause-gives c =
@@ -50,7 +49,7 @@ returns-in_err-attribute-clause-gives c =
     let params = ap (map (read_parameter us.trees)) c.as_slice.ensures ∙ parameters-grown (length t.trees) t.trees us.trees c.args.bound.now.params c.in_ok-result.ensures.grows.now.tree c.requires.bound.params in
     let made : tree_in vs c.in_ok-whole.whole ≡ bound_type 0 b.parameters type = c.in_ok-whole.ensures.makes.tree ∙ ap (λ ps. bound_type 0 ps type) params in
     let short : is_tall (bound_type 0 b.parameters type) ≡ false = ap is_tall (sym made) ∙ low-height (tree_in vs c.in_ok-whole.whole) (subst (λ n. n ≤ height_limit) c.height.ensures.height c.height.ensures.low) in
-    let same = same_world_of c.args.sig.now c.args.bound.now.locals t vs c.requires.bound.ready (search rules) in
+    let same = (c.names_law.ensures.stays c.args.sig.now c.args.bound.now.locals t vs c.requires.bound.ready (search rules)).world in
     fails _ _ _ _ _ _ _ c.from_residual-in_err-attribute.ensures.1
     (λ f e. over-no-attribute x b c.args.ty.now shape type c.in_ok-result.ensures.gives.is f short (ap (λ (u : World). attribute_in u c.args.attribute.now) (sym same) ∙ e)) c.in_err-attribute.ensures.gives
 
@@ -67,7 +66,7 @@ returns-clause-gives c =
     let params = ap (map (read_parameter us.trees)) c.as_slice.ensures ∙ parameters-grown (length t.trees) t.trees us.trees c.args.bound.now.params c.in_ok-result.ensures.grows.now.tree c.requires.bound.params in
     let made : tree_in vs c.in_ok-whole.whole ≡ bound_type 0 b.parameters type = c.in_ok-whole.ensures.makes.tree ∙ ap (λ ps. bound_type 0 ps type) params in
     let short : is_tall (bound_type 0 b.parameters type) ≡ false = ap is_tall (sym made) ∙ low-height (tree_in vs c.in_ok-whole.whole) (subst (λ n. n ≤ height_limit) c.height.ensures.height c.height.ensures.low) in
-    let same = same_world_of c.args.sig.now c.args.bound.now.locals t vs c.requires.bound.ready (search rules) in
+    let same = (c.names_law.ensures.stays c.args.sig.now c.args.bound.now.locals t vs c.requires.bound.ready (search rules)).world in
     let kept = c.in_ok-attribute.ensures.grows.now.tree c.in_ok-whole.whole c.in_ok-whole.ensures.makes.live in
     record {
       live = record { type = omega (arith, c.in_ok-whole.ensures.makes.live, c.in_ok-attribute.ensures.grows.now.more_trees); attribute = c.in_ok-attribute.ensures.gives.live };

@@ -13,7 +13,7 @@ returns-in_err-read-clause-gives c =
     let b = read_bound l.table.trees l.bound in
     let p = shapes.read_parameter c.in-Some.shape in
     let rest = c.next.new.self in
-    let same = same_context c.args.sig.now c.args.table.now l.table c.requires.ready l.invariant.grows in
+    let same = same_context c.args.sig.now c.args.table.now l.table c.laws.ensures c.requires.ready l.invariant.grows in
     let step = l.invariant.left ∙ ap (bind (context_in c.args.table.now c.args.sig.now) b) c.in-Some.ensures.steps in
     fails _ _ _ _ _ _ _ c.from_residual-in_err-read.ensures.1 (λ f e. step ∙ ap (λ y. bind y b (p ∷ rest)) (sym same) ∙ e) (c.in_err-read.ensures.reads rest)
 
@@ -23,7 +23,7 @@ loop-shape-preserved c =
     let b = read_bound l.table.trees l.bound in
     let p = shapes.read_parameter c.in-Some.shape in
     let rest = c.next.new.self in
-    let same = same_context c.args.sig.now c.args.table.now l.table c.requires.ready l.invariant.grows in
+    let same = same_context c.args.sig.now c.args.table.now l.table c.laws.ensures c.requires.ready l.invariant.grows in
     let step = l.invariant.left ∙ ap (bind (context_in c.args.table.now c.args.sig.now) b) c.in-Some.ensures.steps in
     let first = ap length c.in-Some.ensures.steps in
     record {

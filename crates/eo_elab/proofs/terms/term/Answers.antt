@@ -3,7 +3,6 @@ use Rattle.eo_names.specs.declared.scope.Scope.{the_lemmas}
 use Rattle.eo_elab.specs.Meaning.{means, meaning, without_labels}
 use Rattle.eo_names.specs.Names.{read_locals}
 use Rattle.eo_names.specs.Ready.{context, IsReady}
-use Rattle.eo_names.proofs.FoldSteps.{keeps_grown}
 use Rattle.eo_elab.proofs.Giving.{unlabelled}
 use Rattle.eo_elab.proofs.terms.term.Goals as goal
 
@@ -17,4 +16,6 @@ returns-clause-gives c =
     (ap (λ ls. without_labels (means (context c.args.table.now.trees c.args.sig.now) (read_locals c.args.table.now.trees ls) c.args.s.now [])) (search (rules, the_lemmas))) c.mean.ensures.gives
 
 pub returns-clause-keeps : goal.returns-clause-keeps
-returns-clause-keeps c = keeps_grown c.args.sig.now c.args.locals.now c.args.table.now c.mean.new.table c.requires.ready c.mean.ensures.grows.now
+returns-clause-keeps c =
+    let v = c.names_law.ensures.stays c.args.sig.now c.args.locals.now c.args.table.now c.mean.new.table c.requires.ready c.mean.ensures.grows in
+    record { context = λ i. (v.world i).names; names = λ i. (v.world i).locals; ready = v.ready }

@@ -1,5 +1,5 @@
 use Rattle.std.proofs.Common.{◌≡◌, ◌<◌, ◌≤◌, ◌+◌, ◌*◌, length, All}
-use Rattle.eo_sexp.proofs.Sizes.{size, size_of_all}
+use Rattle.eo_sexp.specs.Sizes.{size, size_of_all}
 use Rattle.eo_term.specs.Growth.{trees_in, Grows}
 use Rattle.eo_names.specs.Names.{read_pairs, BindingsBelow}
 use Rattle.eo_names.specs.Worlds.{world}

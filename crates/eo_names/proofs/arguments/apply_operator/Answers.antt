@@ -1,7 +1,7 @@
 use Rattle.std.proofs.Common.{ap, sym, subst}
 use Rattle.eo_term.specs.Tree.{Op}
-use Rattle.eo_names.specs.Gives.{Builds}
-use Rattle.eo_names.proofs.Giving.{builds_interned}
+use Rattle.eo_term.specs.Builds.{Builds}
+use Rattle.eo_term.proofs.Building.{builds_interned}
 use Rattle.eo_names.proofs.UsageLemmas.{to_trees-at}
 use Rattle.eo_names.proofs.arguments.apply_operator.Goals as goal
 

@@ -5,8 +5,8 @@ use Rattle.eo_pattern.specs.Slots.{held}
 use Rattle.eo_term.specs.Terms.{tree_at}
 use Rattle.eo_names.proofs.FoldLemmas.{all_at}
 use Rattle.eo_names.proofs.UsageLemmas.{none_held, assigned, all_held}
-use Rattle.eo_names.specs.Gives.{Builds}
-use Rattle.eo_names.proofs.Giving.{builds_substituted}
+use Rattle.eo_term.specs.Builds.{Builds}
+use Rattle.eo_names.proofs.Giving.{builds_put}
 use Rattle.eo_names.proofs.arguments.put_in.Goals as goal
 
 pub loop-i-init : goal.loop-i-init
@@ -37,4 +37,4 @@ returns-clause-gives c =
     let ts = c.args.table.now.trees in
     let all = all_held ts c.args.args.now c.loop-i.i (omega arith) (held ts c.loop-i.values) c.loop-i.invariant.held in
     subst (Builds c.substitute.new.table c.substitute.result) (ap (λ σ. put σ (tree_at ts c.args.tree)) all)
-    (builds_substituted c.substitute.new.table c.substitute.result _ c.substitute.ensures.live c.substitute.ensures.tree c.substitute.ensures.tall)
+    (builds_put _ ts c.args.tree c.substitute.new.table c.substitute.result c.substitute.ensures.made c.substitute.ensures.tall)

@@ -1,16 +1,16 @@
 use Rattle.std.proofs.Common.{◌≡◌, ℕ, ◌<◌, ◌≤◌, List, length, map, ap, sym, subst, ◌∙◌, arith, [], All}
-use Rattle.eo_base.proofs.Answering.{gives_fault}
+use Rattle.eo_base.proofs.Answering.{gives_fault, ok_always}
 use Rattle.eo_term.specs.Tree.{Tree}
 use Rattle.eo_term.specs.Growth.{trees_in}
 use Rattle.eo_names.specs.Binders.{variable}
 use Rattle.eo_names.specs.Folding.{attribute_at, least}
 use Rattle.eo_names.specs.Gives.{GivesTerm}
 use Rattle.eo_names.specs.Readers.{with_labels}
+use Rattle.eo_names.specs.Scopes.{bound_in}
 use Rattle.eo_names.specs.Worlds.{world, folded_in, bound_list_in, seen_in}
 use Rattle.eo_names.proofs.BinderLemmas.{list_few, list_tall, seen_list, ids_below, ids_trees, length_pairs}
 use Rattle.eo_names.proofs.BindingLemmas.{pairs_grown}
-use Rattle.eo_names.proofs.Giving.{labelled, same_world, tall_told}
-use Rattle.eo_names.proofs.Outcomes.{ok_always}
+use Rattle.eo_names.proofs.Giving.{labelled, tall_told}
 use Rattle.eo_names.proofs.binders.bind.Goals as goal
 
 pub returns-then-len-least_of-clause-gives : goal.returns-then-len-least_of-clause-gives
@@ -47,7 +47,7 @@ returns-clause-gives c =
     let v = world next c.args.sig.now c.args.scope.now in
     let collector = c.args.collector in
     let ps = seen_in c.args.table.now c.args.names.now in
-    let same : v ≡ w = same_world c.args.sig.now c.args.scope.now c.args.table.now next c.requires.ready c.make_variables.ensures.grows in
+    let same : v ≡ w = (c.names_law.ensures.stays c.args.sig.now (bound_in c.args.scope.now) c.args.table.now next c.requires.ready c.make_variables.ensures.grows).world in
     let given = trees_in next c.as_slice.result.now in
     let args : given ≡ map (λ (v : List ℕ × Tree). v.1) (map variable ps) =
     ap (trees_in next) (c.as_slice.ensures ∙ c.in_ok-ids.ensures) ∙ ids_trees next.trees c.make_variables.new.names ∙ ap (map (λ (v : List ℕ × Tree). v.1)) c.in_ok-make_variables.ensures.binds.names in

@@ -2,7 +2,7 @@ use Rattle.std.proofs.Common.{◌≡◌, length, ap, sym, subst, ◌∙◌, arit
 use Rattle.eo_names.specs.Names.{read_pairs, BindingsBelow}
 use Rattle.eo_names.proofs.BinderLemmas.{turned, one_turned, all_turned, one_tall, length-with_term, with_term_below, length_pairs}
 use Rattle.eo_names.proofs.BindingLemmas.{pairs_grown, bindings_more}
-use Rattle.eo_names.proofs.Giving.{taller, tall_fault}
+use Rattle.eo_term.proofs.Building.{taller, tall_fault}
 use Rattle.eo_names.proofs.binders.make_variables.Goals as goal
 
 pub returns-in_err-id-clause-binds : goal.returns-in_err-id-clause-binds

@@ -1,6 +1,6 @@
 use Rattle.std.proofs.Common.{length, subst}
 use Rattle.eo_names.specs.Folding.{applied}
-use Rattle.eo_names.specs.Gives.{Builds}
+use Rattle.eo_term.specs.Builds.{Builds}
 use Rattle.eo_names.proofs.JoinLemmas.{map_grown}
 use Rattle.eo_names.proofs.fold.apply_constant.Goals as goal
 

@@ -2,9 +2,8 @@ use Rattle.std.proofs.Common.{◌<◌, length, map, ap, sym, ◌∙◌, arith, r
 use Rattle.eo_term.specs.Tree.{Tree, App, is_tall}
 use Rattle.eo_term.specs.Terms.{tree_at}
 use Rattle.eo_names.specs.Folding.{applied}
-use Rattle.eo_term.proofs.Heights.{tall_first}
-use Rattle.eo_names.proofs.FoldLemmas.{left_turn, left_tall, all_at}
-use Rattle.eo_names.proofs.Giving.{taller, tall_fault}
+use Rattle.eo_names.proofs.FoldLemmas.{tall_first, left_turn, left_tall, all_at}
+use Rattle.eo_term.proofs.Building.{taller, tall_fault}
 use Rattle.eo_names.proofs.fold.apply_to_all.Goals as goal
 
 pub apply-requires-clause-a : goal.apply-requires-clause-a

@@ -3,7 +3,7 @@ use Rattle.eo_term.specs.Tree.{Tree, is_tall}
 use Rattle.eo_term.specs.Terms.{tree_at}
 use Rattle.eo_names.specs.Folding.{applied_to_two}
 use Rattle.eo_names.proofs.FoldLemmas.{left_turn, left_tall, tall_left, all_at}
-use Rattle.eo_names.proofs.Giving.{taller, tall_fault}
+use Rattle.eo_term.proofs.Building.{taller, tall_fault}
 use Rattle.eo_names.proofs.fold.group_left.Goals as goal
 
 pub apply_to_two-requires-clause-b : goal.apply_to_two-requires-clause-b

@@ -6,7 +6,7 @@ use Rattle.eo_names.specs.Contexts.{is_list}
 use Rattle.eo_names.specs.Names.{read_locals}
 use Rattle.eo_names.specs.Scopes.{bound_in}
 use Rattle.eo_names.proofs.FoldLemmas.{right_step, right_step_tall, list_last_tall, tall_onto, all_at, locals_grown, names_more}
-use Rattle.eo_names.proofs.Giving.{taller, tall_fault}
+use Rattle.eo_term.proofs.Building.{taller, tall_fault}
 use Rattle.eo_names.proofs.fold.group_list.Goals as goal
 
 pub returns-in_err-made-clause-gives : goal.returns-in_err-made-clause-gives

@@ -3,7 +3,7 @@ use Rattle.eo_term.specs.Tree.{Tree, is_tall}
 use Rattle.eo_term.specs.Terms.{tree_at}
 use Rattle.eo_names.specs.Folding.{applied_to_two, right}
 use Rattle.eo_names.proofs.FoldLemmas.{right_step, right_step_tall, tall_right, all_at}
-use Rattle.eo_names.proofs.Giving.{taller, tall_fault}
+use Rattle.eo_term.proofs.Building.{taller, tall_fault}
 use Rattle.eo_names.proofs.fold.group_right.Goals as goal
 
 pub returns-in_err-made-clause-gives : goal.returns-in_err-made-clause-gives

@@ -5,9 +5,9 @@ use Rattle.eo_term.specs.Terms.{tree_at}
 use Rattle.eo_names.specs.Gives.{GivesTree}
 use Rattle.eo_names.specs.Grouped.{if_low}
 use Rattle.eo_names.specs.Turns.{after, TurnBelow}
+use Rattle.eo_names.specs.Scopes.{bound_in}
 use Rattle.eo_names.specs.Worlds.{world, turns_in, turned_in}
 use Rattle.eo_names.proofs.FoldSteps.{low_term}
-use Rattle.eo_names.proofs.Giving.{same_world}
 use Rattle.eo_names.proofs.folding.+folds.Goals as goal
 
 pub fold_within-returns-in_err-turn-clause-gives : goal.fold_within-returns-in_err-turn-clause-gives
@@ -27,7 +27,7 @@ pub fold_within-returns-clause-gives : goal.fold_within-returns-clause-gives
 fold_within-returns-clause-gives t c =
     let w = world c.args.table.now c.args.sig.now c.args.scope.now in
     let next = c.turn_of.new.table in
-    let same = same_world c.args.sig.now c.args.scope.now c.args.table.now next c.requires.ready c.turn_of.ensures.grows in
+    let same = (c.names_law.ensures.stays c.args.sig.now (bound_in c.args.scope.now) c.args.table.now next c.requires.ready c.turn_of.ensures.grows).world in
     let whole : turns_in w (suc c.args.turns) c.args.k (trees_in c.args.table.now c.args.args.now) ≡ turns_in (world next c.args.sig.now c.args.scope.now) c.args.turns c.in-Joined.by (trees_in next c.as_slice.result.now) =
     c.in_ok-turn.ensures.gives.is c.args.turns ∙ ap (after (turns_in w c.args.turns) next.trees) c.in-Joined.is
     ∙ (λ i. turns_in (sym same i) c.args.turns c.in-Joined.by (trees_in next (sym c.as_slice.ensures i))) in

@@ -7,9 +7,10 @@ use Rattle.eo_names.specs.Contexts.{is_list}
 use Rattle.eo_names.specs.Folding.{least, attribute_at, by_attribute}
 use Rattle.eo_names.specs.Grouped.{grouped, joined_items}
 use Rattle.eo_names.specs.Turns.{is_tall_turn}
+use Rattle.eo_names.specs.Scopes.{bound_in}
 use Rattle.eo_names.specs.Worlds.{world, turns_in}
 use Rattle.eo_names.proofs.FoldSteps.{too_few, not_too_few, turn_tall}
-use Rattle.eo_names.proofs.Giving.{tall_told, turn_fault, same_world, still_ready}
+use Rattle.eo_names.proofs.Giving.{tall_told, turn_fault}
 use Rattle.eo_names.proofs.JoinLemmas.{map_grown}
 use Rattle.eo_names.proofs.folding.turn_of.Goals as goal
 
@@ -22,7 +23,7 @@ returns-then-args-least_count-clause-gives c = λ turns.
 
 pub turn_by-requires-clause-below : goal.turn_by-requires-clause-below
 turn_by-requires-clause-below c =
-    c.attribute_of-attribute.ensures.below _ (still_ready c.args.sig.now c.args.scope.now c.args.table.now c.constant.new.self c.requires.ready c.constant.ensures.grows).below
+    c.attribute_of-attribute.ensures.below _ (c.names_law.ensures.stays c.args.sig.now (bound_in c.args.scope.now) c.args.table.now c.constant.new.self c.requires.ready c.constant.ensures.grows).ready.below
 
 pub returns-in_err-turn_by-clause-gives : goal.returns-in_err-turn_by-clause-gives
 returns-in_err-turn_by-clause-gives c =
@@ -31,7 +32,7 @@ returns-in_err-turn_by-clause-gives c =
     let k = c.args.k in
     let w = world old c.args.sig.now c.args.scope.now in
     let us = trees_in old c.args.args.now in
-    let same = sym (same_world c.args.sig.now c.args.scope.now old now c.requires.ready c.constant.ensures.grows) in
+    let same = sym (c.names_law.ensures.stays c.args.sig.now (bound_in c.args.scope.now) old now c.requires.ready c.constant.ensures.grows).world in
     let asked : c.least_count.result ≡ least (attribute_at w.names.signature k) = c.least_count.ensures.value old.trees ∙ ap least (c.attribute_of-attribute.ensures.value old.trees) in
     let attribute : attribute_at w.names.signature k ≡ read_attribute now.trees c.attribute_of-attribute.result = sym (c.attribute_of-attribute.ensures.value now.trees ∙ (λ i. attribute_at (sym same i).names.signature k)) in
     let args = sym (map_grown (length old.trees) old.trees now.trees c.constant.ensures.grows.now.tree c.args.args.now c.requires.args) in
@@ -49,7 +50,7 @@ returns-clause-gives c =
     let k = c.args.k in
     let w = world old c.args.sig.now c.args.scope.now in
     let us = trees_in old c.args.args.now in
-    let same = sym (same_world c.args.sig.now c.args.scope.now old now c.requires.ready c.constant.ensures.grows) in
+    let same = sym (c.names_law.ensures.stays c.args.sig.now (bound_in c.args.scope.now) old now c.requires.ready c.constant.ensures.grows).world in
     let asked : c.least_count.result ≡ least (attribute_at w.names.signature k) = c.least_count.ensures.value old.trees ∙ ap least (c.attribute_of-attribute.ensures.value old.trees) in
     let attribute : attribute_at w.names.signature k ≡ read_attribute now.trees c.attribute_of-attribute.result = sym (c.attribute_of-attribute.ensures.value now.trees ∙ (λ i. attribute_at (sym same i).names.signature k)) in
     let args = sym (map_grown (length old.trees) old.trees now.trees c.constant.ensures.grows.now.tree c.args.args.now c.requires.args) in

@@ -3,8 +3,9 @@ use Rattle.eo_term.specs.Tree.{Tree, is_tall}
 use Rattle.eo_term.specs.Terms.{tree_at}
 use Rattle.eo_names.specs.Folding.{applied_to_two}
 use Rattle.eo_names.proofs.FoldLemmas.{all_at}
-use Rattle.eo_names.proofs.JoinLemmas.{push_grown, push_live, one_more, map_turn, map_tall}
-use Rattle.eo_names.proofs.Giving.{taller, tall_fault}
+use Rattle.eo_base.proofs.Elements.{push_below}
+use Rattle.eo_names.proofs.JoinLemmas.{push_grown, one_more, map_turn, map_tall}
+use Rattle.eo_term.proofs.Building.{taller, tall_fault}
 use Rattle.eo_names.proofs.joins.add_pairs.Goals as goal
 
 pub returns-in_err-pair-clause-adds : goal.returns-in_err-pair-clause-adds
@@ -33,7 +34,7 @@ loop-b-preserved c =
     let rest : List Tree = map (applied_to_two f a) (map (tree_at ts) (drop (c.loop-b.b-index + 1) c.args.others.now)) in
     let pushed : c.push.new.self ≡ c.loop-b.made ++ c.in_ok-pair.pair ∷ [] = c.in_ok-push.ensures.pushed in
     record {
-      live = subst (All (λ i. i < length next)) (sym pushed) (push_live (length now) (length next) c.in_ok-pair.pair c.loop-b.made g.more_trees c.in_ok-pair.ensures.gives.live v.live);
+      live = subst (All (λ i. i < length next)) (sym pushed) (push_below (length now) (length next) c.in_ok-pair.pair c.loop-b.made g.more_trees c.in_ok-pair.ensures.gives.live v.live);
       grows = search rules;
       trees = (λ k. map (tree_at next) (pushed k) ++ rest)
           ∙ (λ k. push_grown (length now) now next g.tree c.loop-b.made c.in_ok-pair.pair t v.live own k ++ rest)

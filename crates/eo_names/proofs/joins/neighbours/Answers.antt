@@ -3,8 +3,9 @@ use Rattle.eo_term.specs.Tree.{Tree, is_tall}
 use Rattle.eo_term.specs.Terms.{tree_at}
 use Rattle.eo_names.specs.Folding.{applied_to_two, links}
 use Rattle.eo_names.proofs.FoldLemmas.{all_at}
-use Rattle.eo_names.proofs.JoinLemmas.{push_grown, push_live, one_more, one_tall, all_made, link_at, no_link}
-use Rattle.eo_names.proofs.Giving.{taller, tall_fault}
+use Rattle.eo_base.proofs.Elements.{push_below}
+use Rattle.eo_names.proofs.JoinLemmas.{push_grown, one_more, one_tall, all_made, link_at, no_link}
+use Rattle.eo_term.proofs.Building.{taller, tall_fault}
 use Rattle.eo_names.proofs.joins.neighbours.Goals as goal
 
 pub returns-in_err-link-clause-gives : goal.returns-in_err-link-clause-gives
@@ -45,7 +46,7 @@ loop-i-preserved c =
     let pushed : c.push.new.self ≡ c.loop-i.made ++ c.in_ok-link.link ∷ [] = c.in_ok-push.ensures.pushed in
     let back : i + 1 - 1 ≡ i = omega arith in
     record {
-      live = subst (All (λ j. j < length next)) (sym pushed) (push_live (length now) (length next) c.in_ok-link.link c.loop-i.made g.more_trees c.in_ok-link.ensures.gives.live v.live);
+      live = subst (All (λ j. j < length next)) (sym pushed) (push_below (length now) (length next) c.in_ok-link.link c.loop-i.made g.more_trees c.in_ok-link.ensures.gives.live v.live);
       grows = search rules;
       trees = (λ k. map (tree_at next) (pushed k) ++ links f (drop (back k) (map (tree_at ts) args)))
           ∙ (λ k. push_grown (length now) now next g.tree c.loop-i.made c.in_ok-link.link t v.live own k ++ rest)

@@ -6,7 +6,7 @@ use Rattle.eo_term.specs.Terms.{tree_at}
 use Rattle.eo_names.specs.Folding.{applied_to_two, all_pairs}
 use Rattle.eo_names.proofs.FoldLemmas.{all_at}
 use Rattle.eo_names.proofs.JoinLemmas.{pairs_grown, pairs_at, pairs_tall}
-use Rattle.eo_names.proofs.Giving.{taller, tall_fault}
+use Rattle.eo_term.proofs.Building.{taller, tall_fault}
 use Rattle.eo_names.proofs.joins.pairs.Goals as goal
 
 pub returns-in_err-add_pairs-clause-gives : goal.returns-in_err-add_pairs-clause-gives

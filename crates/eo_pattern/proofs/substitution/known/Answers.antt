@@ -6,7 +6,7 @@ use Rattle.eo_pattern.proofs.substitution.known.Goals as goal
 
 pub returns-then-is_apart-clause-tree : goal.returns-then-is_apart-clause-tree
 returns-then-is_apart-clause-tree c =
-    sym (put_missed c.args.table.now.trees c.args.subst.now c.args.assigned.now c.parameters.result (tree_at c.args.table.now.trees c.args.id) c.requires.assigned c.parameters.ensures (c.is_apart.ensures c.if-is_apart.true))
+    sym (put_missed c.args.table.now.trees c.args.subst.now c.args.assigned.now c.parameters.result (tree_at c.args.table.now.trees c.args.id) c.requires.assigned c.parameters.ensures c.is_apart.ensures.small (c.is_apart.ensures.apart.0 c.if-is_apart.true))
 
 pub returns : goal.returns
 returns c =

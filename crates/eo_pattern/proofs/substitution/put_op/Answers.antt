@@ -15,19 +15,19 @@ returns-in_default-clause-step c =
     let us = c.args.table.now.trees in
     let σ : Assignment = held us c.args.subst.now in
     let ts : Trees = arguments_of (tree_at us c.args.id) in
-    let within : c.loop-i.i < count_of (put_all σ ts) = omega (arith, count_put σ ts, c.requires.count) in
+    let within : c.loop-i.i < count_of (put_all σ ts) = omega (arith, count_put σ ts, c.requires.operator.count) in
     record {
       older = c.arg-arg.ensures.older;
       untold = search rules;
       tall = λ h.
-          ap (λ u. is_tall (put σ u)) (sym c.requires.tree)
-          ∙ tall_argument c.args.code (put_all σ ts) c.loop-i.i within (ap is_tall (argument_put σ ts c.loop-i.i (omega (arith, c.requires.count)) ∙ ap (put σ) (sym c.arg-arg.ensures.tree)) ∙ h);
+          ap (λ u. is_tall (put σ u)) (sym c.requires.operator.tree)
+          ∙ tall_argument c.args.code (put_all σ ts) c.loop-i.i within (ap is_tall (argument_put σ ts c.loop-i.i (omega (arith, c.requires.operator.count)) ∙ ap (put σ) (sym c.arg-arg.ensures.tree)) ∙ h);
     }
 
 pub intern_op-requires-clause-args : goal.intern_op-requires-clause-args
 intern_op-requires-clause-args c = λ k d l.
-    let m : k < c.args.count = omega (arith, l, length-take-le c.args.count c.loop-i.args (omega (arith, c.loop-i.invariant.long, c.requires.small))) in
-    subst (λ v. v < length c.args.table.now.trees) (get_or_default c.loop-i.args k 0 d (omega (arith, m, c.loop-i.invariant.long, c.requires.small)) ∙ sym (get_or-take c.args.count c.loop-i.args k d m)) (c.loop-i.invariant.done k (omega arith)).0
+    let m : k < c.args.count = omega (arith, l, length-take-le c.args.count c.loop-i.args (omega (arith, c.loop-i.invariant.long, c.requires.operator.small))) in
+    subst (λ v. v < length c.args.table.now.trees) (get_or_default c.loop-i.args k 0 d (omega (arith, m, c.loop-i.invariant.long, c.requires.operator.small)) ∙ sym (get_or-take c.args.count c.loop-i.args k d m)) (c.loop-i.invariant.done k (omega arith)).0
 
 pub returns-in_err-made-clause-tall : goal.returns-in_err-made-clause-tall
 returns-in_err-made-clause-tall c =
@@ -36,8 +36,8 @@ returns-in_err-made-clause-tall c =
     let σ : Assignment = held us c.args.subst.now in
     let ts : Trees = arguments_of (tree_at us c.args.id) in
     let same : trees_at us (take c.args.count c.loop-i.args) ≡ put_all σ ts =
-    args_put σ us c.loop-i.args ts c.args.count c.requires.count (omega (arith, c.loop-i.invariant.long, c.requires.small)) (λ k l. (c.loop-i.invariant.done k (omega arith)).1) in
-    rw (e.1, e.2) (λ h. ap is_tall (sym (ap (Op c.args.code) same ∙ ap (put σ) c.requires.tree)) ∙ c.in_err-made.ensures.tall.0 h)
+    args_put σ us c.loop-i.args ts c.args.count c.requires.operator.count (omega (arith, c.loop-i.invariant.long, c.requires.operator.small)) (λ k l. (c.loop-i.invariant.done k (omega arith)).1) in
+    rw (e.1, e.2) (λ h. ap is_tall (sym (ap (Op c.args.code) same ∙ ap (put σ) c.requires.operator.tree)) ∙ c.in_err-made.ensures.tall.0 h)
 
 not_true : (b : Bool) → (b ≡ true → ⊥) → b ≡ false
 not_true true h = absurd (h refl)
@@ -49,8 +49,8 @@ returns-clause-step c =
     let σ : Assignment = held us c.args.subst.now in
     let ts : Trees = arguments_of (tree_at us c.args.id) in
     let same : trees_at us (take c.args.count c.loop-i.args) ≡ put_all σ ts =
-    args_put σ us c.loop-i.args ts c.args.count c.requires.count (omega (arith, c.loop-i.invariant.long, c.requires.small)) (λ k l. (c.loop-i.invariant.done k (omega arith)).1) in
-    let whole : Op c.args.code (trees_at us (take c.args.count c.loop-i.args)) ≡ put σ (tree_at us c.args.id) = ap (Op c.args.code) same ∙ ap (put σ) c.requires.tree in
+    args_put σ us c.loop-i.args ts c.args.count c.requires.operator.count (omega (arith, c.loop-i.invariant.long, c.requires.operator.small)) (λ k l. (c.loop-i.invariant.done k (omega arith)).1) in
+    let whole : Op c.args.code (trees_at us (take c.args.count c.loop-i.args)) ≡ put σ (tree_at us c.args.id) = ap (Op c.args.code) same ∙ ap (put σ) c.requires.operator.tree in
     record {
       live = c.in_ok-made.ensures.interned.live;
       tree = c.in_ok-made.ensures.interned.tree ∙ whole;

@@ -24,21 +24,13 @@ returns-in_err-made-clause-tall c =
     let at : IsBegun _ _ _ c.top.result = subst (IsBegun _ _ _) (sym c.top.ensures) (begun_top _ _ _ _ i.begun) in
     rw (e.1, e.2) (λ h. step_tall c.args.subst.now c.args.table.now c.loop-made.table c.loop-made.table c.args.walk.now.top c.top.result c.requires.below i.grows.now at.leads at.live (c.in_err-made.ensures.tall h))
 
-pub returns-then-not-branch-clause-tree : goal.returns-then-not-branch-clause-tree
-returns-then-not-branch-clause-tree c =
+pub returns-then-not-branch-clause-made : goal.returns-then-not-branch-clause-made
+returns-then-not-branch-clause-made c =
     let i = c.loop-made.invariant in
     let at : IsBegun _ _ _ c.top.result = subst (IsBegun _ _ _) (sym c.top.ensures) (begun_top _ _ _ _ i.begun) in
     let last : c.loop-made.walk.waiting ≡ [] = search rules in
     let made = subst (IsStep _ _ _ _ _) c.in-Made.is c.in_ok-made.ensures.step in
-    (step_made c.args.subst.now c.args.table.now c.loop-made.table c.put_node.new.table c.args.walk.now.top c.top.result c.requires.below i.grows.now at.leads at.live c.in-Made.made (c.top.ensures ∙ begun_last _ _ _ _ last i.begun) made).tree
-
-pub returns-then-not-branch-clause-low : goal.returns-then-not-branch-clause-low
-returns-then-not-branch-clause-low c =
-    let i = c.loop-made.invariant in
-    let at : IsBegun _ _ _ c.top.result = subst (IsBegun _ _ _) (sym c.top.ensures) (begun_top _ _ _ _ i.begun) in
-    let last : c.loop-made.walk.waiting ≡ [] = search rules in
-    let made = subst (IsStep _ _ _ _ _) c.in-Made.is c.in_ok-made.ensures.step in
-    (step_made c.args.subst.now c.args.table.now c.loop-made.table c.put_node.new.table c.args.walk.now.top c.top.result c.requires.below i.grows.now at.leads at.live c.in-Made.made (c.top.ensures ∙ begun_last _ _ _ _ last i.begun) made).low
+    step_made c.args.subst.now c.args.table.now c.loop-made.table c.put_node.new.table c.args.walk.now.top c.top.result c.requires.below i.grows.now at.leads at.live c.in-Made.made (c.top.ensures ∙ begun_last _ _ _ _ last i.begun) made
 
 pub loop-made-smaller-else-not-branch : goal.loop-made-smaller-else-not-branch
 loop-made-smaller-else-not-branch c =

@@ -1,5 +1,5 @@
 use Rattle.std.specs.Prelude.{Result}
-use Rattle.eo_sexp.specs.declared.Spot.{Spot}
+use Rattle.eo_sexp.specs.Spot.{Spot}
 use Rattle.eo_run.specs.declared.reading.Stop.{Stop}
 use Rattle.eo_run.specs.Reading.{at_end, ChecksEnd}
 use Rattle.eo_run.proofs.Exits.{at_exit, refused-end}

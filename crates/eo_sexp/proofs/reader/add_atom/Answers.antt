@@ -5,6 +5,7 @@ use Rattle.eo_sexp.specs.Sexp.{Sexp, Atom}
 use Rattle.eo_sexp.specs.Nodes.{token_text}
 use Rattle.eo_sexp.specs.Built.{Built, with_child}
 use Rattle.eo_sexp.specs.Reader.{AddsChild}
+use Rattle.eo_sexp.specs.Token.{kind_meant}
 use Rattle.eo_sexp.proofs.OpenFrames.{adds-whole, adds-inner}
 use Rattle.eo_sexp.proofs.reader.add_atom.Goals as goal
 
@@ -14,6 +15,6 @@ adds b s (suc n) e = subst (AddsChild limits b s (with_child b s)) (sym (eqb-suc
 
 pub returns-clause-added : goal.returns-clause-added
 returns-clause-added c =
-    let s : Sexp = Atom c.args.kind (token_text c.args.buffer.now.bytes c.args.delimited c.args.from c.args.to) (record { from = c.args.from; to = c.args.to }) in
+    let s : Sexp = Atom (kind_meant c.args.kind) (token_text c.args.buffer.now.bytes c.args.delimited c.args.from c.args.to) (record { from = c.args.from; to = c.args.to }) in
     subst (λ b. AddsChild limits c.args.buffer.now s b (nat_eq c.depth.result 0)) (sym c.in_ok-add_atom.ensures)
     (adds c.args.buffer.now s c.depth.result (c.depth.ensures ∙ ap (λ (b : Built). length b.open_lists) c.in_ok-add_atom.ensures))

@@ -1,18 +1,21 @@
-use Rattle.std.proofs.Common.{rules, ◌≡◌, ℕ, Some, nat_eq, if◌then◌else◌, sym, ap, ◌∙◌, subst, arith}
+use Rattle.std.proofs.Common.{rules, ◌≡◌, ℕ, ◌<◌, ◌++◌, ◌∷◌, [], All, length, Some, nat_eq, if◌then◌else◌, sym, ap, ◌∙◌, subst, arith}
+use Rattle.std.proofs.lemmas.List.Elements.{All-push}
+use Rattle.eo_base.proofs.Elements.{all_first, all_last}
 use Rattle.eo_term.specs.Memo.{told, TellsOnly}
 use Rattle.eo_term.specs.Walk.{Begins, Finishes}
-use Rattle.eo_term.proofs.Walks.{IsBegun, begun_top, begun_part, begun_rest, left_rest}
 use Rattle.eo_term.specs.Growth.{tree_in}
 use Rattle.eo_type.specs.Types.{settle}
 use Rattle.eo_type.specs.Outcomes.{IsTyped}
 use Rattle.eo_type.specs.Steps.{IsSettled, IsNext, IsStep}
 use Rattle.eo_type.proofs.Walk.{gives_stop}
-use Rattle.eo_type.proofs.SettleSteps.{settles_grown, step_stops, step_part, step_kept}
+use Rattle.eo_type.proofs.SettleSteps.{StopsAll, settles_grown, step_stops, step_part, step_kept}
 use Rattle.eo_type.proofs.settling.settle_walk.Goals as goal
 
 pub settle_node-requires-clause-live : goal.settle_node-requires-clause-live
 settle_node-requires-clause-live c =
-    omega (arith, (begun_top _ _ _ _ c.loop-made.invariant.begun).live, c.top.ensures, c.loop-made.invariant.grows.now.more_trees)
+    let i = c.loop-made.invariant in
+    let walks = c.walk_law.ensures (length c.args.table.now.trees) c.args.walk.now.top in
+    omega (arith, walks.live c.loop-made.walk i.begun, c.top.ensures, i.grows.now.more_trees)
 
 pub settle_node-requires-clause-memo : goal.settle_node-requires-clause-memo
 settle_node-requires-clause-memo c = subst (TellsOnly (IsSettled c.loop-made.table)) (sym c.memo.ensures) c.loop-made.invariant.memo
@@ -20,38 +23,47 @@ settle_node-requires-clause-memo c = subst (TellsOnly (IsSettled c.loop-made.tab
 pub returns-in_err-made-clause-gives : goal.returns-in_err-made-clause-gives
 returns-in_err-made-clause-gives c =
     let i = c.loop-made.invariant in
-    let at : IsBegun _ _ _ c.top.result = subst (IsBegun _ _ _) (sym c.top.ensures) (begun_top _ _ _ _ i.begun) in
-    gives_stop _ _ _ _ c.from_residual.ensures.1 (step_stops c.args.table.now c.loop-made.table c.loop-made.table c.args.walk.now.top c.top.result i.grows.now at.leads at.live c.in_err-made.field-0.0 c.in_err-made.ensures.gives)
+    let walks = c.walk_law.ensures (length c.args.table.now.trees) c.args.walk.now.top in
+    let leads : StopsAll c.args.table.now c.args.walk.now.top c.top.result = subst (StopsAll c.args.table.now c.args.walk.now.top) (sym c.top.ensures) (all_last (StopsAll c.args.table.now c.args.walk.now.top) c.loop-made.walk.waiting c.loop-made.walk.top i.leads) in
+    let live : c.top.result < length c.args.table.now.trees = subst (λ k. k < length c.args.table.now.trees) (sym c.top.ensures) (walks.live c.loop-made.walk i.begun) in
+    gives_stop _ _ _ _ c.from_residual.ensures.1 (step_stops c.args.table.now c.loop-made.table c.loop-made.table c.args.walk.now.top c.top.result i.grows.now leads live c.in_err-made.field-0.0 c.in_err-made.ensures.gives)
 
 pub loop-made-smaller-else-not-branch : goal.loop-made-smaller-else-not-branch
 loop-made-smaller-else-not-branch c =
     let next : Finishes c.loop-made.walk c.in-Made.made c.finish.new.self = search rules in
-    left_rest _ _ _ c.loop-made.walk c.finish.new.self c.in-Made.made c.loop-made.invariant.begun next
+    ((c.walk_law.ensures (length c.args.table.now.trees) c.args.walk.now.top).rest c.loop-made.walk c.finish.new.self c.in-Made.made c.loop-made.invariant.begun next).less
 
 pub loop-made-preserved-else-not-branch : goal.loop-made-preserved-else-not-branch
 loop-made-preserved-else-not-branch c =
     let i = c.loop-made.invariant in
-    let at : IsBegun _ _ _ c.top.result = subst (IsBegun _ _ _) (sym c.top.ensures) (begun_top _ _ _ _ i.begun) in
+    let walks = c.walk_law.ensures (length c.args.table.now.trees) c.args.walk.now.top in
+    let leads : StopsAll c.args.table.now c.args.walk.now.top c.top.result = subst (StopsAll c.args.table.now c.args.walk.now.top) (sym c.top.ensures) (all_last (StopsAll c.args.table.now c.args.walk.now.top) c.loop-made.walk.waiting c.loop-made.walk.top i.leads) in
+    let live : c.top.result < length c.args.table.now.trees = subst (λ k. k < length c.args.table.now.trees) (sym c.top.ensures) (walks.live c.loop-made.walk i.begun) in
     let next : Finishes c.loop-made.walk c.in-Made.made c.finish.new.self = search rules in
     let made : IsTyped c.settle_node.new.table (settle (tree_in c.loop-made.table c.top.result)) c.in-Made.made = subst (IsStep c.loop-made.table c.memo.result.now c.top.result c.settle_node.new.table) c.in-Made.is c.in_ok-made.ensures.gives in
     let now = c.finish.new.self.memo in
     let before = c.loop-made.walk.memo in
     let kept = subst (λ (k : ℕ). (j : ℕ) → told now j ≡ (if nat_eq k j then Some c.in-Made.made else told before j)) (sym c.top.ensures) next.memo in
     record {
-      begun = begun_rest _ _ _ c.loop-made.walk c.finish.new.self c.in-Made.made i.begun next;
-      memo = step_kept c.args.table.now c.loop-made.table c.settle_node.new.table c.args.walk.now.top c.top.result i.grows.now at.leads at.live c.in-Made.made before now c.settle_node.ensures.grows.now kept i.memo made;
+      begun = (walks.rest c.loop-made.walk c.finish.new.self c.in-Made.made i.begun next).goes;
+      leads = subst (All (StopsAll c.args.table.now c.args.walk.now.top)) next.waiting (all_first (StopsAll c.args.table.now c.args.walk.now.top) c.loop-made.walk.waiting (c.loop-made.walk.top ∷ []) i.leads);
+      memo = step_kept c.args.table.now c.loop-made.table c.settle_node.new.table c.args.walk.now.top c.top.result i.grows.now leads live c.in-Made.made before now c.settle_node.ensures.grows.now kept i.memo made;
       grows = search rules;
     }
 
 pub loop-made-preserved : goal.loop-made-preserved
 loop-made-preserved c =
     let i = c.loop-made.invariant in
-    let at : IsBegun _ _ _ c.top.result = subst (IsBegun _ _ _) (sym c.top.ensures) (begun_top _ _ _ _ i.begun) in
+    let walks = c.walk_law.ensures (length c.args.table.now.trees) c.args.walk.now.top in
+    let leads : StopsAll c.args.table.now c.args.walk.now.top c.top.result = subst (StopsAll c.args.table.now c.args.walk.now.top) (sym c.top.ensures) (all_last (StopsAll c.args.table.now c.args.walk.now.top) c.loop-made.walk.waiting c.loop-made.walk.top i.leads) in
+    let live : c.top.result < length c.args.table.now.trees = subst (λ k. k < length c.args.table.now.trees) (sym c.top.ensures) (walks.live c.loop-made.walk i.begun) in
     let begins : Begins c.loop-made.walk c.in-Part.part c.begin.new.self = search rules in
     let next : IsNext c.loop-made.table c.memo.result.now c.top.result c.in-Part.part = subst (IsStep _ _ _ _) c.in-Part.is c.in_ok-made.ensures.gives in
     let new = c.settle_node.new.table in
     record {
-      begun = begun_part _ _ _ c.loop-made.walk c.begin.new.self c.in-Part.part i.begun begins (omega (arith, next.older, c.top.ensures)) (ap (λ m. told m c.in-Part.part) (sym c.memo.ensures) ∙ next.untold) (step_part c.args.table.now c.loop-made.table new c.args.walk.now.top c.top.result i.grows.now at.leads at.live c.memo.result.now c.in-Part.part next);
+      begun = (walks.part c.loop-made.walk c.begin.new.self c.in-Part.part i.begun begins (omega (arith, next.older, c.top.ensures)) (ap (λ m. told m c.in-Part.part) (sym c.memo.ensures) ∙ next.untold)).goes;
+      leads = subst (All (StopsAll c.args.table.now c.args.walk.now.top)) (λ k. sym begins.waiting k ++ sym begins.top k ∷ [])
+          (All-push (StopsAll c.args.table.now c.args.walk.now.top) (c.loop-made.walk.waiting ++ c.loop-made.walk.top ∷ []) c.in-Part.part i.leads (step_part c.args.table.now c.loop-made.table new c.args.walk.now.top c.top.result i.grows.now leads live c.memo.result.now c.in-Part.part next));
       memo = subst (TellsOnly (IsSettled new)) (sym begins.memo) (settles_grown c.loop-made.table new c.loop-made.walk.memo c.settle_node.ensures.grows.now i.memo);
       grows = search rules;
     }

@@ -8,7 +8,6 @@ use Rattle.eo_elab.specs.Declarations.{with_parameter}
 use Rattle.eo_elab.specs.Declaring.{read_bound}
 use Rattle.eo_names.specs.Names.{local, AreBelow}
 use Rattle.eo_names.specs.declared.locals.LocalName.{LocalName}
-use Rattle.eo_elab.proofs.Giving.{still_ready_of}
 use Rattle.eo_elab.specs.Worlds.{context_in}
 use Rattle.eo_elab.proofs.BoundLemmas.{bind-known, bind-refused, bind-taken, bound-names, bound-grown, bound-more, parameters-more, reads_fault}
 use Rattle.eo_elab.proofs.parameters.Bound.read.Goals as goal
@@ -34,6 +33,7 @@ returns-clause-reads c =
     let b = c.args.self.now in
     let new = bound-names old.trees p.name b.params ∙ sym c.has.ensures ∙ c.if-has.false in
     let grows = c.in_ok-id.ensures.grows.since old c.in_ok-ty.ensures.grows.now in
+    let stays = c.names_law.ensures.stays c.args.sig.now b.locals old last c.requires.bound.ready (search rules) in
     let x : Param = record { name = p.name; ty = c.in_ok-ty.ty; implicit = p.implicit; list = p.list } in
     let t = tree_in c.term.new.table c.in_ok-ty.ty in
     let type = c.in_ok-id.ensures.grows.now.tree c.in_ok-ty.ty c.in_ok-ty.ensures.gives.live in
@@ -41,8 +41,8 @@ returns-clause-reads c =
     let read : read_bound last.trees c.push.new.self ≡ with_parameter (read_bound old.trees b) (record { name = p.name; type = t; implicit = p.implicit; list = p.list }) =
     ap (read_bound last.trees) whole
     ∙ bound-more b last.trees x c.in_ok-id.id t type (c.in_ok-id.ensures.makes.tree ∙ ap (λ (ps : List Param). Par (length ps)) c.as_slice.ensures)
-    ∙ ap (λ z. with_parameter z (record { name = p.name; type = t; implicit = p.implicit; list = p.list })) (bound-grown b old last c.requires.bound.params c.requires.bound.ready.names grows) in
-    let still = still_ready_of c.args.sig.now b.locals old last c.requires.bound.ready (search rules) in
+    ∙ ap (λ z. with_parameter z (record { name = p.name; type = t; implicit = p.implicit; list = p.list })) (bound-grown b old last c.requires.bound.params (λ i. (stays.world i).locals) grows) in
+    let still = stays.ready in
     let live : x.ty < length last.trees = omega (arith, c.in_ok-ty.ensures.gives.live, c.in_ok-id.ensures.grows.now.more_trees) in
     record {
       live = record {

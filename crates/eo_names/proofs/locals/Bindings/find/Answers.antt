@@ -9,10 +9,10 @@ use Rattle.eo_names.proofs.locals.Bindings.find.Goals as goal
 pub returns-clause-value : goal.returns-clause-value
 returns-clause-value c = λ ts.
     let name = c.args.name.now in
-    ap (option_map (tree_at ts)) (c.copied.ensures ∙ c.get.ensures.value) ∙ lookup_local (λ w. w.items) name ts c.self.inside.names.entries ∙ ap (λ bs. local_named (read_bindings ts bs) name) c.self.view_is
+    ap (option_map (tree_at ts)) (c.copied.ensures ∙ c.get.ensures.value) ∙ lookup_local name ts c.self.inside.names.entries ∙ ap (λ bs. local_named (read_bindings ts bs) name) c.self.view_is
 
 pub returns-clause-live : goal.returns-clause-live
 returns-clause-live c = λ n h.
     let name = c.args.name.now in
     let P : Option ℕ → Type 0 = λ o. IfSome o (λ i. i < n) in
-    subst P (sym (c.copied.ensures ∙ c.get.ensures.value)) (lookup_live (λ w. w.items) name n c.self.inside.names.entries (subst (BindingsBelow n) (sym c.self.view_is) h))
+    subst P (sym (c.copied.ensures ∙ c.get.ensures.value)) (lookup_live name n c.self.inside.names.entries (subst (BindingsBelow n) (sym c.self.view_is) h))

@@ -8,4 +8,4 @@ pub loop-id-init : goal.loop-id-init
 loop-id-init c =
     let es = c.self.inside.names.entries in
     let all : c.into_iter-id-iterator.result ≡ values_of es = cc in
-    (λ k. c.new-ids.ensures k ++ all k) ∙ values_bound (λ w. w.items) es ∙ ap (map (λ (b : Binding). b.1)) c.self.view_is
+    (λ k. c.new-ids.ensures k ++ all k) ∙ values_bound es ∙ ap (map (λ (b : Binding). b.1)) c.self.view_is

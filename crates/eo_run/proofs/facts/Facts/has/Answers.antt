@@ -6,4 +6,4 @@ use Rattle.eo_run.proofs.facts.Facts.has.Goals as goal
 pub returns : goal.returns
 returns c =
     let name = c.args.name.now in
-    c.contains_key.ensures ∙ lookup_named (λ w. w.items) name c.self.inside.formulas.entries ∙ ap (λ fs. is_named fs name) c.self.view_is
+    c.contains_key.ensures ∙ lookup_named name c.self.inside.formulas.entries ∙ ap (λ fs. is_named fs name) c.self.view_is

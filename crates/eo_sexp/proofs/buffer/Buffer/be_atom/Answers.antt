@@ -5,6 +5,7 @@ use Rattle.eo_sexp.specs.declared.lent.Node.TheVariants as node
 use Rattle.eo_sexp.specs.Nodes.{token_text, HasText}
 use Rattle.eo_sexp.specs.Built.{Built, with_child}
 use Rattle.eo_sexp.specs.Buffers.{open_lists, outside, built, AreOpen}
+use Rattle.eo_sexp.specs.Token.{kind_meant}
 use Rattle.eo_sexp.proofs.Building.{alone-open, alone-built}
 use Rattle.eo_sexp.proofs.buffer.Buffer.be_atom.Goals as goal
 
@@ -32,4 +33,4 @@ returns c =
     let all : c.push_reserved.new.self.items ≡ n ∷ [] = c.push_reserved.ensures.items ∙ ap (λ (ns : List Node). ns ++ n ∷ []) c.clear.ensures.items in
     ap (λ (ns : List Node). built bytes ns os) all
     ∙ alone-built bytes c.self.inside.nodes.items os c.args.kind c.args.delimited c.args.from c.args.to none nothing
-    ∙ ap (λ (b : Built). with_child b (Atom c.args.kind (token_text b.bytes c.args.delimited c.args.from c.args.to) (record { from = c.args.from; to = c.args.to }))) c.self.view_is
+    ∙ ap (λ (b : Built). with_child b (Atom (kind_meant c.args.kind) (token_text b.bytes c.args.delimited c.args.from c.args.to) (record { from = c.args.from; to = c.args.to }))) c.self.view_is

@@ -1,4 +1,4 @@
-use Rattle.std.proofs.Common.{◌∙◌, ap, sym, subst, List, ℕ, ◌++◌, reverse, take}
+use Rattle.std.proofs.Common.{arith, length, length-append, ◌∙◌, ap, sym, subst, List, ℕ, ◌++◌, reverse, take}
 use Rattle.eo_sexp.specs.Built.{Built}
 use Rattle.eo_sexp.specs.Buffers.{built, AreOpen}
 use Rattle.eo_sexp.proofs.Building.{built-bytes, open-bytes}
@@ -9,7 +9,7 @@ invariant_of-self-2 c = record {
   open_lists = subst (λ (bytes : List ℕ). AreOpen bytes c.self.inside.nodes.items (reverse c.self.inside.lists.items)) (sym c.in_ok-append.ensures.appends)
       (open-bytes c.self.inside.bytes.items (take c.args.n c.args.more.now) c.self.inside.nodes.items (reverse c.self.inside.lists.items) c.self.invariant.open_lists);
   room = c.self.invariant.room;
-  few = c.self.invariant.few;
+  few = omega (arith, c.self.invariant.few, ap length c.in_ok-append.ensures.appends, length-append c.self.inside.bytes.items (take c.args.n c.args.more.now));
 }
 
 pub returns : goal.returns

@@ -1,6 +1,6 @@
 use Rattle.std.proofs.Common.{◌≤◌, ◌+◌, refl, sym, ap, ◌∙◌, length, subst}
 use Rattle.std.proofs.lemmas.Result.{on_ok_weaker}
-use Rattle.eo_sexp.specs.declared.Spot.{Spot}
+use Rattle.eo_sexp.specs.Spot.{Spot}
 use Rattle.eo_sexp.specs.Machine.{phase_of, Turned}
 use Rattle.eo_sexp.proofs.MachineSteps.{placed-none}
 use Rattle.eo_sexp.proofs.FedRuns.{turned-goes, turned-whole, turned-fault, turned-before, turned-unsat}

@@ -1,5 +1,5 @@
 use Rattle.eo_sexp.specs.Machine.{meaning}
-use Rattle.eo_sexp.proofs.FedEnds.{finishes-from, finishes-failed}
+use Rattle.eo_sexp.proofs.FedEnds.{finishes-from, finishes-standing}
 use Rattle.eo_sexp.proofs.incremental.Machine.finish.Goals as goal
 
 pub returns-in-Between-clause-finishes : goal.returns-in-Between-clause-finishes
@@ -8,5 +8,8 @@ returns-in-Between-clause-finishes c = finishes-from (meaning c.args.self.now) c
 pub returns-in-Begun-clause-finishes : goal.returns-in-Begun-clause-finishes
 returns-in-Begun-clause-finishes c = finishes-from (meaning c.args.self.now) c.go_on.new.self c.finish_begun.new.self c.finish_begun.result c.go_on.ensures.meant c.finish_begun.ensures
 
-pub returns-in-Failed-clause-finishes : goal.returns-in-Failed-clause-finishes
-returns-in-Failed-clause-finishes c = finishes-failed (meaning c.args.self.now) c.go_on.new.self c.in-Failed.name c.in-Failed.at c.go_on.ensures.meant c.in-Failed.is
+pub returns-in_default-clause-finishes : goal.returns-in_default-clause-finishes
+returns-in_default-clause-finishes c =
+    let g = c.go_on.new.self in
+    let h = finishes-standing (meaning c.args.self.now) g c.go_on.ensures.meant c.in_default.not-Between c.in_default.not-Begun c.in_default.not-Pair in
+    (h.0, c.finished.ensures)

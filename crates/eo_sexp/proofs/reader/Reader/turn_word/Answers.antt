@@ -5,7 +5,7 @@ use Rattle.eo_sexp.specs.Nodes.{token_text}
 use Rattle.eo_sexp.specs.Built.{with_child}
 use Rattle.eo_sexp.specs.Reader.{held, IsReader}
 use Rattle.eo_sexp.proofs.LimitFacts.{command_is, some_token}
-use Rattle.eo_sexp.proofs.AheadRuns.{word-stops}
+use Rattle.eo_sexp.proofs.AheadRuns.{word-stops, word_reader}
 use Rattle.eo_sexp.proofs.reader.Reader.turn_word.Goals as goal
 
 pub overflow_add-at : goal.overflow_add-at
@@ -19,6 +19,13 @@ overflow_add-at-2 c = omega (arith, c.requires.at, c.requires.ahead.fits, comman
 
 pub turn_gap-requires-clause-room : goal.turn_gap-requires-clause-room
 turn_gap-requires-clause-room c = omega (arith, c.requires.at, c.requires.ahead.fits, command_is)
+
+pub turn_gap-requires-clause-reader : goal.turn_gap-requires-clause-reader
+turn_gap-requires-clause-reader c =
+    let b = c.args.buffer.now in
+    let h = subst (IsReader limits (held b c.args.self.now)) (sym c.requires.at) c.requires.reader in
+    let kind = ap (λ k. with_child c.extend.new.self (Atom k (token_text c.extend.new.self.bytes false c.args.at (c.args.at + c.args.n)) (record { from = c.args.at; to = c.args.at + c.args.n }))) c.kind_of.ensures in
+    word_reader limits some_token b c.extend.new.self c.add_atom.new.self c.args.self.now c.args.rest.now c.args.n c.args.at h c.requires.at c.requires.first c.requires.ahead c.in_ok-extend.ensures (c.in_ok-add_atom.ensures ∙ kind)
 
 pub returns : goal.returns
 returns c =

@@ -12,19 +12,19 @@ pub invariant_of-self-2 : goal.invariant_of-self-2
 invariant_of-self-2 c =
     let ms = c.self.inside.macros.entries in
     let w : List ℕ = c.args.d.name in
-    let key : c.in_ok-key.key.items ≡ w = c.in_ok-key.ensures.items_if_clones_equal (λ x y e. e) ∙ c.as_bytes.ensures in
+    let key : c.in_ok-key.key ≡ w = c.in_ok-key.ensures ∙ c.as_bytes.ensures in
     let free = subst (λ (k : Kept). sig.macro_named (macros [] k) w ≡ None) (sym c.self.view_is) c.requires in
-    let none : lookup (λ v. bytes_eq c.in_ok-key.key.items v.items) ms ≡ None = no_key _ ms (ap (λ u. position (λ v. bytes_eq u v.items) (keys_of ms)) key ∙ new_macro (λ v. v.items) c.self.inside.entries.items _ _ _ ms _ _ _ c.self.invariant w free) in
-    let is : c.insert.new.self.entries ≡ ms ++ (c.in_ok-key.key, c.args.d) ∷ [] = c.in_ok-insert.ensures.entries ∙ insert_entry-new (λ u v. bytes_eq u.items v.items) c.self.inside.macros c.in_ok-key.key c.args.d none in
-    kept_macro (λ v. v.items) _ _ _ _ ms _ _ _ c.self.invariant c.args.d c.in_ok-key.key c.insert.new.self.entries key is
+    let none : lookup (λ v. bytes_eq c.in_ok-key.key v) ms ≡ None = no_key _ ms (ap (λ u. position (λ v. bytes_eq u v) (keys_of ms)) key ∙ new_macro (λ v. v) c.self.inside.entries.items _ _ _ ms _ _ _ c.self.invariant w free) in
+    let is : c.insert.new.self.entries ≡ ms ++ (c.in_ok-key.key, c.args.d) ∷ [] = c.in_ok-insert.ensures.entries ∙ insert_entry-new (λ u v. bytes_eq u v) c.self.inside.macros c.in_ok-key.key c.args.d none in
+    kept_macro (λ v. v) _ _ _ _ ms _ _ _ c.self.invariant c.args.d c.in_ok-key.key c.insert.new.self.entries key is
 
 pub returns-clause-kept : goal.returns-clause-kept
 returns-clause-kept c =
     let ms = c.self.inside.macros.entries in
     let w : List ℕ = c.args.d.name in
-    let key : c.in_ok-key.key.items ≡ w = c.in_ok-key.ensures.items_if_clones_equal (λ x y e. e) ∙ c.as_bytes.ensures in
+    let key : c.in_ok-key.key ≡ w = c.in_ok-key.ensures ∙ c.as_bytes.ensures in
     let free = subst (λ (k : Kept). sig.macro_named (macros [] k) w ≡ None) (sym c.self.view_is) c.requires in
-    let none : lookup (λ v. bytes_eq c.in_ok-key.key.items v.items) ms ≡ None = no_key _ ms (ap (λ u. position (λ v. bytes_eq u v.items) (keys_of ms)) key ∙ new_macro (λ v. v.items) c.self.inside.entries.items _ _ _ ms _ _ _ c.self.invariant w free) in
-    let is : c.insert.new.self.entries ≡ ms ++ (c.in_ok-key.key, c.args.d) ∷ [] = c.in_ok-insert.ensures.entries ∙ insert_entry-new (λ u v. bytes_eq u.items v.items) c.self.inside.macros c.in_ok-key.key c.args.d none in
+    let none : lookup (λ v. bytes_eq c.in_ok-key.key v) ms ≡ None = no_key _ ms (ap (λ u. position (λ v. bytes_eq u v) (keys_of ms)) key ∙ new_macro (λ v. v) c.self.inside.entries.items _ _ _ ms _ _ _ c.self.invariant w free) in
+    let is : c.insert.new.self.entries ≡ ms ++ (c.in_ok-key.key, c.args.d) ∷ [] = c.in_ok-insert.ensures.entries ∙ insert_entry-new (λ u v. bytes_eq u v) c.self.inside.macros c.in_ok-key.key c.args.d none in
     let seen = ap (map (λ e. e.1)) is ∙ map-append (λ e. e.1) ms ((c.in_ok-key.key, c.args.d) ∷ []) in
     (λ i. record { entries = c.self.inside.entries.items; macros = seen i }) ∙ ap (λ (k : Kept). record { entries = k.entries; macros = k.macros ++ c.args.d ∷ [] }) c.self.view_is

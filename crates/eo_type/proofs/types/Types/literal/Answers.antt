@@ -2,7 +2,6 @@ use Rattle.std.proofs.Common.{length, sym, ap, ◌∙◌}
 use Rattle.std.specs.Prelude.{option_map}
 use Rattle.eo_term.specs.Terms.{tree_at}
 use Rattle.eo_type.specs.Types.{literal_type_at}
-use Rattle.eo_sig.proofs.Growing.{grows_under}
 use Rattle.eo_type.proofs.Fitting.{fit_grown}
 use Rattle.eo_type.proofs.types.Types.literal.Goals as goal
 
@@ -15,7 +14,7 @@ returns-in-None-clause-gives c =
     ap (λ o. literal_type_at o (tree_at ts c.args.id)) (sym (c.literal_type.ensures.value ts) ∙ ap (option_map (tree_at ts)) c.in-None.is)
 
 pub returns-in-Some-clause-fits : goal.returns-in-Some-clause-fits
-returns-in-Some-clause-fits c = fit_grown c.args.sig.now c.args.table.now c.literal_in.new.table c.args.self.now c.literal_in.ensures.grows.now c.requires.fits
+returns-in-Some-clause-fits c = let u = c.laws.ensures c.args.table.now c.literal_in.new.table c.requires.fits.below c.literal_in.ensures.grows in fit_grown c.args.sig.now c.args.table.now c.literal_in.new.table u.stays u.table.now c.args.self.now c.requires.fits
 
 pub returns-in-Some-clause-grows : goal.returns-in-Some-clause-grows
-returns-in-Some-clause-grows c = grows_under c.args.sig.now c.args.table.now c.literal_in.new.table c.requires.fits.below c.literal_in.ensures.grows
+returns-in-Some-clause-grows c = c.laws.ensures c.args.table.now c.literal_in.new.table c.requires.fits.below c.literal_in.ensures.grows

@@ -1,5 +1,5 @@
 use Rattle.std.proofs.Common.{◌+◌, ◌*◌, ◌≤◌}
-use Rattle.eo_sexp.proofs.Sizes.{size, size_of_all}
+use Rattle.eo_sexp.specs.Sizes.{size, size_of_all}
 use Rattle.eo_sexp.proofs.incremental.tests.answers.+write.Given as goal
 
 abbrev pub decreases-write_sexp : goal.decreases-write_sexp

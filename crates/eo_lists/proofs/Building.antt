@@ -1,0 +1,96 @@
+-- Terms that spell lists, made from the back and from the front, and lists in two parts.
+use Rattle.std.proofs.Common.{◌≡◌, ℕ, zero, suc, ◌+◌, ◌<◌, ◌≤◌, true, List, [], ◌∷◌, ◌++◌, map, take, drop, fold, reverse, length, get_or, refl, sym, ap, ◌∙◌, subst, All, arith}
+use Rattle.std.proofs.lemmas.List.{at_drop_more, length-map}
+use Rattle.std.proofs.lemmas.List.Elements.{All-head, All-tail}
+use mathlib.Core.List.{reverse_aux}
+use Rattle.eo_term.specs.Growth.{Grows}
+use Rattle.eo_term.specs.Terms.{Terms, tree_at}
+use Rattle.eo_term.specs.Tree.{Tree, Con, is_tall}
+use Rattle.eo_term.proofs.Heights.{higher}
+use Rattle.eo_lists.specs.Lists.{link, spell}
+use Rattle.eo_lists.specs.Parts.{onto}
+
+-- a table that has grown twice has grown
+pub grows_on : (a b c : Terms) → Grows a b → Grows b c → Grows a c
+grows_on a b c g h = record { now = h.since a g.now; since = λ t s. h.since t (g.since t s) }
+
+pub tall_rest : (f a t : Tree) → is_tall t ≡ true → is_tall (link f a t) ≡ true
+tall_rest f a t e = higher t (link f a t) (omega arith) e
+
+-- the element at a place passes what all pass
+pub all_at : {X : Type 0} (P : X → Type 0) (xs : List X) (i : ℕ) (x : X) → All P xs → i < length xs → x ≡ get_or xs i x → P x
+all_at P xs i x h l e = subst P (sym e) (h i x l)
+
+pub get_or-at : {X Y : Type 0} (f : X → Y) (xs : List X) (i : ℕ) (x : X) (d : Y) → i < length xs → x ≡ get_or xs i x → get_or (map f xs) i d ≡ f x
+get_or-at f [] i x d l e = absurd (omega arith)
+get_or-at f (y ∷ ys) zero x d l e = ap f (sym e)
+get_or-at f (y ∷ ys) (suc i) x d l e = get_or-at f ys i x d (omega arith) e
+
+-- ---- from the back
+
+module _ (f n : Tree) where
+  spell_drop : (us : List Tree) (i : ℕ) → i < length us → spell f n (drop i us) ≡ link f (get_or us i (Con 0)) (spell f n (drop (suc i) us))
+  spell_drop [] i l = absurd (omega arith)
+  spell_drop (a ∷ us) zero l = refl
+  spell_drop (a ∷ us) (suc i) l = spell_drop us i (omega arith)
+
+  pub drop_tall : (us : List Tree) (i : ℕ) → is_tall (spell f n (drop i us)) ≡ true → is_tall (spell f n us) ≡ true
+  drop_tall us zero e = e
+  drop_tall [] (suc i) e = e
+  drop_tall (a ∷ us) (suc i) e = tall_rest f a (spell f n us) (drop_tall us i e)
+
+  module _ (ts : List Tree) (items : List ℕ) where
+    -- one item more before those from place j on
+    pub spell_step : (i j a : ℕ) (now : Tree) → suc i ≡ j → j ≤ length items → a ≡ get_or items i a → now ≡ spell f n (drop j (map (tree_at ts) items)) → link f (tree_at ts a) now ≡ spell f n (drop i (map (tree_at ts) items))
+    spell_step i j a now s l e h =
+        let long : i < length (map (tree_at ts) items) = omega (arith, length-map items (tree_at ts)) in
+        let own : get_or (map (tree_at ts) items) i (Con 0) ≡ tree_at ts a = get_or-at (tree_at ts) items i a (Con 0) (omega arith) e in
+        let own' = sym own in let s' = sym s in (λ k. link f (tree_at ts a) (h k)) ∙ (λ k. link f (own' k) (spell f n (drop (s' k) (map (tree_at ts) items)))) ∙ sym (spell_drop (map (tree_at ts) items) i long)
+
+    pub spell_step_tall : (i j a : ℕ) (now : Tree) → suc i ≡ j → j ≤ length items → a ≡ get_or items i a → now ≡ spell f n (drop j (map (tree_at ts) items)) → is_tall (link f (tree_at ts a) now) ≡ true → is_tall (spell f n (map (tree_at ts) items)) ≡ true
+    spell_step_tall i j a now s l e h t =
+        drop_tall (map (tree_at ts) items) i (ap is_tall (sym (spell_step i j a now s l e h)) ∙ t)
+
+-- ---- from the front
+
+module _ (f : Tree) (ts : List Tree) (items : List ℕ) where
+  pub onto_step : (i a : ℕ) (now next whole : Tree) → i < length items → a ≡ get_or items i a → fold (onto f) now (map (tree_at ts) (drop i items)) ≡ whole → next ≡ link f (tree_at ts a) now → fold (onto f) next (map (tree_at ts) (drop (i + 1) items)) ≡ whole
+  onto_step i a now next whole l e h s =
+      (λ k. fold (onto f) (s k) (map (tree_at ts) (drop (i + 1) items)))
+      ∙ (λ k. fold (onto f) (link f (tree_at ts (e k)) now) (map (tree_at ts) (drop (i + 1) items)))
+      ∙ sym (at_drop_more (λ is. fold (onto f) now (map (tree_at ts) is)) items i a l) ∙ h
+
+  fold_tall : (us : List Tree) (now : Tree) → is_tall now ≡ true → is_tall (fold (onto f) now us) ≡ true
+  fold_tall [] now e = e
+  fold_tall (u ∷ us) now e = fold_tall us (link f u now) (tall_rest f u now e)
+
+  pub onto_step_tall : (i a : ℕ) (now next whole : Tree) → i < length items → a ≡ get_or items i a → fold (onto f) now (map (tree_at ts) (drop i items)) ≡ whole → next ≡ link f (tree_at ts a) now → is_tall next ≡ true → is_tall whole ≡ true
+  onto_step_tall i a now next whole l e h s t =
+      ap is_tall (sym (onto_step i a now next whole l e h s)) ∙ fold_tall (map (tree_at ts) (drop (i + 1) items)) next t
+
+-- ---- lists in two parts
+
+pub spell_append : (f n : Tree) (xs ys : List Tree) → spell f (spell f n ys) xs ≡ spell f n (xs ++ ys)
+spell_append f n [] ys = refl
+spell_append f n (x ∷ xs) ys = ap (link f x) (spell_append f n xs ys)
+
+pub second_tall : (f n : Tree) (xs ys : List Tree) → is_tall (spell f n ys) ≡ true → is_tall (spell f n (xs ++ ys)) ≡ true
+second_tall f n [] ys e = e
+second_tall f n (x ∷ xs) ys e = tall_rest f x (spell f n (xs ++ ys)) (second_tall f n xs ys e)
+
+-- built from the front, the items stand in reverse
+fold_reverse_aux : (f n : Tree) (xs ys : List Tree) → fold (onto f) (spell f n ys) xs ≡ spell f n (reverse_aux xs ys)
+fold_reverse_aux f n [] ys = refl
+fold_reverse_aux f n (x ∷ xs) ys = fold_reverse_aux f n xs (x ∷ ys)
+
+pub fold_reverse : (f n : Tree) (xs : List Tree) → fold (onto f) n xs ≡ spell f n (reverse xs)
+fold_reverse f n xs = fold_reverse_aux f n xs []
+
+-- the first items have the trees that they had before the table grew
+pub front_grown : (ts us : List Tree) → ((i : ℕ) → i < length ts → tree_at us i ≡ tree_at ts i) → (p : ℕ) (is : List ℕ) → All (λ i. i < length ts) is → map (tree_at us) (take p is) ≡ map (tree_at ts) (take p is)
+front_grown ts us same zero is h = refl
+front_grown ts us same (suc p) [] h = refl
+front_grown ts us same (suc p) (i ∷ is) h =
+    let first = same i (All-head (λ (j : ℕ). j < length ts) i is h) in
+    let rest = front_grown ts us same p is (All-tail (λ (j : ℕ). j < length ts) i is h) in
+    λ k. first k ∷ rest k

@@ -1,0 +1,298 @@
+//! Values of the operators on lists.
+mod world;
+
+use eo_term::{Id, OpName, TermRefused};
+use std::test::Fail;
+use world::Sample::{Con, Front, Number, Or, Own, Stuck};
+use world::{Sample, World, tell};
+
+// The first row that is wrong, if one is: the list operator of these arguments after `fun` does not
+// give what stands last.
+fn wrong_of_none(w: &mut World, rows: &[(Sample, Sample)]) -> Result<Option<usize>, Fail> {
+    for i in 0..rows.len() {
+        let (fun, want) = rows[i];
+        let fun = w.term(fun)?;
+        if !w.gives(OpName::Nil, &[fun], want)? {
+            return Ok(Some(i));
+        }
+    }
+    Ok(None)
+}
+
+fn wrong_of_one(
+    w: &mut World,
+    fun: u8,
+    rows: &[(OpName, Sample, Sample)],
+) -> Result<Option<usize>, Fail> {
+    let fun = w.term(Con(fun))?;
+    for i in 0..rows.len() {
+        let (op, list, want) = rows[i];
+        let list = w.term(list)?;
+        if !w.gives(op, &[fun, list], want)? {
+            return Ok(Some(i));
+        }
+    }
+    Ok(None)
+}
+
+fn wrong_of_two(
+    w: &mut World,
+    fun: u8,
+    rows: &[(OpName, Sample, Sample, Sample)],
+) -> Result<Option<usize>, Fail> {
+    let fun = w.term(Con(fun))?;
+    for i in 0..rows.len() {
+        let (op, first, second, want) = rows[i];
+        let first = w.term(first)?;
+        let second = w.term(second)?;
+        if !w.gives(op, &[fun, first, second], want)? {
+            return Ok(Some(i));
+        }
+    }
+    Ok(None)
+}
+
+// The terminator alone stands for the empty list, and only a constant of the signature with a
+// terminator behind its items has one.
+fn terminators(w: &mut World) -> Result<Option<usize>, Fail> {
+    wrong_of_none(
+        w,
+        &[
+            (Con(b'o'), Con(b'f')),
+            (Con(b's'), Own("pq")),
+            (Con(b'l'), Stuck),
+            (Con(b'c'), Stuck),
+            (Con(b'p'), Stuck),
+            (Or("pf"), Stuck),
+            (Number(4), Stuck),
+        ],
+    )
+}
+
+#[test]
+fn a_constant_has_its_terminator(rt: HostRuntime) -> Result<(), Fail> {
+    assert_eq!(rt; tell(rt.alloc(), terminators)?, None);
+    assert_eq!(rt; tell(rt.alloc(), without_terminator)?, None);
+    Ok(())
+}
+
+// Other operators are stuck, too, where there is no terminator.
+fn without_terminator(w: &mut World) -> Result<Option<usize>, Fail> {
+    wrong_of_one(
+        w,
+        b'l',
+        &[
+            (OpName::ListLen, Con(b'f'), Stuck),
+            (OpName::ListRev, Con(b'f'), Stuck),
+            (OpName::ListSetof, Con(b'f'), Stuck),
+        ],
+    )
+}
+
+// What stands after the constant is one list.
+fn of_one_list(w: &mut World) -> Result<Option<usize>, Fail> {
+    wrong_of_one(
+        w,
+        b'o',
+        &[
+            (OpName::ListLen, Con(b'f'), Number(0)),
+            (OpName::ListLen, Or("pqpf"), Number(3)),
+            (OpName::ListLen, Con(b'p'), Stuck),
+            (OpName::ListLen, Con(b'o'), Stuck),
+            (OpName::ListLen, Front(b'p'), Stuck),
+            (OpName::ListLen, Or("pq"), Stuck),
+            (OpName::ListLen, Own("pf"), Stuck),
+            (OpName::ListLen, Number(0), Stuck),
+            (OpName::ListRev, Con(b'f'), Con(b'f')),
+            (OpName::ListRev, Or("pqrf"), Or("rqpf")),
+            (OpName::ListRev, Or("pq"), Stuck),
+            (OpName::ListSetof, Con(b'f'), Con(b'f')),
+            (OpName::ListSetof, Or("pqpf"), Or("pqf")),
+            (OpName::ListSetof, Or("rppqrqpf"), Or("rpqf")),
+            (OpName::ListSetof, Or("pq"), Stuck),
+        ],
+    )
+}
+
+#[test]
+fn one_list_has_a_value(rt: HostRuntime) -> Result<(), Fail> {
+    assert_eq!(rt; tell(rt.alloc(), of_one_list)?, None);
+    Ok(())
+}
+
+// What stands after the constant is a list and an item or a place, in the operator's order.
+fn of_list_and_item(w: &mut World) -> Result<Option<usize>, Fail> {
+    wrong_of_two(
+        w,
+        b'o',
+        &[
+            (OpName::Cons, Con(b'p'), Con(b'f'), Or("pf")),
+            (OpName::Cons, Con(b'p'), Or("qpf"), Or("pqpf")),
+            (OpName::Cons, Con(b'p'), Con(b'q'), Stuck),
+            (OpName::Cons, Con(b'p'), Or("pq"), Stuck),
+            (OpName::ListNth, Or("pqf"), Number(0), Con(b'p')),
+            (OpName::ListNth, Or("pqf"), Number(1), Con(b'q')),
+            (OpName::ListNth, Or("pqf"), Number(2), Stuck),
+            (OpName::ListNth, Or("pqf"), Number(-1), Stuck),
+            (OpName::ListNth, Or("pqf"), Number(1 << 64), Stuck),
+            (OpName::ListNth, Or("pqf"), Con(b'p'), Stuck),
+            (OpName::ListNth, Con(b'f'), Number(0), Stuck),
+            (OpName::ListNth, Or("pq"), Number(0), Stuck),
+            (OpName::ListFind, Or("pqqf"), Con(b'q'), Number(1)),
+            (OpName::ListFind, Or("pqqf"), Con(b'p'), Number(0)),
+            (OpName::ListFind, Or("pqqf"), Con(b'f'), Number(-1)),
+            (OpName::ListFind, Con(b'f'), Con(b'p'), Number(-1)),
+            (OpName::ListFind, Or("pq"), Con(b'p'), Stuck),
+            (OpName::ListErase, Or("pqpf"), Con(b'p'), Or("qpf")),
+            (OpName::ListErase, Or("pqf"), Con(b'q'), Or("pf")),
+            (OpName::ListErase, Or("pqf"), Con(b'r'), Or("pqf")),
+            (OpName::ListErase, Con(b'f'), Con(b'p'), Con(b'f')),
+            (OpName::ListErase, Or("pq"), Con(b'p'), Stuck),
+        ],
+    )
+}
+
+#[test]
+fn a_list_with_an_item_has_a_value(rt: HostRuntime) -> Result<(), Fail> {
+    assert_eq!(rt; tell(rt.alloc(), of_list_and_item)?, None);
+    Ok(())
+}
+
+// Two lists stand after the constant.
+fn of_two_lists(w: &mut World) -> Result<Option<usize>, Fail> {
+    wrong_of_two(
+        w,
+        b'o',
+        &[
+            (OpName::ListConcat, Con(b'f'), Con(b'f'), Con(b'f')),
+            (OpName::ListConcat, Con(b'f'), Or("pf"), Or("pf")),
+            (OpName::ListConcat, Or("pf"), Con(b'f'), Or("pf")),
+            (OpName::ListConcat, Or("pqf"), Or("qrf"), Or("pqqrf")),
+            (OpName::ListConcat, Or("pq"), Or("pf"), Stuck),
+            (OpName::ListConcat, Or("pf"), Or("pq"), Stuck),
+            (OpName::ListMinclude, Con(b'f'), Con(b'f'), Con(b't')),
+            (OpName::ListMinclude, Or("pf"), Con(b'f'), Con(b't')),
+            (OpName::ListMinclude, Con(b'f'), Or("pf"), Con(b'f')),
+            (OpName::ListMinclude, Or("pqpf"), Or("ppf"), Con(b't')),
+            (OpName::ListMinclude, Or("pqf"), Or("ppf"), Con(b'f')),
+            (OpName::ListMinclude, Or("pqpf"), Or("rf"), Con(b'f')),
+            (OpName::ListMinclude, Or("pq"), Or("pf"), Stuck),
+            (OpName::ListMinclude, Or("pf"), Or("pq"), Stuck),
+        ],
+    )
+}
+
+#[test]
+fn two_lists_have_a_value(rt: HostRuntime) -> Result<(), Fail> {
+    assert_eq!(rt; tell(rt.alloc(), of_two_lists)?, None);
+    Ok(())
+}
+
+// A terminator that is itself an application of its constant is the empty list, and no item and
+// rest.
+fn of_own_list(w: &mut World) -> Result<Option<usize>, Fail> {
+    wrong_of_one(
+        w,
+        b's',
+        &[
+            (OpName::ListLen, Own("pq"), Number(0)),
+            (OpName::ListLen, Own("ppq"), Number(1)),
+            (OpName::ListLen, Own("rqpq"), Number(2)),
+            (OpName::ListLen, Con(b'q'), Stuck),
+            (OpName::ListLen, Own("qp"), Stuck),
+            (OpName::ListRev, Own("pq"), Own("pq")),
+            (OpName::ListRev, Own("rqpq"), Own("qrpq")),
+            (OpName::ListSetof, Own("pq"), Own("pq")),
+            (OpName::ListSetof, Own("qqpq"), Own("qpq")),
+        ],
+    )
+}
+
+// The same for operators of two arguments.
+fn of_own_lists(w: &mut World) -> Result<Option<usize>, Fail> {
+    wrong_of_two(
+        w,
+        b's',
+        &[
+            (OpName::Cons, Con(b'r'), Own("pq"), Own("rpq")),
+            (OpName::ListConcat, Own("pq"), Own("pq"), Own("pq")),
+            (OpName::ListConcat, Own("rpq"), Own("qpq"), Own("rqpq")),
+            (OpName::ListNth, Own("pq"), Number(0), Stuck),
+            (OpName::ListNth, Own("rpq"), Number(0), Con(b'r')),
+            (OpName::ListNth, Own("rpq"), Number(1), Stuck),
+            (OpName::ListFind, Own("rpq"), Con(b'p'), Number(-1)),
+            (OpName::ListErase, Own("pq"), Con(b'p'), Own("pq")),
+            (OpName::ListErase, Own("rpq"), Con(b'r'), Own("pq")),
+            (OpName::ListMinclude, Own("pq"), Own("pq"), Con(b't')),
+            (OpName::ListMinclude, Own("pq"), Own("ppq"), Con(b'f')),
+        ],
+    )
+}
+
+#[test]
+fn a_terminator_may_be_an_application(rt: HostRuntime) -> Result<(), Fail> {
+    assert_eq!(rt; tell(rt.alloc(), of_own_list)?, None);
+    assert_eq!(rt; tell(rt.alloc(), of_own_lists)?, None);
+    Ok(())
+}
+
+// The list of 1,998 items, which is as tall as a term may be, and its parts.
+#[derive(Clone, Copy)]
+struct LongLists {
+    or: Id,
+    item: Id,
+    whole: Id,
+    less: Id,
+    half: Id,
+}
+
+fn long_lists(w: &mut World) -> Result<LongLists, Fail> {
+    Ok(LongLists {
+        or: w.term(Con(b'o'))?,
+        item: w.term(Con(b'p'))?,
+        whole: w.long(1_998)?,
+        less: w.long(1_997)?,
+        half: w.long(999)?,
+    })
+}
+
+// Whether the tallest list is read, and made from others.
+fn makes_tallest(w: &mut World) -> Result<bool, Fail> {
+    let t = long_lists(w)?;
+    Ok(
+        w.gives(OpName::ListLen, &[t.or, t.whole], Number(1_998))?
+            && w.gives(OpName::ListSetof, &[t.or, t.whole], Or("pf"))?
+            && w.value(OpName::ListRev, &[t.or, t.whole])?? == Some(t.whole)
+            && w.value(OpName::Cons, &[t.or, t.item, t.less])?? == Some(t.whole)
+            && w.value(OpName::ListErase, &[t.or, t.whole, t.item])?? == Some(t.less)
+            && w.value(OpName::ListConcat, &[t.or, t.half, t.half])?? == Some(t.whole),
+    )
+}
+
+// Whether one item more is refused, and so is an item that is as tall as a term may be.
+fn refuses_taller(w: &mut World) -> Result<bool, Fail> {
+    let t = long_lists(w)?;
+    let one = w.term(Or("pf"))?;
+    let end = w.term(Con(b'f'))?;
+    Ok(
+        is_tall(w.value(OpName::Cons, &[t.or, t.item, t.whole])?)?
+            && is_tall(w.value(OpName::Cons, &[t.or, t.whole, end])?)?
+            && is_tall(w.value(OpName::ListConcat, &[t.or, one, t.whole])?)?
+            && is_tall(w.value(OpName::ListConcat, &[t.or, t.whole, one])?)?,
+    )
+}
+
+fn is_tall(answer: Result<Option<Id>, TermRefused>) -> Result<bool, Fail> {
+    match answer {
+        Ok(_) => Ok(false),
+        Err(TermRefused::Tall) => Ok(true),
+        Err(TermRefused::Memory(e)) => Err(Fail::from(e)),
+    }
+}
+
+#[test]
+fn a_list_is_as_tall_as_a_term_may_be(rt: HostRuntime) -> Result<(), Fail> {
+    assert!(rt; tell(rt.alloc(), makes_tallest)?);
+    assert!(rt; tell(rt.alloc(), refuses_taller)?);
+    Ok(())
+}

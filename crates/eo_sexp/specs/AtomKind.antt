@@ -1,0 +1,7 @@
+-- The kinds of atoms.
+
+pub data AtomKind : Type 0 where
+  Symbol : AtomKind
+  Keyword : AtomKind
+  Literal : AtomKind
+  String : AtomKind

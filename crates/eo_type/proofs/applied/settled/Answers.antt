@@ -1,8 +1,0 @@
-use Rattle.std.proofs.Common.{sym, ap, ◌∙◌}
-use Rattle.eo_type.specs.Types.{settle}
-use Rattle.eo_type.proofs.SettleSteps.{settled_typed}
-use Rattle.eo_type.proofs.applied.settled.Goals as goal
-
-pub returns-clause-gives : goal.returns-clause-gives
-returns-clause-gives c =
-    record { live = c.in_ok-settle_term.ensures.gives.live; typed = settled_typed _ _ c.in_ok-made.ensures.low (ap settle (sym c.in_ok-made.ensures.tree) ∙ c.in_ok-settle_term.ensures.gives.typed) }
