@@ -9,3 +9,5 @@ pub mod DeclaringLemmas
 pub mod Sizes
 pub mod WalkSteps
 pub mod Giving
+pub mod ProgramLemmas
+mod ProgramVectors

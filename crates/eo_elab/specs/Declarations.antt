@@ -1,17 +1,17 @@
 -- What a declaring command declares, or its first fault. The checks of a whole declaration (patterns, unbound parameters) and of types follow when it is added.
-use Rattle.std.specs.Prelude.{ℕ, zero, suc, Bool, false, not, ◌||◌, nat_le, if◌then◌else◌, List, [], ◌∷◌, ◌++◌, length, Option, Some, None, is_none, slice_get, bytes_eq, codes, Ok, Err}
+use Rattle.std.specs.Prelude.{ℕ, zero, suc, Bool, false, not, ◌||◌, ◌==◌, nat_le, if◌then◌else◌, List, [], ◌∷◌, ◌++◌, length, Option, Some, None, is_none, slice_get, bytes_eq, codes, Ok, Err}
 use Rattle.std.specs.List.{list_any}
 use Rattle.std.specs.Option.{option_map_or}
-use Rattle.eo_base.specs.declared.FaultName.TheVariants.{Redeclared, UnknownSymbol, TermHeight, Parameters}
+use Rattle.eo_base.specs.declared.FaultName.TheVariants.{Redeclared, UnknownSymbol, BadArity, TermHeight, Parameters}
 use Rattle.eo_base.specs.Checks.{Checked, ◌>>=◌, require, no_fault, Passed}
 use Rattle.eo_base.specs.Limits.{parameters_limit}
 use Rattle.eo_sexp.specs.Sexp.{Sexp}
 use Rattle.eo_lit.specs.declared.LiteralClass.{LiteralClass}
-use Rattle.eo_sig.specs.Signature.{Parameter, Attribute, Plain, RightNil, LeftNil, Right, Left, Chain, Pairs, Binder, Constant, Macro, Program, Rule, Named, NamesConstant, NamesMacro, NamesProgram, lookup, constant_at, is_free, literal_type, constant_fault}
+use Rattle.eo_sig.specs.Signature.{Parameter, Attribute, Plain, RightNil, LeftNil, Right, Left, Chain, Pairs, Binder, Constant, Macro, Case, Program, Rule, IsProgram, Named, NamesConstant, NamesMacro, NamesProgram, lookup, constant_at, is_free, literal_type, constant_fault}
 use Rattle.eo_term.specs.Tree.{Tree, Con, Par, Arr, Qar, type_tree, is_tall}
 use Rattle.eo_names.specs.Contexts.{Context, Local, is_reference}
 use Rattle.eo_elab.specs.Meaning.{meaning}
-use Rattle.eo_shape.specs.Shapes.{ParameterShape, AttributeShape, NoAttribute, RightNilShape, LeftNilShape, RightShape, LeftShape, ChainShape, PairsShape, BinderShape, Command, DeclareConst, DeclareFun, DeclareSort, DeclareParameterized, DeclareLiterals, Define}
+use Rattle.eo_shape.specs.Shapes.{ParameterShape, AttributeShape, NoAttribute, RightNilShape, LeftNilShape, RightShape, LeftShape, ChainShape, PairsShape, BinderShape, CaseShape, Command, DeclareConst, DeclareFun, DeclareSort, DeclareParameterized, DeclareLiterals, Define, DefineProgram}
 
 pub data Declaration : Type 0 where
   AConstant : (constant : Constant) → Declaration
@@ -198,6 +198,53 @@ module _ (c : Context) where
     t ← meaning c b.locals body
     Ok (macro name b.parameters t)
 
+-- ---- programs
+
+-- a case of a program with so many inputs
+unfoldable pub declared_case : Context → List Local → ℕ → CaseShape → Checked Case
+declared_case c locals inputs s = do
+  _ ← require (length s.patterns == inputs) BadArity
+  ps ← meanings c locals s.patterns
+  t ← meaning c locals s.body
+  Ok (record { patterns = ps; body = t })
+
+unfoldable pub declared_cases : Context → List Local → ℕ → List CaseShape → Checked (List Case)
+declared_cases c locals inputs [] = Ok []
+declared_cases c locals inputs (s ∷ ss) = do
+  case ← declared_case c locals inputs s
+  cases ← declared_cases c locals inputs ss
+  Ok (case ∷ cases)
+
+abbrev pub program : List ℕ → List Parameter → List Tree → Tree → List Case → Program
+program name parameters inputs output cases =
+    record { name = name; parameters = parameters; inputs = inputs; output = output; cases = cases }
+
+-- while its cases are read, the program's name stands for the program
+abbrev pub with_program : Context → Program → Context
+with_program c p = record c { signature = c.signature ++ IsProgram p ∷ [] }
+
+-- a program with its cases, which has none before they are read
+abbrev pub with_cases : Context → List Local → Program → List CaseShape → Checked Program
+with_cases c locals p shapes = do
+  cases ← declared_cases (with_program c p) locals (length p.inputs) shapes
+  Ok (record p { cases = cases })
+
+-- a program over parameters
+abbrev pub program_over : Context → List ℕ → Bound → List Sexp → Sexp → List CaseShape → Checked Program
+program_over c name b inputs output cases = do
+  ts ← meanings c b.locals inputs
+  t ← meaning c b.locals output
+  with_cases c b.locals (program name b.parameters ts t []) cases
+
+-- (program S (p ..) :signature (T ..) T (case ..))
+unfoldable pub declared_program : Context → List ℕ → List ParameterShape → List Sexp → Sexp → List CaseShape → Checked Program
+declared_program c name shapes inputs output cases = do
+  _ ← require (is_free_name c name) Redeclared
+  _ ← few (length shapes)
+  _ ← few (length inputs)
+  b ← bind c unbound shapes
+  program_over c name b inputs output cases
+
 -- ---- each declaring command
 
 abbrev pub as_constant : Constant → Checked Declaration
@@ -205,6 +252,9 @@ as_constant d = Ok (AConstant d)
 
 abbrev pub as_macro : Macro → Checked Declaration
 as_macro m = Ok (AMacro m)
+
+abbrev pub as_program : Program → Checked Declaration
+as_program p = Ok (AProgram p)
 
 -- What a declaring command declares. Other commands declare nothing.
 unfoldable pub declaration : Context → Command → Option (Checked Declaration)
@@ -214,4 +264,5 @@ declaration c (DeclareSort name arity) = Some (declared_sort c name arity >>= as
 declaration c (DeclareParameterized name shapes type shape) = Some (declared_parameterized c name shapes type shape >>= as_constant)
 declaration c (DeclareLiterals class type) = Some (declared_literals c class type >>= λ t. Ok (ALiteralType class t))
 declaration c (Define name shapes body) = Some (defined c name shapes body >>= as_macro)
+declaration c (DefineProgram name shapes inputs output cases) = Some (declared_program c name shapes inputs output cases >>= as_program)
 declaration c command = None

@@ -1,26 +1,28 @@
 -- What is read of a declaring command, over the terms of a table.
-use Rattle.std.specs.Prelude.{◌≡◌, ℕ, ◌<◌, true, false, List, [], map, All, Option, Some, None, is_none, Ok, Err}
+use Rattle.std.specs.Prelude.{◌≡◌, ℕ, ◌<◌, true, false, List, [], map, length, All, Option, Some, None, is_none, Ok, Err}
 use Rattle.eo_base.specs.declared.FaultName.TheVariants.{BadCommand}
 use Rattle.eo_base.specs.Checks.{Checked, ◌>>=◌}
 use Rattle.eo_sexp.specs.Sexp.{Sexp}
 use Rattle.eo_sig.specs.Reading.{Kept, read_parameter, read_attribute, read_constant, read_macro, read_program, read_rule, AttributeBelow, ConstBelow, MacroBelow, ProgramBelow, RuleBelow}
 use Rattle.eo_lit.specs.declared.LiteralClass.{LiteralClass}
-use Rattle.eo_sig.specs.Signature.{Attribute, Constant, Macro, literal_type, constant_fault}
+use Rattle.eo_sig.specs.Signature.{Attribute, Constant, Macro, Case, Program, literal_type, constant_fault}
 use Rattle.eo_sig.specs.declared.records.Param.{Param}
 use Rattle.eo_sig.specs.declared.records.Attribute as code_attribute
 use Rattle.eo_sig.specs.declared.records.Declaration as code
+use Rattle.eo_sig.specs.declared.records.ProgramDecl.{ProgramDecl}
 use Rattle.eo_sig.specs.declared.records.Declaration.TheVariants as variant
-use Rattle.eo_shape.specs.Shapes.{AttributeShape, ParameterShape, Command, command_of}
+use Rattle.eo_shape.specs.Shapes.{AttributeShape, ParameterShape, CaseShape, Command, command_of}
 use Rattle.eo_shape.specs.declared.AttributeShape as code_shape
 use Rattle.eo_shape.specs.declared.ParameterShape as code_param
 use Rattle.eo_shape.specs.Reading.{read_attribute as read_shape}
 use Rattle.eo_term.specs.Tree.{Tree}
 use Rattle.eo_term.specs.Terms.{Terms, tree_at}
 use Rattle.eo_elab.specs.declared.parameters.Bound as code_bound
-use Rattle.eo_elab.specs.Declarations.{Declaration, AConstant, ALiteralType, AMacro, AProgram, ARule, Bound, declaration, meanings, attribute, bound_type, function_type, not_tall, plain_constant, declared_const, declared_parameterized, is_free_or_reference}
+use Rattle.eo_elab.specs.Declarations.{Declaration, AConstant, ALiteralType, AMacro, AProgram, ARule, Bound, declaration, meanings, attribute, bound_type, function_type, not_tall, plain_constant, declared_const, declared_parameterized, declared_cases, declared_program, program_over, with_cases, with_program, is_free_name, is_free_or_reference}
 use Rattle.eo_names.specs.Contexts.{Context, Local}
 use Rattle.eo_elab.specs.Meaning.{meaning}
 use Rattle.eo_names.specs.Names.{read_locals}
+use Rattle.eo_names.specs.declared.locals.LocalName.{LocalName}
 use Rattle.eo_names.specs.Ready.{context, IsReady}
 
 abbrev pub read_bound : List Tree → code_bound.Bound → Bound
@@ -112,6 +114,21 @@ parameterized_in t k name params type shape = declared_parameterized (context t.
 abbrev pub typed_over_in : Terms → Kept → code_bound.Bound → Sexp → code_shape.AttributeShape → Checked (Tree × Attribute)
 typed_over_in t k b type shape = typed_over (context t.trees k) (read_bound t.trees b) type (read_shape shape)
 
+-- a program, one over parameters, the cases of one that has none yet, and it with them
+abbrev pub program_in : Terms → Kept → List ℕ → List ParameterShape → List Sexp → Sexp → List CaseShape → Checked Program
+program_in t k name shapes inputs output cases = declared_program (context t.trees k) name shapes inputs output cases
+
+abbrev pub program_over_in : Terms → Kept → List ℕ → code_bound.Bound → List Sexp → Sexp → List CaseShape → Checked Program
+program_over_in t k name b inputs output cases = program_over (context t.trees k) name (read_bound t.trees b) inputs output cases
+
+abbrev pub own_cases_in : Terms → Kept → List LocalName → ProgramDecl → List CaseShape → Checked (List Case)
+own_cases_in t k ls d cases =
+    let p = read_program t.trees d in
+    declared_cases (with_program (context t.trees k) p) (read_locals t.trees ls) (length p.inputs) cases
+
+abbrev pub with_cases_in : Terms → Kept → List LocalName → ProgramDecl → List CaseShape → Checked Program
+with_cases_in t k ls d cases = with_cases (context t.trees k) (read_locals t.trees ls) (read_program t.trees d) cases
+
 -- the type over parameters of which the first has this number
 abbrev pub bound_type_in : Terms → ℕ → List Param → ℕ → Tree
 bound_type_in t first params type = bound_type first (map (read_parameter t.trees) params) (tree_at t.trees type)
@@ -138,5 +155,5 @@ abbrev pub MayBeDeclared : Context → Declaration → Type 0
 MayBeDeclared c (AConstant d) = is_free_or_reference c d.name ≡ true
 MayBeDeclared c (ALiteralType class type) = MayBeLiterals c class
 MayBeDeclared c (AMacro d) = MayBeMacro c d
-MayBeDeclared c (AProgram d) = Unit {0}
+MayBeDeclared c (AProgram d) = is_free_name c d.name ≡ true
 MayBeDeclared c (ARule d) = Unit {0}

@@ -11,8 +11,10 @@ use Rattle.eo_sig.specs.declared.records.Attribute as code_attribute
 use Rattle.eo_sig.specs.declared.records.ConstDecl.{ConstDecl}
 use Rattle.eo_sig.specs.declared.records.Declaration as code
 use Rattle.eo_sig.specs.declared.records.MacroDecl.{MacroDecl}
-use Rattle.eo_sig.specs.Reading.{Kept, read_attribute, read_constant, read_macro, AttributeBelow, ConstBelow, MacroBelow}
-use Rattle.eo_sig.specs.Signature.{Attribute, Constant, Macro}
+use Rattle.eo_sig.specs.declared.records.Case as code_case
+use Rattle.eo_sig.specs.declared.records.ProgramDecl.{ProgramDecl}
+use Rattle.eo_sig.specs.Reading.{Kept, read_attribute, read_constant, read_macro, read_case, read_program, AttributeBelow, ConstBelow, MacroBelow, CaseBelow, ProgramBelow}
+use Rattle.eo_sig.specs.Signature.{Attribute, Constant, Macro, Case, Program}
 use Rattle.eo_term.specs.Tree.{Tree}
 use Rattle.eo_term.specs.Terms.{Terms, tree_at}
 use Rattle.eo_elab.specs.declared.parameters.Bound as code_bound
@@ -104,6 +106,15 @@ GivesConstant t r o = Gives told (ConstBelow (length t.trees)) (read_constant t.
 
 abbrev pub GivesMacro : Terms → Result MacroDecl ElabRefused → Checked Macro → Type 0
 GivesMacro t r o = Gives told (MacroBelow (length t.trees)) (read_macro t.trees) r o
+
+abbrev pub GivesCase : Terms → Result code_case.Case ElabRefused → Checked Case → Type 0
+GivesCase t r o = Gives told (CaseBelow (length t.trees)) (read_case t.trees) r o
+
+abbrev pub GivesCases : Terms → Result (List code_case.Case) ElabRefused → Checked (List Case) → Type 0
+GivesCases t r o = Gives told (All (CaseBelow (length t.trees))) (map (read_case t.trees)) r o
+
+abbrev pub GivesProgram : Terms → Result ProgramDecl ElabRefused → Checked Program → Type 0
+GivesProgram t r o = Gives told (ProgramBelow (length t.trees)) (read_program t.trees) r o
 
 abbrev pub GivesDeclaration : Terms → Result code.Declaration ElabRefused → Checked Declaration → Type 0
 GivesDeclaration t r o = Gives told (DeclarationBelow (length t.trees)) (read_declaration t.trees) r o

@@ -15,10 +15,11 @@ use Rattle.eo_elab.specs.Meaning.{atom, meaning, means, means_all, in_let, in_bi
 use Rattle.eo_names.specs.Meanings.{Meant, word_of, meant}
 use Rattle.eo_names.specs.Ready.{context}
 use Rattle.eo_names.specs.Worlds.{World, Read}
-use Rattle.eo_elab.specs.Declarations.{meanings, constant_meant, attribute}
+use Rattle.eo_elab.specs.Declarations.{meanings, constant_meant, attribute, declared_case, declared_cases}
 use Rattle.eo_shape.specs.declared.AttributeShape.{AttributeShape}
 use Rattle.eo_shape.specs.Reading.{read_attribute}
-use Rattle.eo_sig.specs.Signature.{Attribute}
+use Rattle.eo_shape.specs.Shapes.{CaseShape}
+use Rattle.eo_sig.specs.Signature.{Attribute, Case}
 
 -- what names stand for outside of every scope
 abbrev pub context_in : Terms → Kept → Context
@@ -41,6 +42,13 @@ module _ (w : World) where
 
   abbrev pub attribute_in : AttributeShape → Checked Attribute
   attribute_in shape = attribute w.names w.locals (read_attribute shape)
+
+  -- a case of a program with so many inputs, and cases in order
+  abbrev pub case_in : ℕ → CaseShape → Checked Case
+  case_in inputs shape = declared_case w.names w.locals inputs shape
+
+  abbrev pub cases_in : ℕ → List CaseShape → Checked (List Case)
+  cases_in inputs shapes = declared_cases w.names w.locals inputs shapes
 
   -- a term
   abbrev pub term_in : Sexp → Read Tree

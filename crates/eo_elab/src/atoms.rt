@@ -19,7 +19,7 @@ use crate::ElabRefused;
 use eo_lit::{LitRead, StringRefused, read_literal, read_string};
 use eo_names::{Meant, Scope, Word, name_meant, word_of};
 use eo_sexp::Kind;
-use eo_sig::Signature;
+use eo_sig::SignatureView;
 use eo_term::{Id, Node, Table};
 use std::alloc::Global;
 
@@ -35,7 +35,7 @@ pub(crate) fn atom(
     kind: Kind,
     text: &[u8],
     scope: &Scope<'_>,
-    sig: &Signature,
+    sig: &SignatureView<'_>,
     table: &mut Table,
 ) -> Result<Id, ElabRefused>
     requires { IsReady (length table.old.trees) sig.now (bound_in scope.now) }
@@ -56,7 +56,7 @@ pub(crate) fn atom(
 fn symbol(
     name: &[u8],
     scope: &Scope<'_>,
-    sig: &Signature,
+    sig: &SignatureView<'_>,
     table: &mut Table,
 ) -> Result<Id, ElabRefused>
     requires { IsReady (length table.old.trees) sig.now (bound_in scope.now) }
@@ -72,7 +72,7 @@ fn symbol(
 }
 
 // What stands for a term by itself.
-fn term_of(sig: &Signature, meant: Meant, table: &mut Table) -> Result<Id, ElabRefused>
+fn term_of(sig: &SignatureView<'_>, meant: Meant, table: &mut Table) -> Result<Id, ElabRefused>
     requires { IsLive (length table.old.trees) sig.now meant }
     ensures gives { GivesTree table.new result (tree_alone (read_meant table.old.trees sig.now meant)) }
     ensures grows { Grows table.old table.new }

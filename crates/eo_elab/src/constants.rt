@@ -13,12 +13,12 @@ ghost use Rattle.eo_names.specs.Ready.{context, IsReady};
 ghost use Rattle.eo_names.specs.Worlds.{world_of};
 ghost use Rattle.eo_elab.specs.Worlds.{meanings_in, attribute_in, constant_in};
 
+use crate::terms::mean_terms;
 use crate::{ElabRefused, Locals, term};
 use eo_base::Name;
-use eo_names::names_law;
 use eo_sexp::{Children, Sexp};
 use eo_shape::AttributeShape;
-use eo_sig::{Attribute, ConstDecl, Entry, Param, Params, Signature};
+use eo_sig::{Attribute, ConstDecl, Entry, Param, Params, Signature, SignatureView};
 use eo_term::{Id, Ids, Node, TYPE, Table, TermRefused};
 use std::alloc::{AllocError, Global};
 
@@ -51,15 +51,10 @@ pub(crate) fn meanings(
 ) -> Result<Ids, ElabRefused>
     requires ready { IsReady (length table.old.trees) sig.now locals.now }
     ensures gives { GivesTrees table.new result (meanings_in (world_of table.old sig.now locals.now) terms.now) }
+    ensures count { IfOk result (λ ids. length ids ≡ length terms.now) }
     ensures grows { Grows table.old table.new }
 {
-    names_law();
-    let mut ids = Ids::new(alloc);
-    for s in terms.again() {
-        let id = term(alloc, &s, locals, sig, table)?;
-        ids.push(id)?;
-    }
-    Ok(ids)
+    mean_terms(alloc, terms, locals, &SignatureView::of(sig), table)
 }
 
 /// How a constant folds its arguments.

@@ -17,6 +17,7 @@ use crate::constants::{
     attribute_meant, bound_type, may_declare, meanings, plain_constant, sort_type,
 };
 use crate::parameters::{Bound, bind, parameter};
+use crate::programs::declared_program;
 use crate::{ElabRefused, Locals, term};
 use eo_base::Name;
 use eo_base::limits::PARAMETERS;
@@ -28,18 +29,19 @@ use eo_term::{HEIGHT_LIMIT, Id, Table};
 use std::alloc::Global;
 
 /// What the command declares, which is one of `declare-const`, `declare-fun`, `declare-sort`,
-/// `declare-parameterized-const`, `declare-consts` and `define`, in a signature or a proof (Ethos
-/// manual, declarations).
+/// `declare-parameterized-const`, `declare-consts`, `define` and `program`, in a signature or a
+/// proof (Ethos manual, declarations, programs).
 ///
 /// A refusal is the first fault, in this order:
 ///
 /// - `BadCommand`: the command has a wrong shape, or declares nothing.
 /// - `Redeclared`: the name may not be declared, and is none that the reference file declared; or
 ///   the class of literals has a type.
-/// - `Parameters`: there are more than 64 parameters.
+/// - `Parameters`: there are more than 64 parameters, or more than 64 inputs of a program.
 /// - a fault of a term, from left to right: of the parameters' types, where a name that an earlier
 ///   parameter has is `Redeclared`, of the types, of the terminator or what joins (`UnknownSymbol`,
-///   where it is no constant), and of the body.
+///   where it is no constant), of the body, and of the cases of a program, each of which is
+///   `BadArity` first where it has another number of patterns than the program has inputs.
 /// - `Tall`: the type is taller than the limit.
 /// - `BadPattern`: a constant without parameters has a type that holds what no declared type may,
 ///   or a terminator that is no value.
@@ -117,6 +119,16 @@ fn declared_by(
         Command::Define { name, params, body } => {
             let d = defined(alloc, name, params, body, sig, table)?;
             Ok(Declaration::Macro(d))
+        }
+        Command::Program {
+            name,
+            params,
+            inputs,
+            output,
+            cases,
+        } => {
+            let d = declared_program(alloc, name, params, inputs, output, cases, sig, table)?;
+            Ok(Declaration::Program(d))
         }
         Command::Assume { .. } => Err(ElabRefused::BadCommand),
         Command::Assert { .. } => Err(ElabRefused::BadCommand),

@@ -7,6 +7,7 @@ mod constants;
 mod declaring;
 mod parameters;
 mod plan;
+mod programs;
 mod shapes;
 mod terms;
 #[cfg(test)]
@@ -18,4 +19,5 @@ pub use declaring::{
     declared_sort, defined,
 };
 pub use eo_names::{ElabRefused, LocalName, Locals};
+pub use programs::declared_program;
 pub use terms::term;

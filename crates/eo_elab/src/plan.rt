@@ -18,7 +18,7 @@ use crate::shapes::{begins_with_pairs, is_let};
 use eo_names::{Meant, Scope, Use, Word, attribute_of, least_of, name_meant, word_of};
 use eo_sexp::{Children, Sexp};
 use eo_shape::symbol;
-use eo_sig::{Attribute, Signature};
+use eo_sig::{Attribute, SignatureView};
 use eo_term::{Id, Node, Table};
 
 /// What a list is.
@@ -37,7 +37,7 @@ pub(crate) fn form_of(
     head: &Sexp<'_>,
     args: &Children<'_>,
     scope: &Scope<'_>,
-    sig: &Signature,
+    sig: &SignatureView<'_>,
     table: &Table,
 ) -> Result<Form, ElabRefused>
     requires ready { IsReady (length table.now.trees) sig.now (bound_in scope.now) }
@@ -59,7 +59,7 @@ fn form_by_word(
     name: &[u8],
     args: &Children<'_>,
     scope: &Scope<'_>,
-    sig: &Signature,
+    sig: &SignatureView<'_>,
     table: &Table,
 ) -> Result<Form, ElabRefused>
     requires ready { IsReady (length table.now.trees) sig.now (bound_in scope.now) }
@@ -97,7 +97,7 @@ fn form_by_word(
 fn use_of_meaning(
     meant: Meant,
     args: &Children<'_>,
-    sig: &Signature,
+    sig: &SignatureView<'_>,
     table: &Table,
 ) -> Result<Use, ElabRefused>
     requires live { IsLive (length table.now.trees) sig.now meant }
@@ -132,7 +132,7 @@ fn use_of_meaning(
 pub(crate) fn use_of_term(
     id: Id,
     args: &Children<'_>,
-    sig: &Signature,
+    sig: &SignatureView<'_>,
     table: &Table,
 ) -> Result<Use, ElabRefused>
     requires live { id < length table.now.trees }
@@ -149,7 +149,11 @@ pub(crate) fn use_of_term(
 
 // A binder binds where its first argument is a list of pairs. The arguments are counted before
 // any of them is read.
-fn use_of_constant(k: usize, args: &Children<'_>, sig: &Signature) -> Result<Use, ElabRefused>
+fn use_of_constant(
+    k: usize,
+    args: &Children<'_>,
+    sig: &SignatureView<'_>,
+) -> Result<Use, ElabRefused>
     requires some { 1 ≤ length args.now }
     ensures used { (ts : List Tree) → UsesTree sig.now ts args.now (Con k) result }
     ensures below { IfOk result (λ u. (n : ℕ) → UseBelow n u) }

@@ -1,4 +1,5 @@
 mod declarations;
+mod programs;
 mod terms;
 mod world;
 

@@ -17,7 +17,7 @@ use crate::plan::{Form, form_of, use_of_term};
 use crate::shapes::pair_of;
 use eo_names::{Bindings, Scope, Use, bind, names_law, use_arguments};
 use eo_sexp::{Children, Sexp};
-use eo_sig::Signature;
+use eo_sig::SignatureView;
 use eo_term::{Id, Ids, Table};
 use std::alloc::Global;
 
@@ -30,7 +30,7 @@ pub(crate) fn mean(
     alloc: Global,
     s: &Sexp<'_>,
     scope: &Scope<'_>,
-    sig: &Signature,
+    sig: &SignatureView<'_>,
     table: &mut Table,
 ) -> Result<Id, ElabRefused>
     requires ready { IsReady (length table.old.trees) sig.now (bound_in scope.now) }
@@ -49,7 +49,7 @@ fn mean_list(
     alloc: Global,
     terms: &Children<'_>,
     scope: &Scope<'_>,
-    sig: &Signature,
+    sig: &SignatureView<'_>,
     table: &mut Table,
 ) -> Result<Id, ElabRefused>
     requires ready { IsReady (length table.old.trees) sig.now (bound_in scope.now) }
@@ -73,7 +73,7 @@ fn mean_head(
     head: &Sexp<'_>,
     args: &Children<'_>,
     scope: &Scope<'_>,
-    sig: &Signature,
+    sig: &SignatureView<'_>,
     table: &mut Table,
 ) -> Result<Id, ElabRefused>
     requires ready { IsReady (length table.old.trees) sig.now (bound_in scope.now) }
@@ -94,7 +94,7 @@ fn mean_use(
     used: &Use,
     args: &Children<'_>,
     scope: &Scope<'_>,
-    sig: &Signature,
+    sig: &SignatureView<'_>,
     table: &mut Table,
 ) -> Result<Id, ElabRefused>
     requires ready { IsReady (length table.old.trees) sig.now (bound_in scope.now) }
@@ -115,7 +115,7 @@ fn mean_arguments(
     used: &Use,
     args: &Children<'_>,
     scope: &Scope<'_>,
-    sig: &Signature,
+    sig: &SignatureView<'_>,
     table: &mut Table,
 ) -> Result<Ids, ElabRefused>
     requires ready { IsReady (length table.old.trees) sig.now (bound_in scope.now) }
@@ -140,7 +140,7 @@ fn mean_all(
     terms: &Children<'_>,
     before: Ids,
     scope: &Scope<'_>,
-    sig: &Signature,
+    sig: &SignatureView<'_>,
     table: &mut Table,
 ) -> Result<Ids, ElabRefused>
     requires ready { IsReady (length table.old.trees) sig.now (bound_in scope.now) }
@@ -164,7 +164,7 @@ fn mean_let(
     alloc: Global,
     args: &Children<'_>,
     scope: &Scope<'_>,
-    sig: &Signature,
+    sig: &SignatureView<'_>,
     table: &mut Table,
 ) -> Result<Id, ElabRefused>
     requires ready { IsReady (length table.old.trees) sig.now (bound_in scope.now) }
@@ -186,7 +186,7 @@ fn mean_bound(
     collector: usize,
     args: &Children<'_>,
     scope: &Scope<'_>,
-    sig: &Signature,
+    sig: &SignatureView<'_>,
     table: &mut Table,
 ) -> Result<Ids, ElabRefused>
     requires ready { IsReady (length table.old.trees) sig.now (bound_in scope.now) }
@@ -218,7 +218,7 @@ fn mean_pairs(
     alloc: Global,
     pairs: &Sexp<'_>,
     scope: &Scope<'_>,
-    sig: &Signature,
+    sig: &SignatureView<'_>,
     table: &mut Table,
 ) -> Result<Bindings, ElabRefused>
     requires ready { IsReady (length table.old.trees) sig.now (bound_in scope.now) }
@@ -243,7 +243,7 @@ fn mean_pair(
     pair: &Sexp<'_>,
     names: &mut Bindings,
     scope: &Scope<'_>,
-    sig: &Signature,
+    sig: &SignatureView<'_>,
     table: &mut Table,
 ) -> Result<(), ElabRefused>
     requires ready { IsReady (length table.old.trees) sig.now (bound_in scope.now) }

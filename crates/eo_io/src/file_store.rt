@@ -1,7 +1,8 @@
 //! The files that the libraries in memory hold.
 ghost use Rattle.std.specs.Prelude.{◌≡◌, ◌≢◌, ◌<◌, [], length, IfOk, OnOk, OnErr, is_some};
 ghost use Rattle.eo_io.specs.Library.{file_at};
-ghost use Rattle.eo_io.specs.Stored.{nothing_stored, with_file, IsFileOf, after_open, first_unread, read_length, buffer_after, after_read, after_close};
+ghost use Rattle.eo_io.specs.Stored.{nothing_stored, with_file, IsFileOf, after_open, first_unread, read_length};
+ghost use Rattle.eo_io.specs.Stored.{buffer_after, after_read, after_close};
 
 use crate::OPEN_FILES;
 use indexmap::IndexMap;

@@ -19,17 +19,23 @@ use crate::folding::fold_constant;
 use crate::scope::Scope;
 use crate::usage::Use;
 use eo_pattern::{Subst, substitute};
-use eo_sig::Signature;
+use eo_sig::SignatureView;
 use eo_term::{HEIGHT_LIMIT, Id, Node, OpCode, Table, TermRefused};
 use std::alloc::Global;
 
 /// The term of arguments that are used so.
+///
+/// A refusal is the first fault:
+///
+/// - `BadArity`: a constant that is folded over them asks for more.
+/// - `Tall`: the term, or one that goes into it, is taller than the limit.
+/// - `Memory`: want of memory.
 pub fn use_arguments(
     alloc: Global,
     used: Use,
     args: &[Id],
     scope: &Scope<'_>,
-    sig: &Signature,
+    sig: &SignatureView<'_>,
     table: &mut Table,
 ) -> Result<Id, ElabRefused>
     requires ready { IsReady (length table.old.trees) sig.now (bound_in scope.now) }
@@ -77,6 +83,8 @@ fn apply_operator(table: &mut Table, code: OpCode, args: &[Id]) -> Result<Id, Te
 }
 
 /// The function type of one or more types, of which the last is that of its values.
+///
+/// `Tall`: the type is taller than the limit. `Memory`: want of memory.
 pub fn function_type(table: &mut Table, types: &[Id]) -> Result<Id, TermRefused>
     requires types { All (λ a. a < length table.old.trees) types.now }
     requires some { 1 ≤ length types.now }

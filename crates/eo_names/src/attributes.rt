@@ -11,11 +11,11 @@ ghost use Rattle.eo_names.specs.Worlds.{grouped_in};
 
 use crate::fold::{apply_to_all, group_left, group_list, group_right};
 use crate::scope::Scope;
-use eo_sig::{Attribute, Signature};
+use eo_sig::{Attribute, SignatureView};
 use eo_term::{Id, Table, TermRefused};
 
 /// How the constant of this number folds its arguments; plainly, where there is none.
-pub fn attribute_of(sig: &Signature, k: usize) -> Attribute
+pub fn attribute_of(sig: &SignatureView<'_>, k: usize) -> Attribute
     ensures value { (ts : List Tree) → read_attribute ts result ≡ attribute_at (signature ts sig.now) k }
     ensures below { (n : ℕ) → IsBelow n sig.now → AttributeBelow n result }
 {
@@ -44,7 +44,7 @@ pub(crate) fn least_count(attribute: Attribute) -> usize
 }
 
 /// The least number of arguments of the constant.
-pub fn least_of(k: usize, sig: &Signature) -> usize
+pub fn least_of(k: usize, sig: &SignatureView<'_>) -> usize
     ensures { (ts : List Tree) → result ≡ least (attribute_at (signature ts sig.now) k) }
 {
     least_count(attribute_of(sig, k))

@@ -17,18 +17,24 @@ use crate::folding::fold_constant;
 use crate::laws::names_law;
 use crate::locals::Bindings;
 use crate::scope::Scope;
-use eo_sig::Signature;
+use eo_sig::SignatureView;
 use eo_term::{Id, Node, Table, TermRefused};
 use std::alloc::{AllocError, Global};
 
 /// Puts the variable of each name and type in the place of the type, and gives the list that the
 /// constant `collector` makes of the variables.
+///
+/// A refusal is the first fault, and some of the variables may stand in their places then:
+///
+/// - `BadArity`: there are fewer names than the constant asks for.
+/// - `Tall`: a variable or the list is taller than the limit.
+/// - `Memory`: want of memory.
 pub fn bind(
     alloc: Global,
     collector: usize,
     names: &mut Bindings,
     scope: &Scope<'_>,
-    sig: &Signature,
+    sig: &SignatureView<'_>,
     table: &mut Table,
 ) -> Result<Id, ElabRefused>
     requires ready { IsReady (length table.old.trees) sig.now (bound_in scope.now) }

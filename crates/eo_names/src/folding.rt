@@ -14,7 +14,7 @@ use crate::fold::apply_constant;
 use crate::joins::{neighbours, pairs};
 use crate::laws::names_law;
 use crate::scope::Scope;
-use eo_sig::{Attribute, Signature};
+use eo_sig::{Attribute, SignatureView};
 use eo_term::{HEIGHT_LIMIT, Id, Ids, Table, TermRefused};
 use std::alloc::Global;
 
@@ -36,7 +36,7 @@ pub(crate) fn fold_constant(
     k: usize,
     args: &[Id],
     scope: &Scope<'_>,
-    sig: &Signature,
+    sig: &SignatureView<'_>,
     table: &mut Table,
 ) -> Result<Id, ElabRefused>
     requires ready { IsReady (length table.old.trees) sig.now (bound_in scope.now) }
@@ -56,7 +56,7 @@ fn fold_within(
     k: usize,
     args: &[Id],
     scope: &Scope<'_>,
-    sig: &Signature,
+    sig: &SignatureView<'_>,
     table: &mut Table,
 ) -> Result<Id, ElabRefused>
     requires ready { IsReady (length table.old.trees) sig.now (bound_in scope.now) }
@@ -85,7 +85,7 @@ fn join(
     k: usize,
     items: &[Id],
     scope: &Scope<'_>,
-    sig: &Signature,
+    sig: &SignatureView<'_>,
     table: &mut Table,
 ) -> Result<Id, ElabRefused>
     requires ready { IsReady (length table.old.trees) sig.now (bound_in scope.now) }
@@ -107,7 +107,7 @@ fn turn_of(
     k: usize,
     args: &[Id],
     scope: &Scope<'_>,
-    sig: &Signature,
+    sig: &SignatureView<'_>,
     table: &mut Table,
 ) -> Result<Turn, ElabRefused>
     requires ready { IsReady (length table.old.trees) sig.now (bound_in scope.now) }

@@ -63,7 +63,7 @@ impl Model for Locals {
 }
 
 impl Locals {
-    /// No names.
+    /// No names. `Err` is want of memory.
     pub fn new(alloc: Global) -> Result<Locals, AllocError>
         ensures { IfOk result (λ l. l ≡ []) }
     {
@@ -167,7 +167,7 @@ impl Bindings {
         self.names.get(NameRef(name)).copied()
     }
 
-    /// The terms, in the order in which their names were bound.
+    /// The terms, in the order in which their names were bound. `Err` is want of memory.
     pub fn ids(&self) -> Result<Ids, AllocError>
         ensures { IfOk result (λ ids. ids ≡ map (λ b. b.1) self.now) }
     {
@@ -203,11 +203,12 @@ impl Bindings {
         *at = id;
     }
 
-    /// Binds a name that is not bound.
+    /// Binds a name that is not bound. `Err` is want of memory, and the names stay as they are.
     pub fn push(&mut self, name: &[u8], id: Id) -> Result<(), AllocError>
         requires { names_in self.old name.now ≡ false }
         ensures pushed { OnOk result (self.new ≡ self.old ++ (name.now, id) ∷ []) }
         ensures reads { OnOk result (ReadsOneMore self.old name.now id self.new) }
+        ensures err { OnErr result (self.new ≡ self.old) }
     {
         let key = Name::new(self.alloc, name)?;
         self.names.insert(key, id)?;

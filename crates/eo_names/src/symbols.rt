@@ -10,7 +10,7 @@ ghost use Rattle.eo_names.specs.Symbols.{read_word, read_meant, IsLive};
 ghost use Rattle.eo_names.specs.Worlds.{meant_over, global_meant_over, macro_meant_over};
 
 use crate::scope::Scope;
-use eo_sig::{Entry, Signature};
+use eo_sig::{Entry, SignatureView};
 use eo_term::{Id, OpCode, OpName};
 
 /// A symbol that is never looked up, or a name that is.
@@ -59,7 +59,7 @@ pub fn word_of(symbol: &[u8]) -> Word
 
 /// What the name stands for: an operator of the language, else the innermost local name, else a
 /// constant, a macro or a program.
-pub fn name_meant(name: &[u8], scope: &Scope<'_>, sig: &Signature) -> Meant
+pub fn name_meant(name: &[u8], scope: &Scope<'_>, sig: &SignatureView<'_>) -> Meant
     ensures value { (ts : List Tree) → read_meant ts sig.now result ≡ meant_over ts sig.now scope.now name.now }
     ensures live { (n : ℕ) → IsReady n sig.now (bound_in scope.now) → IsLive n sig.now result }
 {
@@ -73,7 +73,7 @@ pub fn name_meant(name: &[u8], scope: &Scope<'_>, sig: &Signature) -> Meant
 }
 
 // The same, for a name that is neither an operator nor local.
-fn globally_meant(name: &[u8], sig: &Signature) -> Meant
+fn globally_meant(name: &[u8], sig: &SignatureView<'_>) -> Meant
     ensures value { (ts : List Tree) → read_meant ts sig.now result ≡ global_meant_over ts sig.now name.now }
     ensures live { (n : ℕ) → IsBelow n sig.now → IsLive n sig.now result }
 {
@@ -86,7 +86,7 @@ fn globally_meant(name: &[u8], sig: &Signature) -> Meant
 }
 
 // A macro without parameters is its term.
-fn macro_of(sig: &Signature, n: usize) -> Meant
+fn macro_of(sig: &SignatureView<'_>, n: usize) -> Meant
     requires { n < length sig.now.macros }
     ensures value { (ts : List Tree) → read_meant ts sig.now result ≡ macro_meant_over ts sig.now n }
     ensures live { (m : ℕ) → IsBelow m sig.now → IsLive m sig.now result }
@@ -98,7 +98,7 @@ fn macro_of(sig: &Signature, n: usize) -> Meant
     Meant::Macro(n)
 }
 
-fn program_of(sig: &Signature, n: usize) -> Meant
+fn program_of(sig: &SignatureView<'_>, n: usize) -> Meant
     requires within { n < length (programs_of sig.now) }
     ensures value { (ts : List Tree) → read_meant ts sig.now result ≡ program_meant (context ts sig.now) n }
     ensures live { (m : ℕ) → IsBelow m sig.now → IsLive m sig.now result }

@@ -3,7 +3,8 @@ ghost use Rattle.std.specs.Prelude.{◌<◌, [], ◌∷◌, length, IsTrue, IsFa
 ghost use Rattle.eo_term.specs.Tree.{Par};
 ghost use Rattle.eo_term.specs.Growth.{tree_in};
 ghost use Rattle.eo_pattern.specs.Slots.{held, AreBelow, AreEmpty, HasRoom, Keeps};
-ghost use Rattle.eo_pattern.specs.Matched.{ArePaired, IsPair, ArePairs, Matched, Unmatched, MatchedTrees, UnmatchedTrees, args_in, AreMatched};
+ghost use Rattle.eo_pattern.specs.Matched.{ArePaired, IsPair, ArePairs, Matched, Unmatched, MatchedTrees};
+ghost use Rattle.eo_pattern.specs.Matched.{UnmatchedTrees, args_in, AreMatched};
 ghost use Rattle.eo_pattern.specs.Split.{IsSplit};
 
 use crate::Subst;

@@ -28,7 +28,7 @@ impl Model for Subst {
 }
 
 impl Subst {
-    /// An assignment of nothing, with room for nothing.
+    /// An assignment of nothing, with room for nothing. `Err` is want of memory.
     pub fn new(alloc: Global) -> Result<Subst, AllocError>
         ensures empty { IfOk result (λ s. AreEmpty s) }
         ensures below { IfOk result (λ s. (n : ℕ) → AreBelow n s) }

@@ -1,31 +1,36 @@
 -- What a declaring command does to what is held.
-use Rattle.std.proofs.Common.{◌≡◌, ℕ, Bool, true, false, not, ◌&&◌, ◌||◌, List, length, map, sym, ap, subst, ◌∙◌}
+use Rattle.std.proofs.Common.{◌≡◌, ℕ, Bool, true, false, not, ◌&&◌, ◌||◌, List, [], ◌∷◌, length, map, refl, sym, ap, subst, ◌∙◌, true≢false}
 use Rattle.std.specs.Prelude.{Option, Some, None, option_map, is_none, slice_get, Result, Ok, Err, nat_eq, if◌then◌else◌}
 use Rattle.std.specs.Option.{option_map_or}
 use Rattle.std.specs.Result.{IsErrAnd}
 use Rattle.std.proofs.lemmas.List.{length-map}
 use Rattle.eo_base.specs.declared.FaultName.{FaultName}
-use Rattle.eo_base.specs.declared.FaultName.TheVariants.{Redeclared, IllTyped, Stuck}
+use Rattle.eo_base.specs.declared.FaultName.TheVariants.{Redeclared, ProofDeclares}
 use Rattle.eo_base.specs.Answers.{Tells}
 use Rattle.eo_base.specs.Checks.{Checked, Passed, ◌>>=◌, require, no_fault}
-use Rattle.eo_base.proofs.ChecksLemmas.{bind_step, bind_fails}
+use Rattle.eo_base.proofs.ChecksLemmas.{ok_injective, bind_ok, bind_step, bind_fails, require_then}
 use Rattle.eo_sig.specs.declared.records.Entry.{Entry}
 use Rattle.eo_sig.specs.declared.refused.SigRefused.{SigRefused}
 use Rattle.eo_sig.specs.declared.refused.SigRefused.TheVariants as sig
 use Rattle.eo_sig.specs.Refused.{Tells as SigTells}
 use Rattle.eo_sig.specs.Reading.{signature, macros, read_named}
-use Rattle.eo_sig.specs.Signature.{Constant, Macro, Named, NamesConstant, NamesMacro, IsConstant, lookup, constant_at, is_reserved, constant_fault}
-use Rattle.eo_term.specs.Tree.{Tree, type_tree, tree_eq, is_value}
+use Rattle.eo_sig.specs.Signature.{Constant, Macro, Named, NamesConstant, NamesMacro, IsConstant, Attribute, Plain, lookup, constant_at, is_reserved, may_type, may_fold, argument_types, implicit_occur, first_wrong, constant_may_hold, constant_fault}
+use Rattle.eo_term.specs.Tree.{Tree, Con, Num, Bits, Str, Par, Var, App, Arr, Qar, Op, tree_eq, is_value, may_be_type}
 use Rattle.eo_names.specs.declared.refused.ElabRefused.{ElabRefused}
 use Rattle.eo_names.specs.Refused.{told as elab_told}
-use Rattle.eo_elab.specs.Declarations.{is_named_by_reference, is_reference_name, is_free_or_reference}
+use Rattle.eo_names.specs.Contexts.{Context}
+use Rattle.eo_elab.specs.Meaning.{meaning}
+use Rattle.eo_elab.specs.Declarations.{is_named_by_reference, is_reference_name, is_free_or_reference, meanings, attribute, constant, plain_constant, function_type, sort_type, not_tall, declared_const, declared_fun, declared_sort}
 use Rattle.eo_elab.specs.Declaring.{MayRepeat}
 use Rattle.eo_run.specs.declared.held.Held.{Held}
 use Rattle.eo_run.specs.Held.{state_of}
 use Rattle.eo_run.specs.declared.refused.Refused.{Refused}
 use Rattle.eo_run.specs.Stepping.{of_elab, of_sig, Refuses, Does}
+use Rattle.eo_sexp.specs.Sexp.{Sexp}
+use Rattle.eo_shape.specs.Shapes.{ParameterShape, AttributeShape, CaseShape}
+use Rattle.eo_run.specs.declared.Origin.{Origin}
 use Rattle.eo_run.specs.State.{State, context, with_entry, with_macro}
-use Rattle.eo_run.specs.Step.{is_plain, repeats_constant, repeats_macro, typed, added_constant, checked_constant, typed_constant, added_macro}
+use Rattle.eo_run.specs.Step.{is_plain, repeats_constant, repeats_macro, type_value, added_constant, checked_constant, typed_constant, added_macro, is_in_proof, added_program, define_program}
 use Rattle.eo_run.proofs.Exits.{at_exit}
 use Rattle.eo_run.proofs.Sessions.{refuses_on, refuses_elab}
 
@@ -39,6 +44,10 @@ module _ {A : Type 0} (fault : Option FaultName) (go : Passed → Checked A) whe
   pub no_fault-passes : fault ≡ None → (no_fault fault >>= go) ≡ go tt
   unfolding no_fault ◌>>=◌
   no_fault-passes e = ap (λ f. no_fault f >>= go) e
+
+both : (a b : Bool) → (a && b) ≡ true → (a ≡ true) × (b ≡ true)
+both true b e = (refl, e)
+both false b e = absurd (true≢false (sym e))
 
 -- ---- refusals
 
@@ -92,37 +101,16 @@ module _ (st : State) (d : Constant) where
   abbrev by_repeat : Bool → Checked State
   by_repeat b = require b Redeclared >>= λ _. Ok st
 
-  abbrev by_type : Checked Tree → Checked State
-  by_type m = m >>= λ k. require (tree_eq k type_tree) IllTyped >>= λ _. added_constant st d
+  abbrev by_value : Checked Tree → Checked State
+  by_value m = m >>= λ v. added_constant st (record d { type = v })
 
-  abbrev by_test : Bool → Checked State
-  by_test b = require b IllTyped >>= λ _. added_constant st d
+  pub typed-fault : (name : FaultName) → type_value st d.type ≡ Err name → typed_constant st d ≡ Err name
+  unfolding typed_constant ◌>>=◌
+  typed-fault name e = ap by_value e
 
-  abbrev by_value : Bool → Checked State
-  by_value b =
-      (require b Stuck >>= λ _. Ok d.type) >>= λ v. typed st v >>= λ k. require (tree_eq k type_tree) IllTyped >>= λ _.
-      added_constant st (record d { type = v })
-
-  pub typed-stuck : is_value d.type ≡ false → typed_constant st d ≡ Err Stuck
-  unfolding typed_constant require ◌>>=◌
-  typed-stuck e = ap by_value e
-
-  module _ (value : is_value d.type ≡ true) where
-    typed-value : typed_constant st d ≡ by_type (typed st d.type)
-    unfolding typed_constant require ◌>>=◌
-    typed-value = ap by_value value
-
-    pub typed-fault : (name : FaultName) → typed st d.type ≡ Err name → typed_constant st d ≡ Err name
-    unfolding ◌>>=◌
-    typed-fault name e = typed-value ∙ ap by_type e
-
-    pub typed-other : (k : Tree) → typed st d.type ≡ Ok k → tree_eq k type_tree ≡ false → typed_constant st d ≡ Err IllTyped
-    unfolding require ◌>>=◌
-    typed-other k e t = typed-value ∙ ap by_type e ∙ ap by_test t
-
-    pub typed-added : (k : Tree) → typed st d.type ≡ Ok k → tree_eq k type_tree ≡ true → typed_constant st d ≡ added_constant st d
-    unfolding require ◌>>=◌
-    typed-added k e t = typed-value ∙ ap by_type e ∙ ap by_test t
+  pub typed-added : (v : Tree) → type_value st d.type ≡ Ok v → typed_constant st d ≡ added_constant st (record d { type = v })
+  unfolding typed_constant ◌>>=◌
+  typed-added v e = ap by_value e
 
   module _ (may : MayRepeat (context st) d) where
     pub added-new : lookup st.signature st.macros d.name ≡ None → added_constant st d ≡ checked_constant st d
@@ -141,6 +129,65 @@ module _ (st : State) (d : Constant) where
       pub added-redeclared : repeats_constant st d (Some n) ≡ false → added_constant st d ≡ Err Redeclared
       unfolding require ◌>>=◌
       added-redeclared h = added-found false h
+
+-- ---- constants without parameters
+
+-- a value may be a declared type
+may_be_declared : (t : Tree) → is_value t ≡ true → may_be_type t ≡ true
+may_be_declared (Con k) h = refl
+may_be_declared (Num z) h = refl
+may_be_declared (Bits w v) h = refl
+may_be_declared (Str s) h = refl
+may_be_declared (Par i) h = absurd (true≢false (sym h))
+may_be_declared (Var s t) h = may_be_declared t h
+may_be_declared (App f x) h = let b = both (is_value f) (is_value x) h in (λ i. may_be_declared f b.0 i && may_be_declared x b.1 i)
+may_be_declared (Arr f x) h = let b = both (is_value f) (is_value x) h in (λ i. may_be_declared f b.0 i && may_be_declared x b.1 i)
+may_be_declared (Qar i t b) h = absurd (true≢false (sym h))
+may_be_declared (Op c ts) h = absurd (true≢false (sym h))
+
+-- it stays sound with a value for its type
+pub sound-value : (d : Constant) (v : Tree) → d.parameters ≡ [] → is_value v ≡ true → constant_fault d ≡ None → constant_fault (record d { type = v }) ≡ None
+sound-value d v alone value sound =
+    let held = (both (may_be_type d.type) (may_type d.parameters && may_fold d.attribute) (holds (constant_may_hold d) (implicit_occur (argument_types d.type) 0 d.parameters) sound)).1 in
+    (λ i. first_wrong (may_be_declared v value i && held i) (implicit_occur (argument_types v) 0 (alone i)))
+  where
+    holds : (a b : Bool) → first_wrong a b ≡ None → a ≡ true
+    holds true b e = refl
+    holds false b e = absurd cc
+
+plain-alone : (c : Context) (name : List ℕ) (type : Tree) (a : Attribute) (d : Constant) → plain_constant c name type a ≡ Ok d → d.parameters ≡ []
+plain-alone c name type a d e =
+    let plain = bind_ok (no_fault (constant_fault (constant c name [] type a))) (λ _. Ok (constant c name [] type a)) d e in
+    ap (λ (k : Constant). k.parameters) (sym (ok_injective (constant c name [] type a) d plain.2))
+
+module _ (c : Context) (name : List ℕ) (d : Constant) where
+  pub const-alone : (type : Sexp) (shape : AttributeShape) → declared_const c name type shape ≡ Ok d → d.parameters ≡ []
+  unfolding declared_const
+  const-alone type shape e =
+      let free = require_then (is_free_or_reference c name) Redeclared (λ _. meaning c [] type >>= λ t. attribute c [] shape >>= λ a. plain_constant c name t a) d e in
+      let meant = bind_ok (meaning c [] type) (λ t. attribute c [] shape >>= λ a. plain_constant c name t a) d free.1 in
+      let folds = bind_ok (attribute c [] shape) (plain_constant c name meant.0) d meant.2 in
+      plain-alone c name meant.0 folds.0 d folds.2
+
+  pub fun-alone : (inputs : List Sexp) (output : Sexp) → declared_fun c name inputs output ≡ Ok d → d.parameters ≡ []
+  unfolding declared_fun
+  fun-alone inputs output e =
+      let free = require_then (is_free_or_reference c name) Redeclared (λ _. meanings c [] inputs >>= λ ts. meaning c [] output >>= λ t. not_tall (function_type ts t) >>= λ type. plain_constant c name type Plain) d e in
+      let taken = bind_ok (meanings c [] inputs) (λ ts. meaning c [] output >>= λ t. not_tall (function_type ts t) >>= λ type. plain_constant c name type Plain) d free.1 in
+      let given = bind_ok (meaning c [] output) (λ t. not_tall (function_type taken.0 t) >>= λ type. plain_constant c name type Plain) d taken.2 in
+      let whole = bind_ok (not_tall (function_type taken.0 given.0)) (λ type. plain_constant c name type Plain) d given.2 in
+      plain-alone c name whole.0 Plain d whole.2
+
+  pub sort-alone : (arity : ℕ) → declared_sort c name arity ≡ Ok d → d.parameters ≡ []
+  unfolding declared_sort
+  sort-alone arity e =
+      let free = require_then (is_free_or_reference c name) Redeclared (λ _. plain_constant c name (sort_type arity) Plain) d e in
+      plain-alone c name (sort_type arity) Plain d free.1
+
+-- what has no parameters as it is read has none
+pub none-read : {A B : Type 0} (f : A → B) (xs : List A) → map f xs ≡ [] → xs ≡ []
+none-read f [] e = refl
+none-read f (x ∷ xs) e = absurd cc
 
 -- ---- macros
 
@@ -211,3 +258,18 @@ module _ {A : Type 0} (m : Checked A) (f : State → A → Checked State) (st : 
   -- what is declared is added in a state that is the same
   pub declared-added : (mid : State) (d : A) → mid ≡ st → m ≡ Ok d → Does r (f mid d) new → Does r (m >>= f st) new
   declared-added mid d same e h = does-same (m >>= f st) (f mid d) r new (bind_step m (f st) d e ∙ ap (λ (z : State). f z d) (sym same)) h
+
+-- ---- programs
+
+-- whether a program may be declared here, and then what it is
+module _ (st : State) (from : Origin) (name : List ℕ) (shapes : List ParameterShape) (inputs : List Sexp) (output : Sexp) (cases : List CaseShape) where
+  abbrev by_origin : Bool → Checked State
+  by_origin b = require b ProofDeclares >>= λ _. added_program st name shapes inputs output cases
+
+  pub program-closed : not (st.closed && is_in_proof from) ≡ false → define_program st from name shapes inputs output cases ≡ Err ProofDeclares
+  unfolding define_program require ◌>>=◌
+  program-closed e = ap by_origin e
+
+  pub program-open : not (st.closed && is_in_proof from) ≡ true → define_program st from name shapes inputs output cases ≡ added_program st name shapes inputs output cases
+  unfolding define_program require ◌>>=◌
+  program-open e = ap by_origin e

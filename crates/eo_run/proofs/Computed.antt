@@ -20,5 +20,5 @@ use Rattle.eo_run.specs.State as RunState
 use Rattle.eo_run.specs.Step as RunStep
 
 unfoldable pub computed : ℕ
-unfolding digits BaseChecks.◌>>=◌ BaseChecks.require BaseChecks.no_fault BaseChecks.value_or BaseFaultTexts.text BaseFaults.number BaseLimits.limits SexpCommands.◌>>=◌ SexpCommands.comes_first SexpCommands.at_most SexpCommands.span SexpCommands.delimited_atom SexpCommands.delimited SexpCommands.word_before SexpCommands.word SexpCommands.front SexpCommands.prepend SexpCommands.and_others SexpCommands.listed SexpCommands.opened SexpCommands.atom SexpCommands.turn SexpCommands.children SexpCommands.lists SexpCommands.sexp SexpCommands.command SexpLexicon.is_space SexpLexicon.is_line_end SexpLexicon.is_text SexpLexicon.is_quotable SexpLexicon.is_word SexpLexicon.class SexpLexicon.advance SexpLexicon.pass_byte SexpLexicon.pass SexpLexicon.skip SexpLexicon.string_byte SexpLexicon.string_turn SexpLexicon.string SexpLexicon.bar_at SexpLexicon.quoted SexpLexicon.begins_digit SexpLexicon.kind_of SexpTexts.after SexpTexts.hold SexpTexts.is_parenthesis SexpTexts.is_unsat SexpTexts.in_pair_at SexpTexts.in_pair SexpTexts.if_pair SexpTexts.begins_pair SexpTexts.before_pair SexpTexts.if_unsat SexpTexts.settled SexpTexts.settle SexpTexts.end_of SexpTexts.is_extra SexpTexts.last_atom SexpTexts.known SexpTexts.decided SexpTexts.from_token SexpTexts.from_front SexpTexts.answer SexpTexts.so_far SexpTexts.next_from SexpTexts.next_spot SexpTexts.spot_after SexpTexts.placed SexpTexts.read_next SexpTexts.reads_from SexpTexts.reads_all SexpTexts.reads_file RunCheck.verdict RunRun.◌>>=◌ RunRun.placed RunRun.or_fault RunRun.run_commands RunRun.run_file RunRun.run_reference RunRun.run_check LitLiterals.literal_value LitLiterals.string_value Shapes.command_of RunState.first_state RunState.begin_reference RunState.end_fault RunStep.value RunStep.typed RunStep.formula RunStep.added_constant RunStep.typed_constant RunStep.added_macro RunStep.assume RunStep.asserted_truth RunStep.assert RunStep.uncounted RunStep.step ElabOperators.operator_named ElabFolding.folded ElabMeaning.atom ElabMeaning.means ElabMeaning.means_all ElabMeaning.in_let ElabMeaning.in_binder ElabMeaning.pair_list ElabMeaning.pairs_after ElabMeaning.annotated ElabMeaning.meaning ElabDeclarations.meanings ElabDeclarations.declared_const ElabDeclarations.declared_fun ElabDeclarations.declared_sort ElabDeclarations.declared_parameterized ElabDeclarations.declared_literals ElabDeclarations.defined ElabDeclarations.declaration
+unfolding digits BaseChecks.◌>>=◌ BaseChecks.require BaseChecks.no_fault BaseChecks.value_or BaseFaultTexts.text BaseFaults.number BaseLimits.limits BaseLimits.open_calls_limit SexpCommands.◌>>=◌ SexpCommands.comes_first SexpCommands.at_most SexpCommands.span SexpCommands.delimited_atom SexpCommands.delimited SexpCommands.word_before SexpCommands.word SexpCommands.front SexpCommands.prepend SexpCommands.and_others SexpCommands.listed SexpCommands.opened SexpCommands.atom SexpCommands.turn SexpCommands.children SexpCommands.lists SexpCommands.sexp SexpCommands.command SexpLexicon.is_space SexpLexicon.is_line_end SexpLexicon.is_text SexpLexicon.is_quotable SexpLexicon.is_word SexpLexicon.class SexpLexicon.advance SexpLexicon.pass_byte SexpLexicon.pass SexpLexicon.skip SexpLexicon.string_byte SexpLexicon.string_turn SexpLexicon.string SexpLexicon.bar_at SexpLexicon.quoted SexpLexicon.begins_digit SexpLexicon.kind_of SexpTexts.after SexpTexts.hold SexpTexts.behind SexpTexts.begins_one_of SexpTexts.is_unsat SexpTexts.begins_pair SexpTexts.stripped SexpTexts.strip SexpTexts.end_of SexpTexts.is_extra SexpTexts.last_atom SexpTexts.known SexpTexts.decided SexpTexts.from_token SexpTexts.from_front SexpTexts.answer SexpTexts.so_far SexpTexts.next_from SexpTexts.next_spot SexpTexts.spot_after SexpTexts.placed SexpTexts.read_next SexpTexts.reads_from SexpTexts.reads_all SexpTexts.reads_file RunCheck.verdict RunRun.◌>>=◌ RunRun.placed RunRun.or_fault RunRun.run_commands RunRun.run_file RunRun.run_reference RunRun.run_check LitLiterals.literal_value LitLiterals.string_value Shapes.command_of RunState.first_state RunState.begin_reference RunState.end_fault RunStep.evaluated RunStep.value RunStep.typed RunStep.type_value RunStep.formula RunStep.added_constant RunStep.typed_constant RunStep.added_macro RunStep.define_program RunStep.assume RunStep.asserted_truth RunStep.assert RunStep.uncounted RunStep.step ElabOperators.operator_named ElabFolding.folded ElabMeaning.atom ElabMeaning.means ElabMeaning.means_all ElabMeaning.in_let ElabMeaning.in_binder ElabMeaning.pair_list ElabMeaning.pairs_after ElabMeaning.annotated ElabMeaning.meaning ElabDeclarations.meanings ElabDeclarations.declared_const ElabDeclarations.declared_fun ElabDeclarations.declared_sort ElabDeclarations.declared_parameterized ElabDeclarations.declared_literals ElabDeclarations.defined ElabDeclarations.declared_case ElabDeclarations.declared_cases ElabDeclarations.declared_program ElabDeclarations.declaration
 computed = 0

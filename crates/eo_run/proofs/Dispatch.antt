@@ -29,7 +29,7 @@ module _ (st : State) (from : Origin) (s : Sexp) (b : Bool) (e : b ≡ is_in_ref
       present shape.UnknownCommand q = absurd cc
       present shape.BadCommand q = absurd cc
 
-  pub does-command : (k : Command) → command_of b s ≡ Ok k → Does r (by_command st k) new → Does r (uncounted st from s) new
+  pub does-command : (k : Command) → command_of b s ≡ Ok k → Does r (by_command st from k) new → Does r (uncounted st from s) new
   does-command k h d = subst (λ (m : Checked State). Does r m new) (sym (shape-ok st from s b e k h)) d
 
 -- ---- what ends a session

@@ -11,6 +11,7 @@ use Rattle.eo_term.specs.Terms.{Terms, tree_at, first_trees}
 use Rattle.eo_sig.specs.Signature.{SignatureEntry, Macro, first_signature}
 use Rattle.eo_sig.specs.Reading.{Kept, IsBelow, Stays, Adds, AddsMacro, first_kept}
 use Rattle.eo_sig.specs.Reading.{signature as signature_of, macros as macros_of}
+use Rattle.eo_sig.specs.Usable.{IsUsable, StaysUsable}
 use Rattle.eo_names.specs.declared.locals.LocalName.{LocalName}
 use Rattle.eo_names.specs.Contexts.{Context}
 use Rattle.eo_names.specs.Ready as walk
@@ -99,6 +100,7 @@ module _ (h : Held) (whole : IsWhole h) where
     keeps_types types fits lasts = record {
       whole = record {
         signature = stays.below;
+        usable = subst IsUsable (sym stays.signature) whole.usable;
         assertions = ids_more (length trees) (length t.trees) grows.now.more_trees h.assertions whole.assertions;
         facts = named_below (length trees) (length t.trees) grows.now.more_trees h.facts whole.facts;
         types = fits;
@@ -113,9 +115,10 @@ module _ (h : Held) (whole : IsWhole h) where
     keeps_table = keeps_types h.types (whole.lasts.grown h.signature h.table t grows.now (record { below = whole.signature; types = whole.types })).types whole.lasts
 
   module _ (k : Kept) (below : IsBelow (length trees) k) where
-    pub whole_entry : (e : SignatureEntry) → Adds trees h.signature e k → IsWhole (record h { signature = k })
-    whole_entry e adds = record {
+    pub whole_entry : (e : SignatureEntry) → Adds trees h.signature e k → StaysUsable trees h.signature k → IsWhole (record h { signature = k })
+    whole_entry e adds usable = record {
       signature = below;
+      usable = usable whole.usable;
       assertions = whole.assertions;
       facts = whole.facts;
       types = subst (λ S. Fits S trees h.types) (sym adds.signature) (whole.lasts.longer (signature_of trees h.signature) (e ∷ []) trees whole.types);
@@ -125,6 +128,7 @@ module _ (h : Held) (whole : IsWhole h) where
     pub whole_macro : (m : Macro) → AddsMacro trees h.signature m k → IsWhole (record h { signature = k })
     whole_macro m adds = record {
       signature = below;
+      usable = subst IsUsable (sym adds.signature) whole.usable;
       assertions = whole.assertions;
       facts = whole.facts;
       types = subst (λ S. Fits S trees h.types) (sym adds.signature) whole.types;
@@ -141,6 +145,7 @@ module _ (h : Held) (whole : IsWhole h) where
     pub whole_fact : IsWhole (record h { facts = facts })
     whole_fact = record {
       signature = whole.signature;
+      usable = whole.usable;
       assertions = whole.assertions;
       facts = subst (All (λ (f : NamedId). f.1 < length trees)) (sym is) (All-push (λ (f : NamedId). f.1 < length trees) h.facts (name, i) whole.facts live);
       types = whole.types;
@@ -163,6 +168,7 @@ module _ (h : Held) (whole : IsWhole h) where
     pub whole_assertion : IsWhole (record h { assertions = ids })
     whole_assertion = record {
       signature = whole.signature;
+      usable = whole.usable;
       assertions = subst (All (λ j. j < length trees)) (sym is) (below_more (has_id h.assertions i));
       facts = whole.facts;
       types = whole.types;
@@ -197,9 +203,10 @@ state_first h closed t k s a r f c n =
       commands = n j;
     })
 
-pub whole_first : (h : Held) → h.table.trees ≡ first_trees → IsBelow 4 h.signature → h.assertions ≡ [] → h.facts ≡ [] → Fits (signature_of h.table.trees h.signature) h.table.trees h.types → Lasts h.types → IsWhole h
-whole_first h t b a f types lasts = record {
+pub whole_first : (h : Held) → h.table.trees ≡ first_trees → IsBelow 4 h.signature → IsUsable (signature_of h.table.trees h.signature) → h.assertions ≡ [] → h.facts ≡ [] → Fits (signature_of h.table.trees h.signature) h.table.trees h.types → Lasts h.types → IsWhole h
+whole_first h t b usable a f types lasts = record {
   signature = subst (λ (ts : List Tree). IsBelow (length ts) h.signature) (sym t) b;
+  usable = usable;
   assertions = subst (All (λ i. i < length h.table.trees)) (sym a) (All-none _);
   facts = subst (All (λ (f : NamedId). f.1 < length h.table.trees)) (sym f) (All-none _);
   types = types;

@@ -10,5 +10,6 @@ pub mod Naming
 pub mod Pieces
 pub mod Running
 pub mod Sessions
+mod ClosedVectors
 mod Vectors
 mod PrintLemmas

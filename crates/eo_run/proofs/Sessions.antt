@@ -3,15 +3,19 @@ use Rattle.std.proofs.Common.{◌≡◌, refl, ℕ, Bool, true, false, not, List
 use Rattle.std.specs.Prelude.{◌≢◌, Option, Some, None, option_and_then, Result, Ok, Err, bytes_eq, codes, if◌then◌else◌, ◌&&◌}
 use Rattle.std.specs.Result.{IsErrAnd}
 use Rattle.eo_base.specs.declared.FaultName.{FaultName}
-use Rattle.eo_base.specs.declared.FaultName.TheVariants.{Redeclared, IllTyped, NotBool, Stuck, UnknownSymbol, NotAsserted, NoReference, NoRefutation, SecondReference, NumberRange, TermHeight, FileAbsent}
+use Rattle.eo_base.specs.declared.FaultName.TheVariants.{Redeclared, IllTyped, NotBool, UnknownSymbol, NotAsserted, NoReference, NoRefutation, SecondReference, NumberRange, TermHeight, FileAbsent}
 use Rattle.eo_base.specs.Answers.{Tells}
 use Rattle.eo_base.specs.Checks.{Checked, ◌>>=◌, require, value_or}
 use Rattle.eo_sexp.specs.Sexp.{Sexp}
 use Rattle.eo_shape.specs.Words.{symbol_of}
 use Rattle.eo_shape.specs.Shapes.{Command, command_of}
-use Rattle.eo_term.specs.Tree.{Tree, bool_tree, truth, is_value, tree_eq}
+use Rattle.eo_term.specs.Tree.{Tree, type_tree, bool_tree, truth, is_value, tree_eq}
 use Rattle.eo_type.specs.Types.{TypeOutcome, Typed, Untyped, TypeRange, TypeTall, on_typed, typed_if, type_of}
 use Rattle.eo_term.specs.Terms.{Terms, tree_at}
+use Rattle.eo_eval.specs.Evaluation.{Outcome, eval0}
+use Rattle.eo_eval.specs.Faults.{value_or_fault}
+use Rattle.eo_eval.specs.declared.evaluator.EvalRefused.{EvalRefused}
+use Rattle.eo_eval.specs.declared.evaluator.EvalRefused.TheVariants as eval
 use Rattle.eo_elab.specs.Meaning.{meaning}
 use Rattle.eo_names.specs.Names.{read_locals}
 use Rattle.eo_names.specs.declared.locals.LocalName.{LocalName}
@@ -24,10 +28,10 @@ use Rattle.eo_run.specs.declared.refused.Refused.TheVariants as refused
 use Rattle.eo_type.specs.Outcomes.{Answers}
 use Rattle.eo_type.specs.declared.refused.TypeRefused.{TypeRefused}
 use Rattle.eo_type.specs.declared.refused.TypeRefused.TheVariants as kind
-use Rattle.eo_run.specs.Stepping.{of_elab, of_type, Refuses, Does}
+use Rattle.eo_run.specs.Stepping.{of_elab, of_eval, of_type, Refuses, GivesTerm, Does}
 use Rattle.eo_run.proofs.Exits.{at_exit}
 use Rattle.eo_run.specs.State.{State, context, with_assertion, with_fact, with_command, is_asserted, has_false, begin_reference, end_fault}
-use Rattle.eo_run.specs.Step.{is_in_reference, is_free_fact, truth_of, asserted_truth, evaluated, value, typed_or, typed, formula, assume, assert, by_command, uncounted, step}
+use Rattle.eo_run.specs.Step.{is_in_reference, is_free_fact, truth_of, asserted_truth, evaluated, value, typed_or, typed, type_value, formula, assume, assert, by_command, uncounted, step}
 use Rattle.eo_run.specs.declared.Origin.{Origin}
 
 -- ---- the formulas of a reference file
@@ -76,18 +80,15 @@ module _ (st : State) (s : Sexp) where
 module _ (st : State) (s : Sexp) where
   pub value-fault : (name : FaultName) → meaning (context st) [] s ≡ Err name → value st s ≡ Err name
   unfolding value ◌>>=◌
-  value-fault name e = ap (λ m. m >>= evaluated) e
+  value-fault name e = ap (λ m. m >>= evaluated st) e
 
-  abbrev tested : Tree → Bool → Checked Tree
-  tested t b = require b Stuck >>= λ _. Ok t
+  pub value-is : (t : Tree) → meaning (context st) [] s ≡ Ok t → value st s ≡ evaluated st t
+  unfolding value ◌>>=◌
+  value-is t e = ap (λ m. m >>= evaluated st) e
 
-  pub value-stuck : (t : Tree) → meaning (context st) [] s ≡ Ok t → is_value t ≡ false → value st s ≡ Err Stuck
-  unfolding value ◌>>=◌ require
-  value-stuck t e h = ap (λ m. m >>= evaluated) e ∙ ap (tested t) h
-
-  pub value-ok : (t : Tree) → meaning (context st) [] s ≡ Ok t → is_value t ≡ true → value st s ≡ Ok t
-  unfolding value ◌>>=◌ require
-  value-ok t e h = ap (λ m. m >>= evaluated) e ∙ ap (tested t) h
+pub evaluated-is : (st : State) (t : Tree) (o : Outcome Tree) → eval0 st.signature t ≡ o → evaluated st t ≡ value_or_fault o
+unfolding evaluated
+evaluated-is st t o e = ap value_or_fault e
 
 -- ---- formulas
 
@@ -115,6 +116,29 @@ module _ (st : State) (s : Sexp) where
   formula-ok v k e h t = ap (λ m. m >>= λ v. by_kind v (typed st v)) e ∙ ap (by_kind v) h ∙ ap (by_test v) t
 
 -- ---- types
+
+module _ (st : State) (t : Tree) where
+  abbrev type_by : Tree → Checked Tree → Checked Tree
+  type_by v m = m >>= λ k. require (tree_eq k type_tree) IllTyped >>= λ _. Ok v
+
+  abbrev type_if : Tree → Bool → Checked Tree
+  type_if v b = require b IllTyped >>= λ _. Ok v
+
+  pub type-fault : (name : FaultName) → evaluated st t ≡ Err name → type_value st t ≡ Err name
+  unfolding type_value ◌>>=◌
+  type-fault name e = ap (λ m. m >>= λ v. type_by v (typed st v)) e
+
+  pub type-kind : (v : Tree) (name : FaultName) → evaluated st t ≡ Ok v → typed st v ≡ Err name → type_value st t ≡ Err name
+  unfolding type_value ◌>>=◌
+  type-kind v name e h = ap (λ m. m >>= λ v. type_by v (typed st v)) e ∙ ap (type_by v) h
+
+  pub type-other : (v k : Tree) → evaluated st t ≡ Ok v → typed st v ≡ Ok k → tree_eq k type_tree ≡ false → type_value st t ≡ Err IllTyped
+  unfolding type_value ◌>>=◌ require
+  type-other v k e h b = ap (λ m. m >>= λ v. type_by v (typed st v)) e ∙ ap (type_by v) h ∙ ap (type_if v) b
+
+  pub type-ok : (v k : Tree) → evaluated st t ≡ Ok v → typed st v ≡ Ok k → tree_eq k type_tree ≡ true → type_value st t ≡ Ok v
+  unfolding type_value ◌>>=◌ require
+  type-ok v k e h b = ap (λ m. m >>= λ v. type_by v (typed st v)) e ∙ ap (type_by v) h ∙ ap (type_if v) b
 
 module _ (st : State) (v : Tree) where
   abbrev by_type : TypeOutcome Tree → Checked Tree
@@ -191,7 +215,7 @@ module _ (st : State) (name : List ℕ) (s : Sexp) where
 
 module _ (st : State) (from : Origin) (s : Sexp) (b : Bool) (e : b ≡ is_in_reference from) where
   abbrev by_shape : Checked Command → Checked State
-  by_shape m = m >>= by_command st
+  by_shape m = m >>= by_command st from
 
   shaped : (m : Checked Command) → command_of b s ≡ m → uncounted st from s ≡ by_shape m
   unfolding uncounted
@@ -201,7 +225,7 @@ module _ (st : State) (from : Origin) (s : Sexp) (b : Bool) (e : b ≡ is_in_ref
   unfolding ◌>>=◌
   shape-fault name h = shaped (Err name) h
 
-  pub shape-ok : (k : Command) → command_of b s ≡ Ok k → uncounted st from s ≡ by_command st k
+  pub shape-ok : (k : Command) → command_of b s ≡ Ok k → uncounted st from s ≡ by_command st from k
   unfolding ◌>>=◌
   shape-ok k h = shaped (Ok k) h
 
@@ -227,6 +251,14 @@ refuses_elab m elab.Tall h = (h, λ q. absurd cc)
 refuses_elab m elab.Parameters h = (h, λ q. absurd cc)
 refuses_elab m elab.BadPattern h = (h, λ q. absurd cc)
 refuses_elab m (elab.Memory e) h = (tt, tt)
+
+-- want of memory to evaluate a term
+pub refuses_eval : {B : Type 0} (m : Checked B) (x : EvalRefused) → Refuses m (of_eval x)
+refuses_eval m (eval.Memory e) = (tt, tt)
+
+-- an answer for a term is one for what is the same
+pub gives-same : (h : Held) (r : Result ℕ Refused) (m n : Checked Tree) → m ≡ n → GivesTerm h r n → GivesTerm h r m
+gives-same h r m n e g = subst (λ k. GivesTerm h r k) (sym e) g
 
 -- a refusal that is passed on, of what leads to the same fault
 pub refuses_on : {B C : Type 0} (m : Checked B) (n : Checked C) (x : Refused) → Refuses m x → ((name : FaultName) → m ≡ Err name → n ≡ Err name) → Refuses n x

@@ -159,18 +159,45 @@ reserved_fact : Refuses (codes "(assume let true)") (codes "refused F12 Redeclar
 unfolding computed
 reserved_fact = refl
 
-open_type : Refuses (codes "(declare-const p (eo::ite true Bool Bool))") (codes "refused F16 Stuck p.eo:1:0")
+-- the declared type is the value of the type
+valued_type : Refuses (codes "(declare-const p (eo::ite true Bool Type))(assume a p)") (codes "refused F28 NotAsserted p.eo:1:42")
 unfolding computed
-open_type = refl
+valued_type = refl
+
+stuck_type : Refuses (codes "(declare-const p (eo::ite Bool Bool Bool))") (codes "refused F16 Stuck p.eo:1:0")
+unfolding computed
+stuck_type = refl
 
 class_twice : Refuses (codes "(declare-consts <numeral> Bool)(declare-consts <numeral> (zz))") (codes "refused F12 Redeclared p.eo:1:31")
 unfolding computed
 class_twice = refl
 
--- a term with an operator has no value
-operator_formula : Refuses (codes "(assume a (eo::not false))") (codes "refused F16 Stuck p.eo:1:0")
+-- a formula is the value of its term
+operator_formula : Prints (line (codes "(assert false)")) (codes "(assume a (eo::not true))") (codes "correct")
 unfolding computed
 operator_formula = refl
+
+stuck_formula : Refuses (codes "(assume a (eo::not Bool))") (codes "refused F16 Stuck p.eo:1:0")
+unfolding computed
+stuck_formula = refl
+
+-- the greatest number, and one more
+great_number : Refuses (codes "(assume a (eo::is_ok (eo::add 170141183460469231731687303715884105727 1)))") (codes "refused F17 NumberRange p.eo:1:0")
+unfolding computed
+great_number = refl
+
+-- a test of a call that is stuck, and that call
+stuck_call_tested : Prints (line (codes "(assert false)")) (line (codes "(program $g ((x Bool)) :signature (Bool) Bool ((($g false) true)))") ++ codes "(assume @p1 (eo::is_ok ($g true)))") (codes "correct")
+unfolding computed
+stuck_call_tested = refl
+
+stuck_call : Refuses (line (codes "(program $g ((x Bool)) :signature (Bool) Bool ((($g false) true)))") ++ codes "(assume @p1 ($g true))") (codes "refused F16 Stuck p.eo:2:67")
+unfolding computed
+stuck_call = refl
+
+endless_call : Refuses (line (codes "(program $h ((x Bool)) :signature (Bool) Bool ((($h x) ($h x))))") ++ codes "(assume @p1 ($h true))") (codes "refused F19 EvalDepth p.eo:2:65")
+unfolding computed
+endless_call = refl
 
 -- a term is not asserted where another one is
 other_formula : Refuses (codes "(declare-const p Bool)(assume a p)") (codes "refused F28 NotAsserted p.eo:1:22")

@@ -1,6 +1,7 @@
 -- What a session holds, with numbers of terms, and the state that this is.
 use Rattle.std.specs.Prelude.{◌≡◌, ◌<◌, List, map, length, All}
 use Rattle.eo_sig.specs.Reading.{signature, macros, IsBelow}
+use Rattle.eo_sig.specs.Usable.{IsUsable}
 use Rattle.eo_type.specs.Known.{Fits, Lasts}
 use Rattle.eo_term.specs.Growth.{Grows}
 use Rattle.eo_term.specs.Tree.{Tree}
@@ -25,10 +26,11 @@ state_of h = let ts = h.table.trees in record {
   commands = h.commands;
 }
 
--- all terms that are held are those of the table, and the types that were found are right, and stay so
+-- all terms that are held are those of the table, the signature is one that terms can be evaluated in, and the types that were found are right, and stay so
 pub record IsWhole (h : Held) : Type 0 where
   pub types : Fits (signature h.table.trees h.signature) h.table.trees h.types
   pub lasts : Lasts h.types
+  pub usable : IsUsable (signature h.table.trees h.signature)
   pub signature : IsBelow (length h.table.trees) h.signature
   pub assertions : All (λ i. i < length h.table.trees) h.assertions
   pub facts : All (λ (f : NamedId). f.1 < length h.table.trees) h.facts

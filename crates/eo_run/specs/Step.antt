@@ -1,17 +1,19 @@
 -- What each command does: the state after it, or its first fault.
 use Rattle.std.specs.Prelude.{ℕ, Bool, true, false, not, ◌&&◌, nat_eq, if◌then◌else◌, List, [], length, Option, Some, None, slice_get, option_and_then, Ok, Err, bytes_eq, codes}
 use Rattle.std.specs.Option.{option_map_or}
-use Rattle.eo_base.specs.declared.FaultName.TheVariants.{Redeclared, IllTyped, Stuck, NumberRange, TermHeight, UnknownSymbol, NotBool, NotAsserted, NoReference}
-use Rattle.eo_base.specs.Checks.{Checked, ◌>>=◌, require, no_fault, value_or}
+use Rattle.eo_base.specs.declared.FaultName.TheVariants.{Redeclared, ProofDeclares, IllTyped, NumberRange, TermHeight, UnknownSymbol, NotBool, NotAsserted, NoReference}
+use Rattle.eo_base.specs.Checks.{Checked, Passed, ◌>>=◌, require, no_fault, value_or}
 use Rattle.eo_sexp.specs.Sexp.{Sexp}
 use Rattle.eo_lit.specs.declared.LiteralClass.{LiteralClass}
-use Rattle.eo_sig.specs.Signature.{IsConstant, IsLiteralType, Attribute, Plain, Constant, Macro, Named, NamesConstant, NamesMacro, lookup, constant_at, is_reserved, constant_fault, literal_type_fault}
+use Rattle.eo_sig.specs.Signature.{IsConstant, IsProgram, IsLiteralType, Attribute, Plain, Constant, Macro, Program, Named, NamesConstant, NamesMacro, lookup, constant_at, is_reserved, constant_fault, program_fault, literal_type_fault}
 use Rattle.eo_shape.specs.Words.{symbol_of}
-use Rattle.eo_shape.specs.Shapes.{ParameterShape, AttributeShape, Command, DeclareConst, DeclareFun, DeclareSort, DeclareParameterized, DeclareLiterals, Define, Assume, Assert, command_of}
-use Rattle.eo_term.specs.Tree.{Tree, type_tree, bool_tree, truth, is_value, tree_eq}
+use Rattle.eo_shape.specs.Shapes.{ParameterShape, AttributeShape, CaseShape, Command, DeclareConst, DeclareFun, DeclareSort, DeclareParameterized, DeclareLiterals, Define, DefineProgram, Assume, Assert, command_of}
+use Rattle.eo_term.specs.Tree.{Tree, type_tree, bool_tree, truth, tree_eq}
 use Rattle.eo_type.specs.Types.{TypeOutcome, Typed, Untyped, TypeRange, TypeTall, value_type}
+use Rattle.eo_eval.specs.Evaluation.{eval0}
+use Rattle.eo_eval.specs.Faults.{value_or_fault}
 use Rattle.eo_elab.specs.Meaning.{meaning}
-use Rattle.eo_elab.specs.Declarations.{is_reference_name, declared_const, declared_fun, declared_sort, declared_parameterized, declared_literals, defined}
+use Rattle.eo_elab.specs.Declarations.{is_reference_name, declared_const, declared_fun, declared_sort, declared_parameterized, declared_literals, defined, declared_program}
 use Rattle.eo_run.specs.State.{State, context, with_entry, with_macro, with_assertion, with_fact, with_command, is_asserted, is_live}
 use Rattle.eo_run.specs.declared.Origin.{Origin}
 use Rattle.eo_run.specs.declared.Origin.TheVariants as origin
@@ -28,17 +30,15 @@ is_in_proof origin.Reference = false
 
 -- ---- checks
 
--- A value is its own value. Nothing else has one, since no operator is evaluated yet.
-abbrev pub evaluated : Tree → Checked Tree
-evaluated t = do
-  _ ← require (is_value t) Stuck
-  Ok t
+-- the value of a tree, or the fault of an evaluation that gives none
+unfoldable pub evaluated : State → Tree → Checked Tree
+evaluated st t = value_or_fault (eval0 st.signature t)
 
 -- the value of a term
 unfoldable pub value : State → Sexp → Checked Tree
 value st s = do
   t ← meaning (context st) [] s
-  evaluated t
+  evaluated st t
 
 abbrev pub typed_or : TypeOutcome Tree → Checked Tree
 typed_or (Typed t) = Ok t
@@ -81,12 +81,18 @@ added_constant st d =
       Ok st
     ) else Ok (with_entry st (IsConstant d))
 
--- the declared type is the value of the type, which has type `Type`
-unfoldable pub typed_constant : State → Constant → Checked State
-typed_constant st d = do
-  v ← evaluated d.type
+-- the value of a type, which has type `Type`
+unfoldable pub type_value : State → Tree → Checked Tree
+type_value st t = do
+  v ← evaluated st t
   type ← typed st v
   _ ← require (tree_eq type type_tree) IllTyped
+  Ok v
+
+-- the declared type is the value of the type
+unfoldable pub typed_constant : State → Constant → Checked State
+typed_constant st d = do
+  v ← type_value st d.type
   added_constant st (record d { type = v })
 
 -- the constant is added, unless its declaration has a fault
@@ -146,6 +152,28 @@ define st name shapes body = do
   m ← defined (context st) name shapes body
   added_macro st m
 
+-- ---- programs
+
+-- a closed proof declares no rules and programs
+abbrev pub may_declare : State → Origin → Checked Passed
+may_declare st from = require (not (st.closed && is_in_proof from)) ProofDeclares
+
+-- the program is added, unless its declaration has a fault
+abbrev pub checked_program : State → Program → Checked State
+checked_program st p = do
+  _ ← no_fault (program_fault p)
+  Ok (with_entry st (IsProgram p))
+
+abbrev pub added_program : State → List ℕ → List ParameterShape → List Sexp → Sexp → List CaseShape → Checked State
+added_program st name shapes inputs output cases = do
+  p ← declared_program (context st) name shapes inputs output cases
+  checked_program st p
+
+unfoldable pub define_program : State → Origin → List ℕ → List ParameterShape → List Sexp → Sexp → List CaseShape → Checked State
+define_program st from name shapes inputs output cases = do
+  _ ← may_declare st from
+  added_program st name shapes inputs output cases
+
 -- ---- assumptions and assertions
 
 -- the name is free, the formula is one, and it is asserted
@@ -172,21 +200,22 @@ assert st s = do
 
 -- ---- each command
 
-abbrev pub by_command : State → Command → Checked State
-by_command st (DeclareConst name type shape) = declare_const st name type shape
-by_command st (DeclareFun name inputs output) = declare_fun st name inputs output
-by_command st (DeclareSort name arity) = declare_sort st name arity
-by_command st (DeclareParameterized name shapes type shape) = declare_parameterized st name shapes type shape
-by_command st (DeclareLiterals class type) = declare_literals st class type
-by_command st (Define name shapes body) = define st name shapes body
-by_command st (Assume name s) = assume st name s
-by_command st (Assert s) = assert st s
+abbrev pub by_command : State → Origin → Command → Checked State
+by_command st from (DeclareConst name type shape) = declare_const st name type shape
+by_command st from (DeclareFun name inputs output) = declare_fun st name inputs output
+by_command st from (DeclareSort name arity) = declare_sort st name arity
+by_command st from (DeclareParameterized name shapes type shape) = declare_parameterized st name shapes type shape
+by_command st from (DeclareLiterals class type) = declare_literals st class type
+by_command st from (Define name shapes body) = define st name shapes body
+by_command st from (DefineProgram name shapes inputs output cases) = define_program st from name shapes inputs output cases
+by_command st from (Assume name s) = assume st name s
+by_command st from (Assert s) = assert st s
 
 -- its shape, and then the checks of its own
 unfoldable pub uncounted : State → Origin → Sexp → Checked State
 uncounted st from s = do
   command ← command_of (is_in_reference from) s
-  by_command st command
+  by_command st from command
 
 -- One command, which is counted where it is accepted.
 unfoldable pub step : State → Origin → Sexp → Checked State

@@ -10,6 +10,12 @@ use Rattle.eo_sig.specs.declared.refused.SigRefused.{SigRefused}
 use Rattle.eo_sig.specs.declared.refused.SigRefused.TheVariants as sig
 use Rattle.eo_type.specs.declared.refused.TypeRefused.{TypeRefused}
 use Rattle.eo_type.specs.declared.refused.TypeRefused.TheVariants as kind
+use Rattle.eo_eval.specs.declared.evaluator.EvalRefused.{EvalRefused}
+use Rattle.eo_eval.specs.declared.evaluator.EvalRefused.TheVariants as eval
+use Rattle.eo_eval.specs.declared.evaluator.Outcome as code_outcome
+use Rattle.eo_eval.specs.Faults.{value_or_fault}
+use Rattle.eo_eval.specs.Outcomes.{MayBeValue}
+use Rattle.eo_eval.specs.Reading.{outcome_in}
 use Rattle.eo_term.specs.Growth.{tree_in}
 use Rattle.eo_term.specs.Tree.{Tree, Con, tree_eq}
 use Rattle.eo_run.specs.State.{State}
@@ -50,6 +56,10 @@ of_type kind.NumberRange = refused.Fault fault.NumberRange
 of_type kind.Tall = refused.Fault fault.TermHeight
 of_type (kind.Memory e) = refused.Memory e
 
+-- want of memory to evaluate a term
+abbrev pub of_eval : EvalRefused → Refused
+of_eval (eval.Memory e) = refused.Memory e
+
 -- the fault that a refusal tells; want of memory tells none, nor does an ended session
 abbrev pub told : Refused → Option FaultName
 told (refused.Fault name) = Some name
@@ -70,6 +80,10 @@ Refuses m e = Tells told e m × IsOfCommand e
 abbrev pub GivesTerm : Held → Result ℕ Refused → Checked Tree → Type 0
 GivesTerm h (Ok i) m = IsGiven (λ (i : ℕ). i < length h.table.trees) (tree_in h.table) m i
 GivesTerm h (Err e) m = Refuses m e
+
+-- the value with which an evaluation ended, or the fault that it ended with none
+abbrev pub GivesValue : code_outcome.Outcome → Result ℕ Refused → Type 0
+GivesValue o r = (h : Held) → MayBeValue h.table o → GivesTerm h r (value_or_fault (outcome_in h.table.trees o))
 
 -- a type was found, and whether it is the constant of this number
 abbrev pub GivesKind : ℕ → Result Bool Refused → Checked Tree → Type 0

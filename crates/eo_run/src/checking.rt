@@ -19,9 +19,9 @@ const PIECE: usize = 65_536;
 /// Checks the job's proof against its reference file.
 ///
 /// The reference file holds `(assert S)` alone, S being `true` or `false`, and the proof declares
-/// constants, types of literals and macros, and assumes terms. Each file is read in pieces, and
-/// each command is checked as it comes: first those of the reference file, and then those of the
-/// proof.
+/// constants, types of literals, macros and programs, and assumes terms. Each file is read in
+/// pieces, and each command is checked as it comes: first those of the reference file, and then
+/// those of the proof.
 ///
 /// - `Refused` with `FileAbsent`, at a file's first byte: it is not there.
 /// - `Refused` with a fault of the text, at its place: `BadByte`, `Unclosed`, `ExtraClose`,

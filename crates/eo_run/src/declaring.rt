@@ -1,6 +1,7 @@
 //! Commands that declare.
-ghost use Rattle.std.specs.Prelude.{◌≡◌, ◌<◌, Some, List, length};
-ghost use Rattle.eo_sig.specs.Reading.{read_attribute, read_constant, read_macro, read_named, ConstBelow, MacroBelow, IsFree, IsWithin};
+ghost use Rattle.std.specs.Prelude.{◌≡◌, ◌<◌, Some, List, [], length, not, ◌&&◌};
+ghost use Rattle.eo_sig.specs.Reading.{read_attribute, read_constant, read_macro, read_program, read_named};
+ghost use Rattle.eo_sig.specs.Reading.{ConstBelow, MacroBelow, ProgramBelow, IsFree, IsWithin};
 ghost use Rattle.eo_shape.specs.Reading.{read_attribute as shape_of};
 ghost use Rattle.eo_term.specs.Tree.{Tree};
 ghost use Rattle.eo_term.specs.Growth.{tree_in};
@@ -8,18 +9,19 @@ ghost use Rattle.eo_elab.specs.Declaring.{MayRepeat, MayBeMacro};
 ghost use Rattle.eo_elab.specs.Worlds.{context_in};
 ghost use Rattle.eo_run.specs.Held.{state_of, IsWhole};
 ghost use Rattle.eo_run.specs.Step as step;
-ghost use Rattle.eo_run.specs.Step.{declare_parameterized as declared_over};
+ghost use Rattle.eo_run.specs.Step.{declare_parameterized as declared_over, define_program, added_program, is_in_proof};
 ghost use Rattle.eo_run.specs.Stepping.{Does};
 
-use crate::Refused;
-use crate::held::{Held, TYPE_CONSTANT};
+use crate::held::Held;
+use crate::{Origin, Refused};
 use eo_base::FaultName;
 use eo_elab::{
-    declared_const, declared_fun, declared_literals, declared_parameterized, declared_sort, defined,
+    declared_const, declared_fun, declared_literals, declared_parameterized, declared_program,
+    declared_sort, defined,
 };
 use eo_sexp::{Children, Sexp};
-use eo_shape::{AttributeShape, ParameterShapes};
-use eo_sig::{Attribute, ConstDecl, Entry, LiteralClass, MacroDecl};
+use eo_shape::{AttributeShape, CaseShapes, ParameterShapes};
+use eo_sig::{Attribute, ConstDecl, Entry, LiteralClass, MacroDecl, ProgramDecl};
 use eo_term::Id;
 
 impl Held {
@@ -140,22 +142,83 @@ impl Held {
         self.add_macro(d)
     }
 
-    // A constant without parameters.
+    /// Defines a program. A closed proof may define none.
+    pub(crate) fn define_program(
+        &mut self,
+        from: Origin,
+        name: &[u8],
+        params: &ParameterShapes<'_>,
+        inputs: &Children<'_>,
+        output: &Sexp<'_>,
+        cases: &CaseShapes<'_>,
+    ) -> Result<(), Refused>
+        requires { IsWhole self.old }
+        ensures whole { IsWhole self.new }
+        ensures does { Does result (define_program (state_of self.old) from name.now params.now inputs.now output.now cases.now) self.new }
+    {
+        if !self.may_declare(from) {
+            return Err(Refused::Fault(FaultName::ProofDeclares));
+        }
+        self.declare_program(name, params, inputs, output, cases)
+    }
+
+    // Whether rules and programs may be declared there.
+    fn may_declare(&self, from: Origin) -> bool
+        ensures { result ≡ not ((state_of self.now).closed && is_in_proof from) }
+    {
+        !(self.closed && from.is_proof())
+    }
+
+    // Defines a program, which may be declared here.
+    fn declare_program(
+        &mut self,
+        name: &[u8],
+        params: &ParameterShapes<'_>,
+        inputs: &Children<'_>,
+        output: &Sexp<'_>,
+        cases: &CaseShapes<'_>,
+    ) -> Result<(), Refused>
+        requires { IsWhole self.old }
+        ensures whole { IsWhole self.new }
+        ensures does { Does result (added_program (state_of self.old) name.now params.now inputs.now output.now cases.now) self.new }
+    {
+        let d = declared_program(
+            self.alloc,
+            name,
+            params,
+            inputs,
+            output,
+            cases,
+            &self.signature,
+            &mut self.table,
+        )?;
+        self.add_program(d)
+    }
+
+    // A program whose name is free.
+    fn add_program(&mut self, d: ProgramDecl) -> Result<(), Refused>
+        requires whole { IsWhole self.old }
+        requires below { ProgramBelow (length self.old.table.trees) d }
+        requires free { IsFree self.old.signature d.name }
+        ensures whole { IsWhole self.new }
+        ensures does { Does result (step.checked_program (state_of self.old) (read_program self.old.table.trees d)) self.new }
+    {
+        self.signature.add_program(&self.table, d)?;
+        Ok(())
+    }
+
+    // A constant without parameters, whose declared type is the value of its type.
     fn add_valued(&mut self, d: ConstDecl) -> Result<(), Refused>
         requires whole { IsWhole self.old }
         requires below { ConstBelow (length self.old.table.trees) d }
         requires may { MayRepeat (context_in self.old.table self.old.signature) (read_constant self.old.table.trees d) }
+        requires alone { d.params ≡ [] }
         ensures whole { IsWhole self.new }
         ensures does { Does result (step.typed_constant (state_of self.old) (read_constant self.old.table.trees d)) self.new }
     {
         d.laws();
-        if !self.table.is_value(d.ty) {
-            return Err(Refused::Fault(FaultName::Stuck));
-        }
-        if !self.has_kind(d.ty, TYPE_CONSTANT)? {
-            return Err(Refused::Fault(FaultName::IllTyped));
-        }
-        self.add_or_repeat(d)
+        let ty = self.type_value(d.ty)?;
+        self.add_or_repeat(ConstDecl { ty, ..d })
     }
 
     // A constant without parameters, or one of the reference file that it repeats.

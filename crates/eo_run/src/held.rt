@@ -1,11 +1,12 @@
 //! What a session holds between two commands.
-ghost use Rattle.std.specs.Prelude.{◌≡◌, ◌<◌, Ok, not, if◌then◌else◌, length, IfOk, IfErr};
+ghost use Rattle.std.specs.Prelude.{◌≡◌, ◌<◌, [], Ok, not, if◌then◌else◌, length, IfOk, IfErr};
 ghost use Rattle.eo_term.specs.Tree.{truth as tree_of_truth};
 ghost use Rattle.eo_term.specs.Growth.{tree_in};
+ghost use Rattle.eo_elab.specs.Meaning.{meaning};
 ghost use Rattle.eo_type.specs.Known.{type_at};
 ghost use Rattle.eo_type.specs.Outcomes.{Answers};
 ghost use Rattle.eo_run.specs.Held.{state_of, IsWhole, Keeps};
-ghost use Rattle.eo_run.specs.State.{first_state, is_asserted, has_false, with_assertion};
+ghost use Rattle.eo_run.specs.State.{first_state, context, is_asserted, has_false, with_assertion};
 ghost use Rattle.eo_run.specs.Step.{is_free_fact, value, typed, formula, assume as assumed, assert as asserted, asserted_truth};
 ghost use Rattle.eo_run.specs.Stepping.{GivesTerm, GivesKind, Does};
 
@@ -14,6 +15,7 @@ use crate::assertions::Assertions;
 use crate::facts::Facts;
 use eo_base::FaultName;
 use eo_elab::{Locals, term};
+use eo_eval::Evaluator;
 use eo_sexp::Sexp;
 use eo_shape::symbol;
 use eo_sig::{Signature, is_reserved};
@@ -35,6 +37,7 @@ pub(crate) struct Held {
     pub(crate) signature: Signature,
     /// The types that were found.
     pub(crate) types: Types,
+    pub(crate) evaluator: Evaluator,
     /// What the reference file asserts.
     pub(crate) assertions: Assertions,
     /// Whether there is a reference file.
@@ -55,12 +58,14 @@ impl Held {
         let table = Table::new(alloc)?;
         let signature = Signature::new(alloc)?;
         let types = Types::new(alloc)?;
+        let evaluator = Evaluator::new(alloc)?;
         types.laws();
         Ok(Held {
             alloc,
             table,
             signature,
             types,
+            evaluator,
             assertions: Assertions::new(alloc),
             has_reference: false,
             facts: Facts::new(alloc),
@@ -178,17 +183,24 @@ impl Held {
         ty
     }
 
-    // The value of a term.
+    // The value of what a term means.
     fn value(&mut self, s: &Sexp<'_>) -> Result<Id, Refused>
         requires { IsWhole self.old }
         ensures gives { GivesTerm self.new result (value (state_of self.old) s.now) }
         ensures keeps { Keeps self.old self.new }
     {
+        let id = self.meant(s)?;
+        self.evaluate(id)
+    }
+
+    // What a term means.
+    fn meant(&mut self, s: &Sexp<'_>) -> Result<Id, Refused>
+        requires { IsWhole self.old }
+        ensures gives { GivesTerm self.new result (meaning (context (state_of self.old)) [] s.now) }
+        ensures keeps { Keeps self.old self.new }
+    {
         let locals = Locals::new(self.alloc)?;
         let id = term(self.alloc, s, &locals, &self.signature, &mut self.table)?;
-        if !self.table.is_value(id) {
-            return Err(Refused::Fault(FaultName::Stuck));
-        }
         Ok(id)
     }
 }

@@ -1,12 +1,13 @@
 //! One check, from the files to the verdict and the line that is printed of it.
 //!
 //! A check has a reference file of assertions of `true` or `false`, and a proof that declares
-//! constants and macros and assumes terms.
+//! constants, macros and programs and assumes terms, which are evaluated.
 #![tactic(auto)]
 
 mod assertions;
 mod checking;
 mod declaring;
+mod evaluating;
 mod facts;
 mod held;
 mod printing;

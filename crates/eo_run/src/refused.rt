@@ -1,6 +1,7 @@
 //! Why a command is not accepted.
 use eo_base::FaultName;
 use eo_elab::ElabRefused;
+use eo_eval::EvalRefused;
 use eo_shape::ShapeRefused;
 use eo_sig::SigRefused;
 use eo_type::TypeRefused;
@@ -87,6 +88,19 @@ impl From<SigRefused> for Refused {
             SigRefused::BadPattern => Refused::Fault(FaultName::BadPattern),
             SigRefused::UnboundParam => Refused::Fault(FaultName::UnboundParam),
             SigRefused::Memory(e) => Refused::Memory(e),
+        }
+    }
+}
+
+impl From<EvalRefused> for Refused {
+    ghost use Rattle.std.specs.Prelude.{◌≡◌};
+    ghost use Rattle.eo_run.specs.Stepping.{of_eval};
+
+    ghost from_gives = { λ e r. r ≡ of_eval e };
+
+    fn from(e: EvalRefused) -> Refused {
+        match e {
+            EvalRefused::Memory(e) => Refused::Memory(e),
         }
     }
 }

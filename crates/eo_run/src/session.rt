@@ -101,21 +101,33 @@ impl Session {
     /// Checks a command, and does what it says. A fault is that of the command's shape
     /// (`BadCommand`, `UnknownCommand`), and then the first of its own checks, in this order:
     ///
-    /// - `declare-const`, `declare-fun`, `declare-sort`: `Redeclared`; the terms; `BadPattern`;
-    ///   `Stuck`: the type holds an operator; `IllTyped`: its type is not `Type`, or `NumberRange`,
-    ///   `TermHeight`; `Redeclared`: another constant than that of the reference file.
+    /// - `declare-const`, `declare-fun`, `declare-sort`: `Redeclared`; the terms; `BadPattern`; the
+    ///   evaluation of the type, whose value is what is declared; `IllTyped`: the type of the value
+    ///   is not `Type`, or `NumberRange`, `TermHeight`; `Redeclared`: another constant than that of
+    ///   the reference file.
     /// - `declare-parameterized-const`: `Redeclared`; `Parameters`; the terms; `TermHeight`;
     ///   `BadPattern`; `UnboundParam`.
     /// - `declare-consts`: `Redeclared`: the class has a type; the term; `BadPattern`.
     /// - `define`: `Redeclared`; `Parameters`; the terms; `Redeclared`: another macro than that of
     ///   the reference file.
-    /// - `assume`: `Redeclared`: a fact has the name, or it is reserved; the term; `Stuck`: it holds
-    ///   an operator; `IllTyped`, `NumberRange`, `TermHeight`: it has no type that is a value;
-    ///   `NotBool`: its type is not `Bool`; `NoReference`; `NotAsserted`.
+    /// - `program`: `ProofDeclares`: the session is closed, and the command stands in the proof;
+    ///   `Redeclared`; `Parameters`; the terms; `BadPattern`: a pattern holds an operator;
+    ///   `UnboundParam`: a body uses a parameter that the patterns of its case lack.
+    /// - `assume`: `Redeclared`: a fact has the name, or it is reserved; the term; its evaluation,
+    ///   whose value is the formula; `IllTyped`, `NumberRange`, `TermHeight`: it has no type that is
+    ///   a value; `NotBool`: its type is not `Bool`; `NoReference`; `NotAsserted`.
     /// - `assert`: `UnknownSymbol`: it is neither `true` nor `false`.
     ///
-    /// The faults of a term are those that [`eo_elab::term`] answers. `Ended`: an earlier call was
-    /// refused. `Memory`: want of memory.
+    /// The faults of a term are those that [`eo_elab::term`] answers. An evaluation has one fault,
+    /// which says how it ends ([`eo_eval::Evaluator::evaluate`]):
+    ///
+    /// - `Stuck`: it has no value.
+    /// - `EvalDepth`: more than 1000 calls of programs are open at once.
+    /// - `EvalCalls`: more than 1,000,000 different calls are begun.
+    /// - `NumberRange`: a number is out of range.
+    /// - `TermHeight`: a term is too tall.
+    ///
+    /// `Ended`: an earlier call was refused. `Memory`: want of memory.
     pub fn command(&mut self, s: &Sexp<'_>, from: Origin) -> Result<(), Refused>
         ensures steps { Steps result (step self.old.state from s.now) self.old self.new }
         ensures present { result ≢ Err (Fault FileAbsent) }
@@ -165,14 +177,14 @@ fn run_command(held: &mut Held, s: &Sexp<'_>, from: Origin) -> Result<(), Refuse
     ensures does { Does result (uncounted (state_of held.old) from s.now) held.new }
 {
     let command = command_of(s, from.is_reference())?;
-    run_shape(held, &command)
+    run_shape(held, &command, from)
 }
 
 // Does what a command says.
-fn run_shape(held: &mut Held, command: &Command<'_>) -> Result<(), Refused>
+fn run_shape(held: &mut Held, command: &Command<'_>, from: Origin) -> Result<(), Refused>
     requires { IsWhole held.old }
     ensures whole { IsWhole held.new }
-    ensures does { Does result (by_command (state_of held.old) (read_command command.now)) held.new }
+    ensures does { Does result (by_command (state_of held.old) from (read_command command.now)) held.new }
 {
     match command {
         Command::DeclareConst {
@@ -194,6 +206,13 @@ fn run_shape(held: &mut Held, command: &Command<'_>) -> Result<(), Refused>
         } => held.declare_parameterized(name, params, ty, attribute),
         Command::DeclareLiterals { class, ty } => held.declare_literals(*class, ty),
         Command::Define { name, params, body } => held.define(name, params, body),
+        Command::Program {
+            name,
+            params,
+            inputs,
+            output,
+            cases,
+        } => held.define_program(from, name, params, inputs, output, cases),
         Command::Assume { name, formula } => held.assume(name, formula),
         Command::Assert { formula } => held.assert(formula),
     }

@@ -9,7 +9,7 @@ use Rattle.eo_sexp.proofs.Building.{slice-append}
 use Rattle.eo_base.specs.Limits.{Limits}
 use Rattle.eo_sexp.specs.declared.token.Token.{Token}
 use Rattle.eo_sexp.specs.declared.token.Token.TheVariants as token
-use Rattle.eo_sexp.specs.declared.reader.Place.TheVariants as place
+use Rattle.eo_sexp.specs.declared.reader.Position.TheVariants as position
 use Rattle.eo_sexp.specs.declared.reader.Reader.{Reader}
 use Rattle.eo_sexp.specs.declared.reader.ReaderTurn.{ReaderTurn}
 use Rattle.eo_sexp.specs.declared.reader.ReaderTurn.TheVariants as turn
@@ -24,7 +24,7 @@ use Rattle.eo_sexp.specs.Reader.{held, IsAtom, reading, IsReader, AddsChild, ato
 use Rattle.eo_sexp.proofs.RunSteps.{line_feeds, runs-none, runs-one, runs-on, runs-trans}
 use Rattle.eo_sexp.proofs.TokenRuns.{token-runs}
 use Rattle.eo_sexp.proofs.TokenBegins.{word_begins, bar_begins, quote_begins}
-use Rattle.eo_sexp.proofs.TokenPlaces.{text-first, text-none}
+use Rattle.eo_sexp.proofs.TokenPositions.{text-first, text-none}
 use Rattle.eo_sexp.proofs.ReaderSteps.{turns-atom, turns-space, turns-ends, token-turned, stands-as, ended-reader}
 
 pub both-ok : {T E : Type 0} (r : Result T E) (A : Type 0) (P Q : T → Type 0) → ((t : T) → A → P t → Q t) → OnOk r A → IfOk r P → IfOk r Q
@@ -56,7 +56,7 @@ no-feed x h = let other : (x == 10) ≡ false = grind (arith, h) in ap (λ b. (i
 
 -- in the token that begins at this byte
 abbrev pub in_token : Token → (from : ℕ) → Reader
-in_token t from = record { place = place.Token t; from = from }
+in_token t from = record { position = position.Token t; from = from }
 
 first-atom : (t : Token) → IsAtom (token_class t)
 first-atom token.Word = tt
@@ -143,7 +143,7 @@ module _ (limits : Limits) (some : 1 ≤ limits.token) where
         ∙ ap (λ k. Atom (kind_of (drop (length b.bytes + 0) c.bytes)) (drop (length b.bytes + 0) c.bytes) (record { from = k; to = at + n })) (sym size)
         ∙ ap (λ k. Atom (kind_of (drop (length b.bytes + 0) c.bytes)) (drop (length b.bytes + 0) c.bytes) (record { from = length b.bytes; to = k })) (sym word_long) in
         let new : d ≡ with_child c word_child = atom ∙ ap (with_child c) same_child in
-        let within : 0 < length b.open_lists = stands-as limits (held b r) (length b.bytes) place.Gap f.gap h in
+        let within : 0 < length b.open_lists = stands-as limits (held b r) (length b.bytes) position.Gap f.gap h in
         let lists : length (with_child c word_child).open_lists ≡ length b.open_lists = child-lists c word_child ∙ ap (λ (v : Built). length v.open_lists) same in
         subst (λ (v : Built). AddsChild limits c word_child v false) (sym new) (adds-inner limits c word_child (omega (arith, within, lists)))
 

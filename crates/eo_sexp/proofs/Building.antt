@@ -12,7 +12,7 @@ use Rattle.eo_sexp.specs.declared.lent.Node.{Node}
 use Rattle.eo_sexp.specs.declared.lent.Node.TheVariants as node
 use Rattle.eo_sexp.specs.declared.buffer.Open.{Open}
 use Rattle.eo_sexp.specs.Nodes.{trees, token_text, AreLinked, HasText, Holds, IsSexp, first_tree, first_of}
-use Rattle.eo_sexp.specs.Built.{OpenList, Built, with_child, closed, opened, parts_in, parts_of}
+use Rattle.eo_sexp.specs.Built.{OpenList, Built, with_child, closed, parts_in, parts_of}
 use Rattle.eo_sexp.specs.Buffers.{open_lists, outside, built, AreOpen, counted}
 use Rattle.eo_sexp.specs.Sizes.{size_of_all}
 use Rattle.eo_sexp.proofs.Sizes.{size-split}
@@ -124,13 +124,6 @@ list-closed-open bytes ns o os i to h e =
     (whole-linked bytes more o.children i o.at to h.0.linked h.0.many size) (whole-tree bytes more o.children i o.at to h.0.many))
 
 -- ---- a list that is opened
-
-pub list-opened : (bytes : List ℕ) (ns : List Node) (n : Node) (os : List Open) (at : ℕ) →
-    built bytes (ns ++ n ∷ []) (record { at = at; node = length ns; children = 0 } ∷ os) ≡ opened (built bytes ns os) at
-list-opened bytes ns n os at =
-    let none : drop (length ns + 1) (ns ++ n ∷ []) ≡ [] = drop_of_length-le (ns ++ n ∷ []) {i = length ns + 1} (omega (arith, length-append ns (n ∷ []))) in
-    ap (λ (ms : List Node). record { bytes = bytes; open_lists = record { at = at; children = trees bytes (drop (length ns + 1) (ns ++ n ∷ [])) } ∷ open_lists bytes ms os; done = outside bytes ms os }) (take-append_seam ns (n ∷ []))
-    ∙ ap (λ (ms : List Node). record { bytes = bytes; open_lists = record { at = at; children = trees bytes ms } ∷ open_lists bytes ns os; done = outside bytes ns os }) none
 
 pub list-opened-open : (bytes : List ℕ) (ns : List Node) (n : Node) (os : List Open) (at : ℕ) → AreOpen bytes ns os → AreOpen bytes (ns ++ n ∷ []) (record { at = at; node = length ns; children = 0 } ∷ os)
 list-opened-open bytes ns n os at h =

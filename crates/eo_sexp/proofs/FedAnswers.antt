@@ -11,7 +11,7 @@ use Rattle.eo_sexp.specs.declared.incremental.State.TheVariants as state
 use Rattle.eo_sexp.specs.declared.incremental.Machine.{Machine}
 use Rattle.eo_sexp.specs.Built.{Built, nothing}
 use Rattle.eo_sexp.specs.Texts.{Phase, spot_after}
-use Rattle.eo_sexp.specs.Collecting.{Collecting, Within, AtCommand, Failed, NoMemory, here_of, start_of, IsWithin, IsLive, ready, fed_from, fed_with, fed_answer, HasNoFault, HasRoom, Feeds}
+use Rattle.eo_sexp.specs.Collecting.{Collecting, Within, AtCommand, Failed, NoMemory, here_of, IsWithin, IsLive, ready, fed_from, fed_with, fed_answer, HasNoFault, HasRoom, Feeds}
 use Rattle.eo_sexp.specs.Machine.{phase_of, meaning_at, meaning, IsPlaced, IsSoundAt, IsSound, TakesByte, TakesBytes, answer_at, answer_of, FeedsByte, GoesOver, StopsIn}
 use Rattle.eo_sexp.proofs.Feeding.{joins_pieces}
 use Rattle.eo_sexp.proofs.Counting.{counts_pieces}
@@ -30,17 +30,6 @@ here-at state.NoMemory m s h = absurd h
 
 pub here-of : (m : Machine) → IsSound m → IsLive (meaning m) → here_of (meaning m) ≡ m.here
 here-of m s h = here-at m.state m s h
-
-start-at : (q : State) (m : Machine) → IsLive (meaning_at q (phase_of m.phase) m.start m.begun) → start_of (meaning_at q (phase_of m.phase) m.start m.begun) ≡ m.start
-start-at (state.Between c) m h = refl
-start-at state.Begun m h = refl
-start-at (state.Pair c) m h = refl
-start-at state.Command m h = refl
-start-at (state.Failed name at) m h = absurd h
-start-at state.NoMemory m h = absurd h
-
-pub start-of : (m : Machine) → IsLive (meaning m) → start_of (meaning m) ≡ m.start
-start-of m h = start-at m.state m h
 
 within-live : (c : Collecting) → IsWithin c → IsLive c
 within-live (Within phase comment start b) w = tt

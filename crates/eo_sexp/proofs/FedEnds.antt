@@ -15,21 +15,21 @@ use Rattle.eo_sexp.specs.declared.incremental.Machine.{Machine}
 use Rattle.eo_sexp.specs.Sexp.{Sexp, Atom}
 use Rattle.eo_sexp.specs.Lexicon.{class, is_space, is_word, kind_of, Input, pass}
 use Rattle.eo_sexp.specs.Commands.{Cut, at_most, front, span, word, word_before, atom, sexp, command}
-use Rattle.eo_sexp.specs.Texts.{Phase, Start, AfterUnsat, InPair, AfterPair, Plain, after, Command, End, settle, answer, so_far, next_from, decided, known, last_atom, end_of, is_unsat, begins_pair, from_front, placed, spot_after}
+use Rattle.eo_sexp.specs.Texts.{Phase, Start, AfterUnsat, InPair, AfterPair, Plain, after, Command, End, strip, answer, so_far, next_from, decided, known, last_atom, end_of, is_unsat, begins_pair, from_front, placed, spot_after}
 use Rattle.eo_sexp.specs.Collecting.{Collecting, Within, AtCommand, Failed, becomes, ready, finished_from, finished_with, finish_answer, Finishes}
 use Rattle.eo_sexp.specs.Nodes.{first_of}
 use Rattle.eo_sexp.specs.Reader.{held, reading, IsWhole}
 use Rattle.eo_sexp.specs.Machine.{phase_of, meaning_at, meaning, IsFirst, IsProofStart, IsPairFact, IsBegun, IsPlaced, Completes, Finishing}
 use Rattle.eo_sexp.proofs.TokenTurns.{at_most-cut}
-use Rattle.eo_sexp.proofs.FedBytes.{settle-first, answer-first, unsat-cut}
-use Rattle.eo_sexp.proofs.FedBetween.{settled-none}
+use Rattle.eo_sexp.proofs.FedBytes.{strip-first, answer-first, unsat-cut}
 use Rattle.eo_sexp.proofs.MachineSteps.{meaning-is, sound-is, here-start, pair-off, begun-meaning, begun-sound}
+use Rattle.eo_sexp.proofs.Wrappings.{stripped-none}
 
 -- ---- between two commands
 
 finished-none : (q : Phase) (c : Bool) (start : Spot) → finished_from limits (Within q c start []) ≡ becomes start [] (Within q c start []) (end_of q 0)
-unfolding finished_from next_from so_far settle pass answer from_front decided
-finished-none q c start = ap (λ h. becomes start [] (Within q c start []) (decided true 0 (answer limits h))) (settled-none limits q c 0)
+unfolding finished_from next_from so_far strip pass answer from_front decided
+finished-none q c start = ap (λ h. becomes start [] (Within q c start []) (decided true 0 (answer limits h))) (stripped-none limits q c 0)
 
 between-meaning : (m : Machine) (c : Bool) → m.state ≡ state.Between c → m.begun ≡ nothing → meaning m ≡ Within (phase_of m.phase) c m.start []
 between-meaning m c e b = meaning-is m (state.Between c) (phase_of m.phase) m.start nothing e refl refl b
@@ -96,13 +96,13 @@ module _ (m : Machine) (h : IsBegun m) (p : IsPairFact m.state (phase_of m.phase
   finished-cut e c =
       ap (finished_from limits) (begun-meaning m.state (phase_of m.phase) m.begun.bytes (phase_of m.phase) m.start m.begun p)
       ∙ ap (λ a. becomes m.start m.begun.bytes (Within (phase_of m.phase) false m.start m.begun.bytes) (decided true (length m.begun.bytes) a))
-      (go m.begun.bytes h.first (pair-off m.state (phase_of m.phase) m.begun.bytes h.first p) c)
+      (go m.begun.bytes h.first (pair-off m.state (phase_of m.phase) m.begun.bytes p) c)
     where
-      go : (bytes : List ℕ) → IsFirst (front bytes) → (IsProofStart (phase_of m.phase) → begins_pair limits (front bytes) (record { at = 0; bytes = bytes }) ≡ false) → command limits bytes ≡ Cut e →
-          answer limits (settle limits (phase_of m.phase) false (record { at = 0; bytes = bytes })) ≡ known (phase_of m.phase) (record { at = 0; bytes = bytes }) (Cut e)
+      go : (bytes : List ℕ) → IsFirst (front bytes) → (IsProofStart (phase_of m.phase) → begins_pair limits (record { at = 0; bytes = bytes }) ≡ false) → command limits bytes ≡ Cut e →
+          answer limits (strip limits (phase_of m.phase) false (record { at = 0; bytes = bytes })) ≡ known (phase_of m.phase) (record { at = 0; bytes = bytes }) (Cut e)
       go [] f o c = absurd f
       go (y ∷ zs) f o c =
-          ap (answer limits) (settle-first limits y zs f (phase_of m.phase) h.inside o (λ q. ap (is_unsat (class y) (y ∷ zs)) c ∙ unsat-cut limits (class y) (y ∷ zs) e))
+          ap (answer limits) (strip-first limits y zs f (phase_of m.phase) h.inside o (λ q. ap (is_unsat (y ∷ zs)) c ∙ unsat-cut limits (y ∷ zs) e))
           ∙ answer-first limits y zs f (phase_of m.phase) h.inside ∙ ap (known (phase_of m.phase) (record { at = 0; bytes = y ∷ zs })) c
 
   -- something is open

@@ -11,9 +11,9 @@ use Rattle.eo_sexp.specs.declared.incremental.Machine.{Machine}
 use Rattle.eo_sexp.specs.Sexp.{Sexp}
 use Rattle.eo_sexp.specs.Built.{Built, nothing}
 use Rattle.eo_sexp.specs.Reader.{held}
-use Rattle.eo_sexp.specs.Lexicon.{class, pass}
+use Rattle.eo_sexp.specs.Lexicon.{pass}
 use Rattle.eo_sexp.specs.Commands.{Cut, at_most, front, sexp, command}
-use Rattle.eo_sexp.specs.Texts.{Next, Command, End, Fault, SoFar, Known, More, settle, answer, so_far, known, begins_pair, from_front, placed, spot_after}
+use Rattle.eo_sexp.specs.Texts.{Next, Command, End, Fault, SoFar, Known, More, strip, answer, so_far, known, begins_pair, from_front, placed, spot_after}
 use Rattle.eo_sexp.specs.Collecting.{Collecting, Within, AtCommand, Failed, NoMemory, IsWithin, becomes, waiting, on_more, fed_from}
 use Rattle.eo_sexp.specs.Machine.{phase_of, meaning_at, meaning, IsFirst, IsProofStart, IsPairFact, IsBegun, IsSoundAt, IsSound}
 use Rattle.eo_sexp.proofs.LimitFacts.{some_nesting}
@@ -23,8 +23,8 @@ use Rattle.eo_sexp.proofs.Feeding.{state_of}
 use Rattle.eo_sexp.proofs.ReaderSteps.{reader-cut}
 use Rattle.eo_sexp.proofs.TokenTurns.{at_most-cut}
 use Rattle.eo_sexp.proofs.FedBytes.{begun, fed-first, on-cut, unsat-cut}
-use Rattle.eo_sexp.proofs.FedBetween.{settled-none}
 use Rattle.eo_sexp.proofs.MachineSteps.{pair-off, begun-meaning}
+use Rattle.eo_sexp.proofs.Wrappings.{stripped-none}
 
 -- ---- an answer stays, whatever follows
 
@@ -46,20 +46,20 @@ unfolding fed_from on_more waiting so_far state_of
 fed-stays (AtCommand k phase) p q n = refl
 fed-stays (Failed name at) p q n = refl
 fed-stays NoMemory p q n = refl
-fed-stays (Within phase comment start b) p q n = go (answer limits (settle limits phase comment (record { at = 0; bytes = b ++ p }))) refl n
+fed-stays (Within phase comment start b) p q n = go (answer limits (strip limits phase comment (record { at = 0; bytes = b ++ p }))) refl n
   where
-    go : (a : SoFar) → answer limits (settle limits phase comment (record { at = 0; bytes = b ++ p })) ≡ a →
-        (IsWithin (on_more start (b ++ p) (settle limits phase comment (record { at = 0; bytes = b ++ p })) (answer limits (settle limits phase comment (record { at = 0; bytes = b ++ p })))) → ⊥) →
-        state_of limits start (b ++ (p ++ q)) (settle limits phase comment (record { at = 0; bytes = b ++ (p ++ q) }))
-        ≡ on_more start (b ++ p) (settle limits phase comment (record { at = 0; bytes = b ++ p })) (answer limits (settle limits phase comment (record { at = 0; bytes = b ++ p })))
-    go (More e) f w = absurd (w (subst (λ a. IsWithin (on_more start (b ++ p) (settle limits phase comment (record { at = 0; bytes = b ++ p })) a)) (sym f) tt))
+    go : (a : SoFar) → answer limits (strip limits phase comment (record { at = 0; bytes = b ++ p })) ≡ a →
+        (IsWithin (on_more start (b ++ p) (strip limits phase comment (record { at = 0; bytes = b ++ p })) (answer limits (strip limits phase comment (record { at = 0; bytes = b ++ p })))) → ⊥) →
+        state_of limits start (b ++ (p ++ q)) (strip limits phase comment (record { at = 0; bytes = b ++ (p ++ q) }))
+        ≡ on_more start (b ++ p) (strip limits phase comment (record { at = 0; bytes = b ++ p })) (answer limits (strip limits phase comment (record { at = 0; bytes = b ++ p })))
+    go (More e) f w = absurd (w (subst (λ a. IsWithin (on_more start (b ++ p) (strip limits phase comment (record { at = 0; bytes = b ++ p })) a)) (sym f) tt))
     go (Known n) f w =
         let on = answer-extends limits some_nesting phase comment 0 (b ++ p) q n f in
         let bound : IsIn (length (b ++ p)) n = subst (HasBounds (length (b ++ p))) f (answer-bounds limits phase comment (b ++ p)) in
-        ap (λ bs. state_of limits start bs (settle limits phase comment (record { at = 0; bytes = bs }))) (sym (append_assoc b p q))
-        ∙ ap (on_more start ((b ++ p) ++ q) (settle limits phase comment (record { at = 0; bytes = (b ++ p) ++ q }))) on.1
-        ∙ becomes-more start (b ++ p) q _ (waiting start (b ++ p) (settle limits phase comment (record { at = 0; bytes = b ++ p }))) n bound
-        ∙ ap (on_more start (b ++ p) (settle limits phase comment (record { at = 0; bytes = b ++ p }))) (sym f)
+        ap (λ bs. state_of limits start bs (strip limits phase comment (record { at = 0; bytes = bs }))) (sym (append_assoc b p q))
+        ∙ ap (on_more start ((b ++ p) ++ q) (strip limits phase comment (record { at = 0; bytes = (b ++ p) ++ q }))) on.1
+        ∙ becomes-more start (b ++ p) q _ (waiting start (b ++ p) (strip limits phase comment (record { at = 0; bytes = b ++ p }))) n bound
+        ∙ ap (on_more start (b ++ p) (strip limits phase comment (record { at = 0; bytes = b ++ p }))) (sym f)
 
 -- ---- nothing fed changes nothing
 
@@ -82,21 +82,21 @@ unfolding front
 idle-begun m h p =
     let c = begun-cut m h in
     ap (λ v. fed_from limits v []) (begun-meaning m.state (phase_of m.phase) m.begun.bytes (phase_of m.phase) m.start m.begun p)
-    ∙ go m.begun.bytes refl h.first (pair-off m.state (phase_of m.phase) m.begun.bytes h.first p) c.2
+    ∙ go m.begun.bytes refl h.first (pair-off m.state (phase_of m.phase) m.begun.bytes p) c.2
     ∙ on-cut limits (phase_of m.phase) m.start m.begun.bytes c.0
     ∙ sym (begun-meaning m.state (phase_of m.phase) m.begun.bytes (phase_of m.phase) m.start m.begun p)
   where
-    go : (bytes : List ℕ) → m.begun.bytes ≡ bytes → IsFirst (front bytes) → (IsProofStart (phase_of m.phase) → begins_pair limits (front bytes) (record { at = 0; bytes = bytes }) ≡ false) →
+    go : (bytes : List ℕ) → m.begun.bytes ≡ bytes → IsFirst (front bytes) → (IsProofStart (phase_of m.phase) → begins_pair limits (record { at = 0; bytes = bytes }) ≡ false) →
         command limits bytes ≡ Cut (begun-cut m h).0 →
         fed_from limits (Within (phase_of m.phase) false m.start m.begun.bytes) [] ≡ on_more m.start bytes (begun (phase_of m.phase) bytes) (known (phase_of m.phase) (record { at = 0; bytes = bytes }) (Cut (begun-cut m h).0))
     go [] e f o c = absurd f
-    go (y ∷ zs) e f o c = fed-first limits y zs f (phase_of m.phase) m.start m.begun.bytes [] (Cut (begun-cut m h).0) (append-nil m.begun.bytes ∙ e) h.inside o c (λ q. unsat-cut limits (class y) (y ∷ zs) (begun-cut m h).0)
+    go (y ∷ zs) e f o c = fed-first limits y zs f (phase_of m.phase) m.start m.begun.bytes [] (Cut (begun-cut m h).0) (append-nil m.begun.bytes ∙ e) h.inside o c (λ q. unsat-cut limits (y ∷ zs) (begun-cut m h).0)
 
 idle-between : (m : Machine) (c : Bool) → m.begun ≡ nothing → fed_from limits (Within (phase_of m.phase) c m.start m.begun.bytes) [] ≡ Within (phase_of m.phase) c m.start m.begun.bytes
-unfolding fed_from settle pass on_more answer from_front waiting spot_after state_of
+unfolding fed_from strip pass on_more answer from_front waiting spot_after state_of
 idle-between m c b =
     ap (λ (v : Built). fed_from limits (Within (phase_of m.phase) c m.start v.bytes) []) b
-    ∙ ap (state_of limits m.start []) (settled-none limits (phase_of m.phase) c 0)
+    ∙ ap (state_of limits m.start []) (stripped-none limits (phase_of m.phase) c 0)
     ∙ ap (λ (v : Built). Within (phase_of m.phase) c m.start v.bytes) (sym b)
 
 pub idle : (m : Machine) → IsSound m → IsWithin (meaning m) → fed_from limits (meaning m) [] ≡ meaning m

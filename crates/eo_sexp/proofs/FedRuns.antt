@@ -12,9 +12,9 @@ use Rattle.eo_sexp.specs.declared.incremental.State.TheVariants as state
 use Rattle.eo_sexp.specs.declared.incremental.Machine.{Machine}
 use Rattle.eo_sexp.specs.Sexp.{Sexp}
 use Rattle.eo_sexp.specs.Built.{Built, nothing}
-use Rattle.eo_sexp.specs.Lexicon.{class, Input, pass}
+use Rattle.eo_sexp.specs.Lexicon.{Input, pass}
 use Rattle.eo_sexp.specs.Commands.{Cut, at_most, front, sexp, command}
-use Rattle.eo_sexp.specs.Texts.{Phase, Start, AfterUnsat, is_parenthesis, begins_pair, spot_after}
+use Rattle.eo_sexp.specs.Texts.{Phase, Start, AfterUnsat, begins_pair, spot_after, begins_one_of}
 use Rattle.eo_sexp.specs.Collecting.{Collecting, Within, IsWithin, ready, fed_from, fed_with}
 use Rattle.eo_sexp.specs.Reader.{held, RunsTo, StopsAt, Runs}
 use Rattle.eo_sexp.specs.Machine.{phase_of, meaning_at, meaning, IsProofStart, IsFirst, IsPairFact, IsBegun, IsSoundAt, IsSound, TakesByte, TakesBytes, Turned, Lengthens, Completes, ClosesCommand, earlier_fault}
@@ -61,8 +61,8 @@ module _ (old mid new : Machine) (x : ℕ) (h : Turned old turn.Before x mid) wh
 pub begun-runs : (q : Phase) (b xs : List ℕ) → IsFirst (front b) → IsPairFact state.Begun q b → IsPairFact state.Begun q (b ++ xs)
 begun-runs q b xs h f = λ i o more.
     let some : 0 < length b = first-some b h in
-    ap (λ bs. is_parenthesis (front (pass false 1 (bs ++ more)).rest.bytes)) (drop-front b xs some)
-    ∙ ap (λ bs. is_parenthesis (front (pass false 1 bs).rest.bytes)) (append_assoc (drop 1 b) xs more)
+    ap (λ bs. begins_one_of (codes "()") (pass false 1 (bs ++ more)).rest.bytes) (drop-front b xs some)
+    ∙ ap (λ bs. begins_one_of (codes "()") (pass false 1 bs).rest.bytes) (append_assoc (drop 1 b) xs more)
     ∙ f i (sym (front-append b xs some) ∙ o) (xs ++ more)
 
 module _ (old new : Machine) (rest : List ℕ) (n k : ℕ) (e : old.state ≡ state.Begun) (sound : IsSound old) (run : RunsTo limits old.begun old.reader rest n k new.begun new.reader) where
@@ -92,14 +92,14 @@ module _ (old new : Machine) (rest : List ℕ) (n k : ℕ) (e : old.state ≡ st
 
   fed : fed_from limits (Within (phase_of old.phase) false old.start old.begun.bytes) (take n rest) ≡ Within (phase_of old.phase) false old.start (old.begun.bytes ++ (take n rest))
   unfolding front
-  fed = go (old.begun.bytes ++ (take n rest)) refl first-all (pair-off state.Begun (phase_of old.phase) (old.begun.bytes ++ (take n rest)) first-all pair-all) cut.1
+  fed = go (old.begun.bytes ++ (take n rest)) refl first-all (pair-off state.Begun (phase_of old.phase) (old.begun.bytes ++ (take n rest)) pair-all) cut.1
     where
-      go : (bytes : List ℕ) → old.begun.bytes ++ (take n rest) ≡ bytes → IsFirst (front bytes) → (IsProofStart (phase_of old.phase) → begins_pair limits (front bytes) (record { at = 0; bytes = bytes }) ≡ false) →
+      go : (bytes : List ℕ) → old.begun.bytes ++ (take n rest) ≡ bytes → IsFirst (front bytes) → (IsProofStart (phase_of old.phase) → begins_pair limits (record { at = 0; bytes = bytes }) ≡ false) →
           command limits bytes ≡ Cut cut.0 →
           fed_from limits (Within (phase_of old.phase) false old.start old.begun.bytes) (take n rest) ≡ Within (phase_of old.phase) false old.start bytes
       go [] f g o c = absurd g
       go (y ∷ zs) f g o c =
-          fed-first limits y zs g (phase_of old.phase) old.start old.begun.bytes (take n rest) (Cut cut.0) f (parts.0).inside o c (λ s. unsat-cut limits (class y) (y ∷ zs) cut.0)
+          fed-first limits y zs g (phase_of old.phase) old.start old.begun.bytes (take n rest) (Cut cut.0) f (parts.0).inside o c (λ s. unsat-cut limits (y ∷ zs) cut.0)
           ∙ on-cut limits (phase_of old.phase) old.start (y ∷ zs) cut.0
 
   pub takes-run : new.state ≡ old.state → new.start ≡ old.start → new.phase ≡ old.phase → new.here ≡ record { line = old.here.line + k; offset = old.here.offset + n } → TakesBytes old (take n rest) new

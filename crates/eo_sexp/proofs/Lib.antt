@@ -6,7 +6,9 @@ pub mod Joined
 pub mod Passing
 pub mod Reach
 pub mod Resuming
-pub mod Settled
+pub mod Parentheses
+pub mod Wrappings
+pub mod Stripped
 pub mod Steady
 pub mod Whole
 pub mod Telling
@@ -31,7 +33,7 @@ pub mod Naming
 pub mod Parts
 pub mod Building
 pub mod ChildCounts
-pub mod TokenPlaces
+pub mod TokenPositions
 pub mod Sizes
 pub mod RunSteps
 pub mod FedRuns

@@ -1,5 +1,5 @@
 -- The limits that the product has leave room for something.
-use Rattle.std.proofs.Common.{◌≡◌, refl, ◌≤◌, ◌<◌, arith}
+use Rattle.std.proofs.Common.{◌≡◌, refl, ◌≤◌, arith}
 use Rattle.eo_base.specs.Limits.{limits}
 
 pub some_nesting : 1 ≤ limits.nesting
@@ -13,10 +13,6 @@ some_token = omega arith
 pub some_command : 1 ≤ limits.command
 unfolding limits
 some_command = omega arith
-
-pub token_fits : limits.token < limits.command
-unfolding limits
-token_fits = omega arith
 
 pub nesting_is : limits.nesting ≡ 512
 unfolding limits

@@ -14,9 +14,9 @@ use Rattle.eo_sexp.specs.declared.incremental.State.{State}
 use Rattle.eo_sexp.specs.declared.incremental.State.TheVariants as state
 use Rattle.eo_sexp.specs.declared.incremental.Machine.{Machine}
 use Rattle.eo_sexp.specs.Sexp.{Sexp}
-use Rattle.eo_sexp.specs.Lexicon.{Class, Open, Quote, Bar, Word, class, is_space, is_word, Input, Passed, pass, skip, advance}
+use Rattle.eo_sexp.specs.Lexicon.{Class, Open, Quote, Bar, Word, class, is_space, is_word, Input, Passed, pass, advance, is_one_of, Close}
 use Rattle.eo_sexp.specs.Commands.{Reading, Whole, Refused, Cut, at_most, front, word, word_before, atom, sexp, command}
-use Rattle.eo_sexp.specs.Texts.{Phase, Start, AfterUnsat, InPair, AfterPair, after, is_parenthesis, is_unsat, begins_pair, known, spot_after, next_spot}
+use Rattle.eo_sexp.specs.Texts.{Phase, Start, AfterUnsat, InPair, AfterPair, after, is_unsat, begins_pair, known, spot_after, next_spot, begins_one_of, behind}
 use Rattle.eo_sexp.specs.Collecting.{Within, AtCommand, Failed, fed_from, on_more}
 use Rattle.eo_sexp.specs.declared.classes.Class.{Class as ByteClass}
 use Rattle.eo_sexp.specs.declared.classes.Class.TheVariants as byte
@@ -35,6 +35,8 @@ use Rattle.eo_sexp.proofs.Feeding.{spot_after-append, spot_after-line}
 use Rattle.eo_sexp.proofs.ReaderSteps.{reader-cut}
 use Rattle.eo_sexp.proofs.CommandTurns.{front-append, command-goes, command-over, command-whole, command-whole-over, command-fault}
 use Rattle.eo_sexp.proofs.FedBytes.{begun, fed-first, on-whole, on-refused, on-cut, unsat-cut, unsat-refused, unsat-other}
+use Rattle.eo_sexp.proofs.Parentheses.{paren-byte, no-paren, pair-front}
+use Rattle.eo_sexp.proofs.Answered.{and-false}
 
 -- ---- what a machine stands for
 
@@ -102,28 +104,27 @@ takes-from old mid new x e h = record { sound = h.sound; meant = h.meant ∙ sym
 and-none : (b c : Bool) → b ≡ false → (b && c) ≡ false
 and-none b c e = ap (λ q. q && c) e
 
-open-off : (bytes : List ℕ) → front bytes ≡ Open → is_parenthesis (front (pass false 1 (drop 1 bytes ++ [])).rest.bytes) ≡ false → begins_pair limits Open (record { at = 0; bytes = bytes }) ≡ false
-unfolding begins_pair skip advance
-open-off bytes f e = and-none _ _ (ap (λ bs. is_parenthesis (front (pass false 1 bs).rest.bytes)) (sym (append-nil (drop 1 bytes))) ∙ e)
+open-off : (bytes : List ℕ) → begins_one_of (codes "()") (pass false 1 (drop 1 bytes ++ [])).rest.bytes ≡ false → begins_pair limits (record { at = 0; bytes = bytes }) ≡ false
+unfolding begins_pair behind advance
+open-off bytes e = and-false _ (and-none _ _ (ap (λ bs. begins_one_of (codes "()") (pass false 1 bs).rest.bytes) (sym (append-nil (drop 1 bytes))) ∙ e))
 
-closed-off : (c : Class) (t : Input) → IsFirst c → (c ≡ Open → begins_pair limits Open t ≡ false) → begins_pair limits c t ≡ false
-unfolding begins_pair
-closed-off Open t h o = o refl
-closed-off Quote t h o = refl
-closed-off Bar t h o = refl
-closed-off Word t h o = refl
-closed-off c t h o = absurd h
+closed-off : (t : Input) → (front t.bytes ≡ Open → begins_pair limits t ≡ false) → begins_pair limits t ≡ false
+closed-off t h = go (begins_pair limits t) refl
+  where
+    go : (b : Bool) → begins_pair limits t ≡ b → begins_pair limits t ≡ false
+    go true e = h (pair-front limits t e)
+    go false e = e
 
 -- a pair does not begin where these are all bytes
-pub pair-off : (s : State) (q : Phase) (bytes : List ℕ) → IsFirst (front bytes) → IsPairFact s q bytes → IsProofStart q → begins_pair limits (front bytes) (record { at = 0; bytes = bytes }) ≡ false
-unfolding pass front is_parenthesis
-pair-off state.Begun q bytes f p i = closed-off (front bytes) (record { at = 0; bytes = bytes }) f (λ o. open-off bytes o (p i o []))
-pair-off (state.Pair comment) q bytes f p i =
-    closed-off (front bytes) (record { at = 0; bytes = bytes }) f (λ o. open-off bytes o (ap (λ (u : Passed). is_parenthesis (front u.rest.bytes)) (p.2 [])))
-pair-off (state.Between comment) q bytes f p i = absurd p
-pair-off state.Command q bytes f p i = absurd p
-pair-off (state.Failed name at) q bytes f p i = absurd p
-pair-off state.NoMemory q bytes f p i = absurd p
+pub pair-off : (s : State) (q : Phase) (bytes : List ℕ) → IsPairFact s q bytes → IsProofStart q → begins_pair limits (record { at = 0; bytes = bytes }) ≡ false
+unfolding pass front begins_one_of
+pair-off state.Begun q bytes p i = closed-off (record { at = 0; bytes = bytes }) (λ o. open-off bytes (p i o []))
+pair-off (state.Pair comment) q bytes p i =
+    closed-off (record { at = 0; bytes = bytes }) (λ o. open-off bytes (ap (λ (u : Passed). begins_one_of (codes "()") u.rest.bytes) (p.2 [])))
+pair-off (state.Between comment) q bytes p i = absurd p
+pair-off state.Command q bytes p i = absurd p
+pair-off (state.Failed name at) q bytes p i = absurd p
+pair-off state.NoMemory q bytes p i = absurd p
 
 pub begun-meaning : (s : State) (q : Phase) (bytes : List ℕ) (r : Phase) (at : Spot) (b : Built) → IsPairFact s q bytes → meaning_at s r at b ≡ Within r false at b.bytes
 begun-meaning state.Begun q bytes r at b p = refl
@@ -183,22 +184,22 @@ module _ (old : Machine) (x : ℕ) (h : IsBegun old) (p : IsPairFact old.state (
   still-first = subst IsFirst (sym (front-append old.begun.bytes (x ∷ []) some)) h.first
 
   -- what the reading of the bytes with x makes of the collector
-  decides : (r : Reading Sexp) → command limits (old.begun.bytes ++ x ∷ []) ≡ r → (phase_of old.phase ≡ Start → is_unsat (front (old.begun.bytes ++ x ∷ [])) (old.begun.bytes ++ x ∷ []) r ≡ false) →
+  decides : (r : Reading Sexp) → command limits (old.begun.bytes ++ x ∷ []) ≡ r → (phase_of old.phase ≡ Start → is_unsat (old.begun.bytes ++ x ∷ []) r ≡ false) →
       fed_from limits (meaning old) (x ∷ []) ≡ on_more old.start (old.begun.bytes ++ x ∷ []) (begun (phase_of old.phase) (old.begun.bytes ++ x ∷ [])) (known (phase_of old.phase) (record { at = 0; bytes = old.begun.bytes ++ x ∷ [] }) r)
   unfolding front
   decides r c u =
       ap (λ m. fed_from limits m (x ∷ [])) (begun-meaning old.state (phase_of old.phase) (old.begun.bytes ++ x ∷ []) (phase_of old.phase) old.start old.begun p)
-      ∙ go (old.begun.bytes ++ x ∷ []) refl still-first (pair-off old.state (phase_of old.phase) (old.begun.bytes ++ x ∷ []) still-first p) c u
+      ∙ go (old.begun.bytes ++ x ∷ []) refl still-first (pair-off old.state (phase_of old.phase) (old.begun.bytes ++ x ∷ []) p) c u
     where
-      go : (bytes : List ℕ) → old.begun.bytes ++ x ∷ [] ≡ bytes → IsFirst (front bytes) → (IsProofStart (phase_of old.phase) → begins_pair limits (front bytes) (record { at = 0; bytes = bytes }) ≡ false) →
-          command limits bytes ≡ r → (phase_of old.phase ≡ Start → is_unsat (front bytes) bytes r ≡ false) →
+      go : (bytes : List ℕ) → old.begun.bytes ++ x ∷ [] ≡ bytes → IsFirst (front bytes) → (IsProofStart (phase_of old.phase) → begins_pair limits (record { at = 0; bytes = bytes }) ≡ false) →
+          command limits bytes ≡ r → (phase_of old.phase ≡ Start → is_unsat bytes r ≡ false) →
           fed_from limits (Within (phase_of old.phase) false old.start old.begun.bytes) (x ∷ []) ≡ on_more old.start bytes (begun (phase_of old.phase) bytes) (known (phase_of old.phase) (record { at = 0; bytes = bytes }) r)
       go [] e f o c u = absurd f
       go (y ∷ zs) e f o c u = fed-first limits y zs f (phase_of old.phase) old.start old.begun.bytes (x ∷ []) r e h.inside o c u
 
   fails : (name : FaultName) → command limits (old.begun.bytes ++ x ∷ []) ≡ Refused name (length old.begun.bytes) → fed_from limits (meaning old) (x ∷ []) ≡ Failed name old.here
   fails name c =
-      decides (Refused name (length old.begun.bytes)) c (λ s. unsat-refused limits (front (old.begun.bytes ++ x ∷ [])) (old.begun.bytes ++ x ∷ []) name (length old.begun.bytes))
+      decides (Refused name (length old.begun.bytes)) c (λ s. unsat-refused limits (old.begun.bytes ++ x ∷ []) name (length old.begun.bytes))
       ∙ on-refused limits (phase_of old.phase) old.start old.begun.bytes (x ∷ []) name (length old.begun.bytes) refl
       ∙ ap (Failed name) (sym l.here)
 
@@ -238,7 +239,7 @@ module _ (old : Machine) (x : ℕ) (h : IsBegun old) (p : IsPairFact old.state (
               ∙ begun-meaning old.state (phase_of old.phase) (old.begun.bytes ++ x ∷ []) (phase_of old.phase) old.start new.begun p
               ∙ ap (Within (phase_of old.phase) false old.start) b
               ∙ sym (on-cut limits (phase_of old.phase) old.start (old.begun.bytes ++ x ∷ []) c.0)
-              ∙ sym (decides (Cut c.0) (command-goes limits old.begun.bytes x some c.0 c.1 k.0) (λ s. unsat-cut limits (front (old.begun.bytes ++ x ∷ [])) (old.begun.bytes ++ x ∷ []) c.0));
+              ∙ sym (decides (Cut c.0) (command-goes limits old.begun.bytes x some c.0 c.1 k.0) (λ s. unsat-cut limits (old.begun.bytes ++ x ∷ []) c.0));
         }
     takes-goes new t (inr k) =
         let c = goes-cut t in
@@ -266,7 +267,7 @@ module _ (old : Machine) (x : ℕ) (h : IsBegun old) (p : IsPairFact old.state (
               ∙ ap (λ bs. AtCommand (record { sexp = s; bytes = bs; start = old.start }) (after (phase_of old.phase))) b
               ∙ sym (on-whole limits (phase_of old.phase) old.start bytes bytes s (record { at = suc (length old.begun.bytes); bytes = [] }) all)
               ∙ sym (decides (Whole s (record { at = suc (length old.begun.bytes); bytes = [] })) c
-              (λ q. unsat-other limits (front bytes) bytes bytes s (record { at = suc (length old.begun.bytes); bytes = [] }) all (not-unsat bytes s _ c)));
+              (λ q. unsat-other limits bytes bytes s (record { at = suc (length old.begun.bytes); bytes = [] }) all (not-unsat bytes s _ c)));
         }
     takes-whole new t (inr k) =
         takes-failed old new x CommandLong k.1 (fails CommandLong (command-whole-over limits old.begun.bytes x some t.0 _ (h.reads (x ∷ []) ∙ t.3 []) (omega (arith, k.0)) (omega (arith, h.short, k.0))))
@@ -298,7 +299,7 @@ module _ (old : Machine) (x : ℕ) (h : IsBegun old) (p : IsPairFact old.state (
               ∙ ap (λ bs. AtCommand (record { sexp = s; bytes = bs; start = old.start }) (after (phase_of old.phase))) b
               ∙ sym (on-whole limits (phase_of old.phase) old.start bytes old.begun.bytes s (record { at = length old.begun.bytes; bytes = x ∷ [] }) part)
               ∙ sym (decides (Whole s (record { at = length old.begun.bytes; bytes = x ∷ [] })) c
-              (λ q. unsat-other limits (front bytes) bytes old.begun.bytes s (record { at = length old.begun.bytes; bytes = x ∷ [] }) part (u q)));
+              (λ q. unsat-other limits bytes old.begun.bytes s (record { at = length old.begun.bytes; bytes = x ∷ [] }) part (u q)));
         }
 
     -- it was the word that a proof may begin with
@@ -315,7 +316,7 @@ module _ (old : Machine) (x : ℕ) (h : IsBegun old) (p : IsPairFact old.state (
 -- ---- a `(` that may be the outer pair
 
 -- the next token is a parenthesis
-pub takes-pair : (old mid new : Machine) (x : ℕ) → old.state ≡ state.Pair false → IsSound old → is_parenthesis (class x) ≡ true →
+pub takes-pair : (old mid new : Machine) (x : ℕ) → old.state ≡ state.Pair false → IsSound old → is_one_of (codes "()") x ≡ true →
     mid.state ≡ state.Between false → mid.begun ≡ nothing → mid.start ≡ old.here → phase_of mid.phase ≡ InPair → TakesByte mid x new → TakesByte old x new
 takes-pair old mid new x e s p ms mb mt mp k =
     let h = subst (λ q. IsSoundAt q old) e s in
@@ -347,11 +348,11 @@ pair-goes c d q b x f e =
     )
 
 -- the next token is none
-pub pair-ends : (q : Phase) (b : List ℕ) (x : ℕ) → IsPairFact (state.Pair false) q b → StandsStill (class x) → is_parenthesis (class x) ≡ false → IsPairFact state.Begun q (b ++ x ∷ [])
-unfolding front
+pub pair-ends : (q : Phase) (b : List ℕ) (x : ℕ) → IsPairFact (state.Pair false) q b → StandsStill (class x) → is_one_of (codes "()") x ≡ false → IsPairFact state.Begun q (b ++ x ∷ [])
+unfolding front begins_one_of
 pair-ends q b x f s p = λ i o more.
     let some : 0 < length b = first-some b (subst IsFirst (sym f.1) tt) in
-    ap (λ (u : Passed). is_parenthesis (front u.rest.bytes))
+    ap (λ (u : Passed). begins_one_of (codes "()") u.rest.bytes)
     (ap (λ bs. pass false 1 (bs ++ more)) (drop-front b (x ∷ []) some)
     ∙ ap (pass false 1) (append_assoc (drop 1 b) (x ∷ []) more)
     ∙ f.2 (x ∷ more)
@@ -362,15 +363,9 @@ pair-ends q b x f s p = λ i o more.
 pub begun-goes : (q : Phase) (b : List ℕ) (x : ℕ) → IsFirst (front b) → IsPairFact state.Begun q b → IsPairFact state.Begun q (b ++ x ∷ [])
 begun-goes q b x h f = λ i o more.
     let some : 0 < length b = first-some b h in
-    ap (λ bs. is_parenthesis (front (pass false 1 (bs ++ more)).rest.bytes)) (drop-front b (x ∷ []) some)
-    ∙ ap (λ bs. is_parenthesis (front (pass false 1 bs).rest.bytes)) (append_assoc (drop 1 b) (x ∷ []) more)
+    ap (λ bs. begins_one_of (codes "()") (pass false 1 (bs ++ more)).rest.bytes) (drop-front b (x ∷ []) some)
+    ∙ ap (λ bs. begins_one_of (codes "()") (pass false 1 bs).rest.bytes) (append_assoc (drop 1 b) (x ∷ []) more)
     ∙ f i (sym (front-append b (x ∷ []) some) ∙ o) (x ∷ more)
-
-pub begun-as : (m : Machine) (s : State) → IsBegun m → IsBegun (record m { state = s })
-begun-as m s h = record { first = h.first; inside = h.inside; reader = h.reader; reads = h.reads; short = h.short }
-
-pub placed-as : (m : Machine) (s : State) → IsPlaced m → IsPlaced (record m { state = s })
-placed-as m s h = record { here = h.here; line = h.line }
 
 -- ---- the first byte of a command
 
@@ -395,7 +390,7 @@ takes-begins old new x s l b e i f g t c a h q p =
           ∙ begun-meaning s (phase_of old.phase) (x ∷ []) (phase_of old.phase) old.start new.begun p
           ∙ ap (Within (phase_of old.phase) false old.start) c
           ∙ sym (on-cut limits (phase_of old.phase) old.start (x ∷ []) r.0)
-          ∙ sym (fed-first limits x [] f (phase_of old.phase) old.start [] (x ∷ []) (Cut r.0) refl i (pair-off s (phase_of old.phase) (x ∷ []) f p) cut (λ w. unsat-cut limits (class x) (x ∷ []) r.0))
+          ∙ sym (fed-first limits x [] f (phase_of old.phase) old.start [] (x ∷ []) (Cut r.0) refl i (pair-off s (phase_of old.phase) (x ∷ []) p) cut (λ w. unsat-cut limits (x ∷ []) r.0))
           ∙ ap (λ m. fed_from limits m (x ∷ [])) (sym (meaning-is old (state.Between false) (phase_of old.phase) old.start nothing e refl refl b));
     }
 
@@ -446,34 +441,23 @@ atom-first Bar a = tt
 atom-first Word a = tt
 atom-first c a = absurd a
 
--- the classes that are left begin commands
-pub first-class : (k : ByteClass) (x : ℕ) → class_of k ≡ class x → (k ≡ byte.Space → ⊥) → (k ≡ byte.Comment → ⊥) → (k ≡ byte.Other → ⊥) → (k ≡ byte.Close → ⊥) → IsFirst (class x)
-first-class k x e s c o d = subst IsFirst e (go k s c o d)
-  where
-    go : (k : ByteClass) → (k ≡ byte.Space → ⊥) → (k ≡ byte.Comment → ⊥) → (k ≡ byte.Other → ⊥) → (k ≡ byte.Close → ⊥) → IsFirst (class_of k)
-    go byte.Space s c o d = absurd (s refl)
-    go byte.Comment s c o d = absurd (c refl)
-    go byte.Other s c o d = absurd (o refl)
-    go byte.Close s c o d = absurd (d refl)
-    go byte.Open s c o d = tt
-    go byte.Quote s c o d = tt
-    go byte.Bar s c o d = tt
-    go byte.Word s c o d = tt
-
 -- the classes that are left end a gap behind the `(` of what may be a pair
-pub token-class : (k : ByteClass) (x : ℕ) → class_of k ≡ class x → (k ≡ byte.Space → ⊥) → (k ≡ byte.Comment → ⊥) → (k ≡ byte.Open → ⊥) → (k ≡ byte.Close → ⊥) → StandsStill (class x) × (is_parenthesis (class x) ≡ false)
-unfolding is_parenthesis
-token-class k x e s c o d = subst (λ v. StandsStill v × (is_parenthesis v ≡ false)) e (go k s c o d)
+pub token-class : (k : ByteClass) (x : ℕ) → class_of k ≡ class x → (k ≡ byte.Space → ⊥) → (k ≡ byte.Comment → ⊥) → (k ≡ byte.Open → ⊥) → (k ≡ byte.Close → ⊥) → StandsStill (class x) × (is_one_of (codes "()") x ≡ false)
+token-class k x e s c o d =
+    let left = go k s c o d in (
+      subst StandsStill e left.0,
+      no-paren x (λ f. left.1 (e ∙ f)) (λ f. left.2 (e ∙ f)),
+    )
   where
-    go : (k : ByteClass) → (k ≡ byte.Space → ⊥) → (k ≡ byte.Comment → ⊥) → (k ≡ byte.Open → ⊥) → (k ≡ byte.Close → ⊥) → StandsStill (class_of k) × (is_parenthesis (class_of k) ≡ false)
+    go : (k : ByteClass) → (k ≡ byte.Space → ⊥) → (k ≡ byte.Comment → ⊥) → (k ≡ byte.Open → ⊥) → (k ≡ byte.Close → ⊥) → StandsStill (class_of k) × (class_of k ≡ Open → ⊥) × (class_of k ≡ Close → ⊥)
     go byte.Space s c o d = absurd (s refl)
     go byte.Comment s c o d = absurd (c refl)
     go byte.Open s c o d = absurd (o refl)
     go byte.Close s c o d = absurd (d refl)
-    go byte.Quote s c o d = (tt, refl)
-    go byte.Bar s c o d = (tt, refl)
-    go byte.Word s c o d = (tt, refl)
-    go byte.Other s c o d = (tt, refl)
+    go byte.Quote s c o d = (tt, λ f. cc, λ f. cc)
+    go byte.Bar s c o d = (tt, λ f. cc, λ f. cc)
+    go byte.Word s c o d = (tt, λ f. cc, λ f. cc)
+    go byte.Other s c o d = (tt, λ f. cc, λ f. cc)
 
 -- but for `(` they begin atoms
 pub first-atom : (k : ByteClass) (x : ℕ) → class_of k ≡ class x → IsFirst (class x) → (k ≡ byte.Open → ⊥) → IsAtom (class x)
@@ -496,20 +480,12 @@ placed-left old new l b s h = placed-none new b (h ∙ sym s) (subst (λ (v : Sp
 pub pair-fact : (m : Machine) (c : Bool) → m.state ≡ state.Pair c → IsSound m → IsPairFact (state.Pair c) (phase_of m.phase) m.begun.bytes
 pair-fact m c e s = let h = subst (λ q. IsSoundAt q m) e s in subst (λ q. IsPairFact q (phase_of m.phase) m.begun.bytes) e h.1
 
-pub pair-begun : (m : Machine) (c : Bool) → m.state ≡ state.Pair c → IsSound m → IsBegun m
-pair-begun m c e s = let h = subst (λ q. IsSoundAt q m) e s in h.0
-
 pub pair-placed : (m : Machine) (c : Bool) → m.state ≡ state.Pair c → IsSound m → IsPlaced m
 pair-placed m c e s = let h = subst (λ q. IsSoundAt q m) e s in h.2
 
--- a machine in the middle of a turn
-pub takes-as : (old new : Machine) (c : Bool) (s : State) (x : ℕ) → old.state ≡ state.Pair c → meaning_at s (phase_of old.phase) old.start old.begun ≡ Within (phase_of old.phase) false old.start old.begun.bytes → TakesByte (record old { state = s }) x new → TakesByte old x new
-takes-as old new c s x e m k = takes-from old (record old { state = s }) new x (ap (λ v. fed_from limits v (x ∷ [])) (meaning-is old (state.Pair c) (phase_of old.phase) old.start old.begun e refl refl refl ∙ sym m)) k
-
-pub paren-class : (k : ByteClass) (x : ℕ) → class_of k ≡ class x → (k ≡ byte.Open) ⊎ (k ≡ byte.Close) → is_parenthesis (class x) ≡ true
-unfolding is_parenthesis
-paren-class k x e (inl o) = ap is_parenthesis (sym e ∙ ap class_of o)
-paren-class k x e (inr o) = ap is_parenthesis (sym e ∙ ap class_of o)
+pub paren-class : (k : ByteClass) (x : ℕ) → class_of k ≡ class x → (k ≡ byte.Open) ⊎ (k ≡ byte.Close) → is_one_of (codes "()") x ≡ true
+paren-class k x e (inl o) = paren-byte x (inl (sym e ∙ ap class_of o))
+paren-class k x e (inr o) = paren-byte x (inr (sym e ∙ ap class_of o))
 
 pub begun-pair : (m : Machine) (x : ℕ) → m.state ≡ state.Begun → IsSound m → IsPairFact m.state (phase_of m.phase) (m.begun.bytes ++ x ∷ [])
 begun-pair m x e s =

@@ -9,7 +9,7 @@ use Rattle.eo_sexp.specs.AtomKind as kind
 use Rattle.eo_sexp.specs.Sexp.{Sexp, Sexps}
 use Rattle.eo_sexp.specs.Lexicon.{Class, Space, Comment, Open, Close, Quote, Bar, Word, Other, class, Input, advance, skip, Body, Closes, Stops, RunsOut, string, quoted, is_word}
 use Rattle.eo_sexp.specs.Commands.{Reading, Whole, Refused, Cut, ◌>>=◌, comes_first, at_most, delimited, word_before, word, front, prepend, and_others, listed, opened, atom, turn, children, lists, sexp, command}
-use Rattle.eo_sexp.specs.Texts.{Phase, Start, InPair, Plain, Next, Command, End, Fault, SoFar, Known, More, Held, end_of, is_extra, last_atom, known, decided, from_token, from_front, answer, so_far, next_from, settle, spot_after}
+use Rattle.eo_sexp.specs.Texts.{Phase, Start, InPair, Plain, Next, Command, End, Fault, SoFar, Known, More, Held, end_of, is_extra, last_atom, known, decided, from_token, from_front, answer, so_far, next_from, strip, spot_after}
 use Rattle.eo_sexp.specs.Collecting.{Collecting, Within, AtCommand, Failed, NoMemory, IsLive, ready, becomes, waiting, on_more, fed_from, fed_with, finished_from, finished_with}
 use Rattle.eo_sexp.specs.Answering.{IsLexical, IsAnswer, AnswersPieces, AnswersEnd}
 
@@ -180,8 +180,8 @@ module _ (limits : Limits) where
 
   names-fed_from : (c : Collecting) (p : List ℕ) → IsLive c → IsAnswer (fed_from limits (ready c) p)
   unfolding fed_from
-  names-fed_from (Within phase comment start begun) p l = let h = settle limits phase comment (record { at = 0; bytes = begun ++ p }) in names-on_more start (begun ++ p) h (answer limits h) (names-answer limits h)
-  names-fed_from (AtCommand k phase) p l = let h = settle limits phase false (record { at = 0; bytes = [] ++ p }) in names-on_more (spot_after k.start k.bytes) ([] ++ p) h (answer limits h) (names-answer limits h)
+  names-fed_from (Within phase comment start begun) p l = let h = strip limits phase comment (record { at = 0; bytes = begun ++ p }) in names-on_more start (begun ++ p) h (answer limits h) (names-answer limits h)
+  names-fed_from (AtCommand k phase) p l = let h = strip limits phase false (record { at = 0; bytes = [] ++ p }) in names-on_more (spot_after k.start k.bytes) ([] ++ p) h (answer limits h) (names-answer limits h)
   names-fed_from (Failed name at) p l = absurd l
   names-fed_from NoMemory p l = absurd l
 
@@ -191,7 +191,7 @@ module _ (limits : Limits) where
 
   names-next_from : (phase : Phase) (comment : Bool) (bytes : List ℕ) → NextNames (next_from limits true phase comment bytes)
   unfolding next_from so_far
-  names-next_from phase comment bytes = names-decided limits (length bytes) (so_far limits phase comment bytes) (names-answer limits (settle limits phase comment (record { at = 0; bytes = bytes })))
+  names-next_from phase comment bytes = names-decided limits (length bytes) (so_far limits phase comment bytes) (names-answer limits (strip limits phase comment (record { at = 0; bytes = bytes })))
 
   names-finished_from : (c : Collecting) → IsLive c → IsAnswer (finished_from limits (ready c))
   unfolding finished_from

@@ -1,9 +1,9 @@
 -- The parts of the s-expressions that nodes stand for.
-use Rattle.std.proofs.Common.{◌≡◌, refl, ℕ, zero, suc, ◌-◌, ◌<◌, ◌≤◌, List, [], ◌∷◌, take, drop, length, ap, arith}
+use Rattle.std.proofs.Common.{◌≡◌, refl, ℕ, zero, suc, ◌<◌, List, [], ◌∷◌, drop, length, ap, arith}
 use Rattle.eo_sexp.specs.Sexp.{Sexp, children_of}
 use Rattle.eo_sexp.specs.Sexp.{sexps_of}
 use Rattle.eo_sexp.specs.declared.lent.Node.{Node}
-use Rattle.eo_sexp.specs.Nodes.{trees, first_of, AreLinked}
+use Rattle.eo_sexp.specs.Nodes.{trees, AreLinked}
 
 pub children_of_sexps : (ss : List Sexp) → children_of (sexps_of ss) ≡ ss
 children_of_sexps [] = refl
@@ -14,12 +14,6 @@ pub linked_behind : (bytes : List ℕ) (ns : List Node) (k : ℕ) → AreLinked 
 linked_behind bytes ns zero h = h
 linked_behind bytes [] (suc k) h = h
 linked_behind bytes (n ∷ ns) (suc k) h = linked_behind bytes ns k h.1
-
--- the first of some s-expressions, and the others
-pub taken_first : (ss : List Sexp) (n : ℕ) → 0 < n → n ≤ length ss → take n ss ≡ first_of ss ∷ take (n - 1) (drop 1 ss)
-taken_first ss zero p l = absurd (omega (arith, p))
-taken_first [] (suc n) p l = absurd (omega (arith, l))
-taken_first (s ∷ ss) (suc n) p l = let e : suc n - 1 ≡ n = omega arith in rw e refl
 
 -- where there is an s-expression, there is a node
 pub some_node : (bytes : List ℕ) (ns : List Node) → 0 < length (trees bytes ns) → 0 < length ns

@@ -7,25 +7,25 @@ use Rattle.eo_sexp.specs.Spot.{Spot}
 use Rattle.eo_sexp.specs.declared.incremental.State.TheVariants as state
 use Rattle.eo_sexp.specs.declared.incremental.Machine.{Machine}
 use Rattle.eo_sexp.specs.Lexicon.{is_line_end, pass}
-use Rattle.eo_sexp.specs.Texts.{Phase, settled, settle, answer, from_front, spot_after}
+use Rattle.eo_sexp.specs.Texts.{Phase, stripped, strip, answer, from_front, spot_after}
 use Rattle.eo_sexp.specs.Collecting.{Within, waiting, on_more, fed_from}
 use Rattle.eo_sexp.specs.Built.{nothing}
 use Rattle.eo_sexp.specs.Machine.{phase_of, IsPlaced, TakesBytes}
 use Rattle.eo_sexp.proofs.Feeding.{state_of}
 use Rattle.eo_sexp.proofs.RunSteps.{plain-spot}
 use Rattle.eo_sexp.proofs.CommentRuns.{inside-line, pass-inside}
-use Rattle.eo_sexp.proofs.FedBetween.{passed, settled-none}
 use Rattle.eo_sexp.proofs.MachineSteps.{meaning-is, sound-is, placed-none, here-start}
+use Rattle.eo_sexp.proofs.Wrappings.{passed, stripped-none}
 
 pass-all : (xs : List ℕ) → All (λ x. is_line_end x ≡ false) xs → pass true 0 xs ≡ passed true (length xs)
 unfolding pass
 pass-all xs h = ap (pass true 0) (sym (append-nil xs)) ∙ pass-inside 0 xs [] h ∙ ap (passed true) (omega arith)
 
 fed-inside : (phase : Phase) (start : Spot) (xs : List ℕ) → All (λ x. is_line_end x ≡ false) xs → fed_from limits (Within phase true start []) xs ≡ Within phase true (spot_after start xs) []
-unfolding fed_from settle on_more answer from_front waiting state_of
+unfolding fed_from strip on_more answer from_front waiting state_of
 fed-inside phase start xs h =
-    ap (λ p. state_of limits start xs (settled limits phase p)) (pass-all xs h)
-    ∙ ap (state_of limits start xs) (settled-none limits phase true (length xs))
+    ap (λ p. state_of limits start xs (stripped limits 3 phase p)) (pass-all xs h)
+    ∙ ap (state_of limits start xs) (stripped-none limits phase true (length xs))
     ∙ ap (λ bs. Within phase true (spot_after start bs) []) (take-length xs)
 
 -- the place behind them

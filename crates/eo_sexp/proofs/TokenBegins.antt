@@ -6,11 +6,11 @@ use Rattle.eo_sexp.specs.declared.token.Token.TheVariants as token
 use Rattle.eo_sexp.specs.Lexicon.{Class, Space, Comment, Open, Close, Quote, Bar, Word, Other, class, Input, is_space, is_word, is_one_of}
 use Rattle.eo_sexp.specs.declared.classes.Class.{Class as ByteClass}
 use Rattle.eo_sexp.specs.declared.classes.Class.TheVariants as byte
-use Rattle.eo_sexp.specs.declared.reader.Place.TheVariants as place
+use Rattle.eo_sexp.specs.declared.reader.Position.TheVariants as position
 use Rattle.eo_sexp.specs.Commands.{atom, sexp}
 use Rattle.eo_sexp.specs.Token.{class_of, IsToken, token_size}
 use Rattle.eo_sexp.specs.Built.{parts_in}
-use Rattle.eo_sexp.specs.Reader.{HasBytes, Held, IsAtom, token_reading, place_reading, IsPlace, BeginsToken, Begins}
+use Rattle.eo_sexp.specs.Reader.{HasBytes, Progress, IsAtom, token_reading, position_reading, IsPosition, BeginsToken, Begins}
 use Rattle.eo_sexp.proofs.Bounds.{class-word}
 use Rattle.eo_sexp.proofs.TokenTurns.{is_one_of-one}
 use Rattle.eo_sexp.proofs.TokenEnds.{word-begins, string-begins, quoted-begins}
@@ -75,12 +75,12 @@ module _ (limits : Limits) (some : 1 ≤ limits.token) where
   word-stands : (text : List ℕ) (at x : ℕ) → text ≡ x ∷ [] → class x ≡ Word → IsToken token.Word text × (at + token_size token.Word text ≡ suc at) × (token_size token.Word text ≤ limits.token)
   word-stands text at x e w = let n = ap length e in (subst (IsToken token.Word) (sym e) (word-begins x (class-word x w)), omega (arith, n), omega (arith, n, some))
 
-  pub quote_begins : (old new : Held) (at x : ℕ) → new.frames ≡ old.frames → new.done ≡ old.done → new.place ≡ place.Token (token.Text false) → new.from ≡ at → new.text ≡ [] → class x ≡ Quote → BeginsToken limits old at x new
-  unfolding place_reading
+  pub quote_begins : (old new : Progress) (at x : ℕ) → new.frames ≡ old.frames → new.done ≡ old.done → new.position ≡ position.Token (token.Text false) → new.from ≡ at → new.text ≡ [] → class x ≡ Quote → BeginsToken limits old at x new
+  unfolding position_reading
   quote_begins old new at x f d p a t e = record {
     frames = f;
     done = d;
-    stands = λ n. subst (λ q. IsPlace limits n q new.from new.text (suc at)) (sym p)
+    stands = λ n. subst (λ q. IsPosition limits n q new.from new.text (suc at)) (sym p)
         (subst (λ k. IsToken (token.Text false) new.text × (k + token_size (token.Text false) new.text ≡ suc at) × (token_size (token.Text false) new.text ≤ limits.token)) (sym a) (quote-stands new.text at t));
     own = λ n few. subst (λ q. HasBytes limits n q new.from (suc at)) (sym p) (omega (arith, few, a), omega (arith, a));
     reads = λ fs more.
@@ -88,15 +88,15 @@ module _ (limits : Limits) (some : 1 ≤ limits.token) where
         ∙ ap (λ y. token_reading limits fs (atom limits Quote (record { at = at; bytes = y ∷ more }))) (quote-is x e)
         ∙ ap (λ k. token_reading limits fs (atom limits Quote (record { at = k; bytes = 34 ∷ more }))) (sym a)
         ∙ ap (λ l. token_reading limits fs (atom limits Quote (record { at = new.from; bytes = 34 ∷ (l ++ more) }))) (sym t)
-        ∙ ap (λ q. place_reading limits fs q new.from new.text (suc at) more) (sym p);
+        ∙ ap (λ q. position_reading limits fs q new.from new.text (suc at) more) (sym p);
   }
 
-  pub bar_begins : (old new : Held) (at x : ℕ) → new.frames ≡ old.frames → new.done ≡ old.done → new.place ≡ place.Token token.Quoted → new.from ≡ at → new.text ≡ [] → class x ≡ Bar → BeginsToken limits old at x new
-  unfolding place_reading
+  pub bar_begins : (old new : Progress) (at x : ℕ) → new.frames ≡ old.frames → new.done ≡ old.done → new.position ≡ position.Token token.Quoted → new.from ≡ at → new.text ≡ [] → class x ≡ Bar → BeginsToken limits old at x new
+  unfolding position_reading
   bar_begins old new at x f d p a t e = record {
     frames = f;
     done = d;
-    stands = λ n. subst (λ q. IsPlace limits n q new.from new.text (suc at)) (sym p)
+    stands = λ n. subst (λ q. IsPosition limits n q new.from new.text (suc at)) (sym p)
         (subst (λ k. IsToken token.Quoted new.text × (k + token_size token.Quoted new.text ≡ suc at) × (token_size token.Quoted new.text ≤ limits.token)) (sym a) (bar-stands new.text at t));
     own = λ n few. subst (λ q. HasBytes limits n q new.from (suc at)) (sym p) (omega (arith, few, a), omega (arith, a));
     reads = λ fs more.
@@ -104,26 +104,26 @@ module _ (limits : Limits) (some : 1 ≤ limits.token) where
         ∙ ap (λ y. token_reading limits fs (atom limits Bar (record { at = at; bytes = y ∷ more }))) (bar-is x e)
         ∙ ap (λ k. token_reading limits fs (atom limits Bar (record { at = k; bytes = 124 ∷ more }))) (sym a)
         ∙ ap (λ l. token_reading limits fs (atom limits Bar (record { at = new.from; bytes = 124 ∷ (l ++ more) }))) (sym t)
-        ∙ ap (λ q. place_reading limits fs q new.from new.text (suc at) more) (sym p);
+        ∙ ap (λ q. position_reading limits fs q new.from new.text (suc at) more) (sym p);
   }
 
-  pub word_begins : (old new : Held) (at x : ℕ) → new.frames ≡ old.frames → new.done ≡ old.done → new.place ≡ place.Token token.Word → new.from ≡ at → new.text ≡ x ∷ [] → class x ≡ Word → BeginsToken limits old at x new
-  unfolding place_reading
+  pub word_begins : (old new : Progress) (at x : ℕ) → new.frames ≡ old.frames → new.done ≡ old.done → new.position ≡ position.Token token.Word → new.from ≡ at → new.text ≡ x ∷ [] → class x ≡ Word → BeginsToken limits old at x new
+  unfolding position_reading
   word_begins old new at x f d p a t e = record {
     frames = f;
     done = d;
-    stands = λ n. subst (λ q. IsPlace limits n q new.from new.text (suc at)) (sym p)
+    stands = λ n. subst (λ q. IsPosition limits n q new.from new.text (suc at)) (sym p)
         (subst (λ k. IsToken token.Word new.text × (k + token_size token.Word new.text ≡ suc at) × (token_size token.Word new.text ≤ limits.token)) (sym a) (word-stands new.text at x t e));
     own = λ n few. subst (λ q. HasBytes limits n q new.from (suc at)) (sym p) (omega (arith, few, a), omega (arith, a));
     reads = λ fs more.
         ap (λ c. token_reading limits fs (atom limits c (record { at = at; bytes = x ∷ more }))) e
         ∙ ap (λ k. token_reading limits fs (atom limits Word (record { at = k; bytes = x ∷ more }))) (sym a)
         ∙ ap (λ l. token_reading limits fs (atom limits Word (record { at = new.from; bytes = l ++ more }))) (sym t)
-        ∙ ap (λ q. place_reading limits fs q new.from new.text (suc at) more) (sym p);
+        ∙ ap (λ q. position_reading limits fs q new.from new.text (suc at) more) (sym p);
   }
 
   -- a command that is an atom
-  pub atom-begins : (old new : Held) (x : ℕ) → old.frames ≡ [] → old.done ≡ [] → IsAtom (class x) → BeginsToken limits old 0 x new → Begins limits x new
+  pub atom-begins : (old new : Progress) (x : ℕ) → old.frames ≡ [] → old.done ≡ [] → IsAtom (class x) → BeginsToken limits old 0 x new → Begins limits x new
   unfolding token_reading sexp
   atom-begins old new x e d a b =
       let none : new.frames ≡ [] = b.frames ∙ e in (
@@ -131,7 +131,7 @@ module _ (limits : Limits) (some : 1 ≤ limits.token) where
         λ more.
             go (class x) a (record { at = 0; bytes = x ∷ more })
             ∙ b.reads [] more
-            ∙ ap (λ fs. place_reading limits fs new.place new.from new.text 1 more) (sym none),
+            ∙ ap (λ fs. position_reading limits fs new.position new.from new.text 1 more) (sym none),
       )
     where
       go : (c : Class) → IsAtom c → (t : Input) → sexp limits c t ≡ atom limits c t

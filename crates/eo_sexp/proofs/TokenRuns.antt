@@ -10,16 +10,16 @@ use Rattle.eo_sexp.specs.declared.token.Token.TheVariants as token
 use Rattle.eo_base.specs.declared.FaultName.TheVariants.{BadByte, TokenLong}
 use Rattle.eo_sexp.specs.declared.token.TokenTurn.{TokenTurn}
 use Rattle.eo_sexp.specs.declared.token.TokenTurn.TheVariants.{Goes, Ends, Fault}
-use Rattle.eo_sexp.specs.declared.reader.Place.TheVariants as place
+use Rattle.eo_sexp.specs.declared.reader.Position.TheVariants as position
 use Rattle.eo_sexp.specs.declared.reader.Reader.{Reader}
 use Rattle.eo_sexp.specs.Lexicon.{is_space, is_text, is_quotable, is_word, is_one_of}
 use Rattle.eo_sexp.specs.Commands.{atom}
 use Rattle.eo_sexp.specs.Built.{Built, parts_in}
 use Rattle.eo_sexp.specs.Token.{token_class, opening, IsToken, token_size, go_on, close, token_turn, is_plain}
-use Rattle.eo_sexp.specs.Reader.{Held, held, text_at, IsReader, token_reading, RunsTo}
+use Rattle.eo_sexp.specs.Reader.{Progress, held, text_at, IsReader, token_reading, RunsTo}
 use Rattle.eo_sexp.proofs.TokenTurns.{TokenTurns, token_turns}
 use Rattle.eo_sexp.proofs.RunSteps.{plain-spot}
-use Rattle.eo_sexp.proofs.TokenPlaces.{opening-within}
+use Rattle.eo_sexp.proofs.TokenPositions.{opening-within}
 use Rattle.eo_sexp.proofs.ReaderSteps.{stands-as, own-as, as-reader, reading-token}
 
 picks : (b : Bool) (p q : TokenTurn) → b ≡ true → (if b then p else q) ≡ p
@@ -72,19 +72,19 @@ module _ (limits : Limits) where
       let one = subst (TokenTurns limits t text x) (plain-goes t (token_size t text) x (All-head (λ y. is_plain t y ≡ true) x xs p) (omega arith)) (token_turns limits t text x h (omega arith)) in
       subst (IsToken t) (append_assoc text (x ∷ []) xs) (plain-token t (text ++ x ∷ []) xs one.0 (All-tail (λ y. is_plain t y ≡ true) x xs p) (omega (arith, length-append text (x ∷ []))))
 
-  pub token-runs : (b c : Built) (r : Reader) (t : Token) (rest : List ℕ) (n : ℕ) → r.place ≡ place.Token t → IsReader limits (held b r) (length b.bytes) → c ≡ record b { bytes = b.bytes ++ take n rest } → n ≤ length rest →
+  pub token-runs : (b c : Built) (r : Reader) (t : Token) (rest : List ℕ) (n : ℕ) → r.position ≡ position.Token t → IsReader limits (held b r) (length b.bytes) → c ≡ record b { bytes = b.bytes ++ take n rest } → n ≤ length rest →
       All (λ x. is_plain t x ≡ true) (take n rest) → length b.bytes + n ≤ limits.token + r.from → length b.bytes + n ≤ limits.command → RunsTo limits b r rest n 0 c r
   token-runs b c r t rest n p h same within plain size short =
       let xs : List ℕ = take n rest in
-      let old : Held = held b r in
-      let new : Held = held c r in
-      let s = stands-as limits old (length b.bytes) (place.Token t) p h in
-      let own = own-as limits old (length b.bytes) (place.Token t) p h in
+      let old : Progress = held b r in
+      let new : Progress = held c r in
+      let s = stands-as limits old (length b.bytes) (position.Token t) p h in
+      let own = own-as limits old (length b.bytes) (position.Token t) p h in
       let long : length xs ≡ n = length-take-le n rest within in
       let bytes : c.bytes ≡ b.bytes ++ xs = ap (λ (w : Built). w.bytes) same in
       let count : length c.bytes ≡ length b.bytes + n = omega (arith, ap length bytes, length-append b.bytes xs, long) in
       let text : new.text ≡ old.text ++ xs =
-      ap (λ bs. text_at r.place r.from bs) bytes
+      ap (λ bs. text_at r.position r.from bs) bytes
       ∙ ap (λ q. text_at q r.from (b.bytes ++ xs)) p
       ∙ drop-append-le (r.from + length (opening t)) b.bytes xs (opening-within limits old t (length b.bytes) h p)
       ∙ ap (λ q. text_at q r.from b.bytes ++ xs) (sym p) in
@@ -98,7 +98,7 @@ module _ (limits : Limits) where
             ∙ ap (λ (i : ℕ). record { line = at.line; offset = at.offset + i }) long
             ∙ ap (λ (l : ℕ). record { line = l; offset = at.offset + n }) (omega arith);
         reader =
-            as-reader limits new (length c.bytes) (place.Token t) p (omega (arith, h.nested, ap (λ (w : Built). length w.open_lists) same)) (ap (λ (w : Built). w.done) same ∙ h.none) (
+            as-reader limits new (length c.bytes) (position.Token t) p (omega (arith, h.nested, ap (λ (w : Built). length w.open_lists) same)) (ap (λ (w : Built). w.done) same ∙ h.none) (
               subst (IsToken t) (sym text) (plain-token t old.text xs s.0 plain (omega (arith, s.1, long))),
               omega (arith, s.1, count, ap length text, length-append old.text xs, long),
               omega (arith, s.1, ap length text, length-append old.text xs, long),

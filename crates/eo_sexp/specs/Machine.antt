@@ -1,5 +1,5 @@
 -- What a collector keeps, what that stands for, and the condition under which it does.
-use Rattle.std.specs.Prelude.{◌≡◌, ℕ, ◌+◌, ◌-◌, Option, Some, None, ◌≤◌, ◌<◌, Bool, false, List, [], ◌∷◌, ◌++◌, length, take, drop, ⊤, ◌⊎◌, nat_lt, ◌||◌, if◌then◌else◌}
+use Rattle.std.specs.Prelude.{◌≡◌, ℕ, ◌+◌, ◌-◌, Option, Some, None, ◌≤◌, ◌<◌, Bool, false, List, [], ◌∷◌, ◌++◌, length, take, drop, ⊤, ◌⊎◌, nat_lt, ◌||◌, codes, if◌then◌else◌}
 use Rattle.eo_base.specs.declared.FaultName.{FaultName}
 use Rattle.eo_base.specs.declared.FaultName.TheVariants.{CommandLong}
 use Rattle.eo_base.specs.Faults.{number}
@@ -14,7 +14,7 @@ use Rattle.eo_sexp.specs.declared.incremental.State.TheVariants as state
 use Rattle.eo_sexp.specs.declared.incremental.Machine.{Machine}
 use Rattle.eo_sexp.specs.Lexicon.{Class, Open, Quote, Bar, Word, pass}
 use Rattle.eo_sexp.specs.Commands.{front, sexp}
-use Rattle.eo_sexp.specs.Texts.{Phase, Start, AfterUnsat, InPair, AfterPair, Plain, is_parenthesis, spot_after, next_spot, after}
+use Rattle.eo_sexp.specs.Texts.{Phase, Start, AfterUnsat, InPair, AfterPair, Plain, begins_one_of, spot_after, next_spot, after}
 use Rattle.eo_sexp.specs.Collecting.{Collecting, Within, AtCommand, Failed, NoMemory, fed_from, finished_from, finish_answer}
 use Rattle.eo_sexp.specs.declared.Finished.{Finished}
 use Rattle.eo_sexp.specs.Built.{Built, nothing, with_byte}
@@ -59,7 +59,7 @@ IsFirst c = ⊥
 
 -- the first token behind the first byte is no parenthesis
 abbrev pub IsNoPair : List ℕ → Type 0
-IsNoPair bytes = (more : List ℕ) → is_parenthesis (front (pass false 1 (drop 1 bytes ++ more)).rest.bytes) ≡ false
+IsNoPair bytes = (more : List ℕ) → begins_one_of (codes "()") (pass false 1 (drop 1 bytes ++ more)).rest.bytes ≡ false
 
 -- whether a `(` at the front may still be a proof's outer pair
 abbrev pub IsPairFact : State → Phase → List ℕ → Type 0

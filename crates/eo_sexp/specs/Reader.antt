@@ -1,8 +1,8 @@
 -- What a reader of a command that is begun keeps, and what its turns do.
 use Rattle.std.specs.Prelude.{◌≡◌, ℕ, suc, ◌+◌, ◌-◌, ◌<◌, ◌≤◌, Bool, true, false, nat_le, List, [], ◌∷◌, ◌++◌, length, map, take, drop, get_or, All, Some, None}
 use Rattle.eo_base.specs.Limits.{Limits}
-use Rattle.eo_sexp.specs.declared.reader.Place.{Place}
-use Rattle.eo_sexp.specs.declared.reader.Place.TheVariants as place
+use Rattle.eo_sexp.specs.declared.reader.Position.{Position}
+use Rattle.eo_sexp.specs.declared.reader.Position.TheVariants as position
 use Rattle.eo_sexp.specs.declared.reader.Reader.{Reader}
 use Rattle.eo_sexp.specs.declared.reader.ReaderTurn.{ReaderTurn}
 use Rattle.eo_sexp.specs.declared.reader.ReaderTurn.TheVariants as turn
@@ -19,19 +19,19 @@ use Rattle.eo_sexp.specs.declared.token.Token.TheVariants as token
 use Rattle.eo_sexp.specs.Token.{token_class, opening, IsToken, token_size, is_plain, atom_kind, atom_text}
 
 -- A reader with its buffer: the open lists, the innermost first; what is whole; and the token begun, without its delimiter.
-pub record Held : Type 0 where
+pub record Progress : Type 0 where
   pub frames : List OpenList
   pub done : List Sexp
-  pub place : Place
+  pub position : Position
   pub from : ℕ
   pub text : List ℕ
 
-abbrev pub text_at : Place → (from : ℕ) → List ℕ → List ℕ
-text_at (place.Token t) from bytes = drop (from + length (opening t)) bytes
+abbrev pub text_at : Position → (from : ℕ) → List ℕ → List ℕ
+text_at (position.Token t) from bytes = drop (from + length (opening t)) bytes
 text_at p from bytes = []
 
-abbrev pub held : Built → Reader → Held
-held b r = record { frames = b.open_lists; done = b.done; place = r.place; from = r.from; text = text_at r.place r.from b.bytes }
+abbrev pub held : Built → Reader → Progress
+held b r = record { frames = b.open_lists; done = b.done; position = r.position; from = r.from; text = text_at r.position r.from b.bytes }
 
 -- it has a delimiter at each end
 abbrev pub is_delimited : Token → Bool
@@ -47,11 +47,11 @@ IsAtom Word = Unit {0}
 IsAtom c = ⊥
 
 -- the atom that the token of r is, where it ends before byte `to`
-abbrev pub atom_of : (r : Held) → Token → (to : ℕ) → Sexp
+abbrev pub atom_of : (r : Progress) → Token → (to : ℕ) → Sexp
 atom_of r t to = Atom (atom_kind t r.text) (atom_text t r.text) (record { from = r.from; to = to })
 
 -- the token of r may end before byte `to`, where `at` bytes are taken
-abbrev pub EndsAt : (r : Held) → Token → (at to : ℕ) → Type 0
+abbrev pub EndsAt : (r : Progress) → Token → (at to : ℕ) → Type 0
 EndsAt r token.Word at to = (r.from + length r.text ≡ at) × (to ≡ at)
 EndsAt r (token.Text closed) at to = (r.from + (1 + length r.text) ≡ at) × (0 < length r.text) × (to ≡ at)
 EndsAt r token.Quoted at to = (r.from + (1 + length r.text) ≡ at) × (to ≡ at + 1)
@@ -68,7 +68,7 @@ pub record FirstOf (x : ℕ) (t : Token) : Type 0 where
 
 -- the same where the next byte may begin one
 pub record IsFirstOf (r : Reader) (x : ℕ) (t : Token) : Type 0 where
-  pub gap : r.place ≡ place.Gap
+  pub gap : r.position ≡ position.Gap
   pub first : FirstOf x t
 
 module _ (limits : Limits) where
@@ -95,32 +95,32 @@ module _ (limits : Limits) where
   token_reading [] r = r
   token_reading (f ∷ fs) r = r >>= child_reading (f ∷ fs)
 
-  unfoldable pub place_reading : List OpenList → Place → (from : ℕ) → List ℕ → (at : ℕ) → List ℕ → Reading Sexp
-  place_reading fs place.Gap from text at more = gap_reading fs (pass false at more).rest
-  place_reading fs place.Comment from text at more = gap_reading fs (pass true at more).rest
-  place_reading fs (place.Token t) from text at more = token_reading fs (atom limits (token_class t) (record { at = from; bytes = opening t ++ (text ++ more) }))
+  unfoldable pub position_reading : List OpenList → Position → (from : ℕ) → List ℕ → (at : ℕ) → List ℕ → Reading Sexp
+  position_reading fs position.Gap from text at more = gap_reading fs (pass false at more).rest
+  position_reading fs position.Comment from text at more = gap_reading fs (pass true at more).rest
+  position_reading fs (position.Token t) from text at more = token_reading fs (atom limits (token_class t) (record { at = from; bytes = opening t ++ (text ++ more) }))
 
   -- The reading of the command that is begun, where so many of its bytes are taken and these follow.
-  abbrev pub reading : Held → (at : ℕ) → List ℕ → Reading Sexp
-  reading r at more = place_reading r.frames r.place r.from r.text at more
+  abbrev pub reading : Progress → (at : ℕ) → List ℕ → Reading Sexp
+  reading r at more = position_reading r.frames r.position r.from r.text at more
 
-  abbrev pub IsPlace : (open_lists : ℕ) → Place → (from : ℕ) → List ℕ → (at : ℕ) → Type 0
-  IsPlace n place.Gap from text at = 0 < n
-  IsPlace n place.Comment from text at = 0 < n
-  IsPlace n (place.Token t) from text at = IsToken t text × (from + token_size t text ≡ at) × (token_size t text ≤ limits.token)
+  abbrev pub IsPosition : (open_lists : ℕ) → Position → (from : ℕ) → List ℕ → (at : ℕ) → Type 0
+  IsPosition n position.Gap from text at = 0 < n
+  IsPosition n position.Comment from text at = 0 < n
+  IsPosition n (position.Token t) from text at = IsToken t text × (from + token_size t text ≡ at) × (token_size t text ≤ limits.token)
 
   -- each list and atom so far has a byte of its own, before the token that is begun
-  abbrev pub HasBytes : (parts : ℕ) → Place → (from at : ℕ) → Type 0
-  HasBytes n place.Gap from at = n ≤ at
-  HasBytes n place.Comment from at = n ≤ at
-  HasBytes n (place.Token t) from at = (n ≤ from) × (from < at)
+  abbrev pub HasBytes : (parts : ℕ) → Position → (from at : ℕ) → Type 0
+  HasBytes n position.Gap from at = n ≤ at
+  HasBytes n position.Comment from at = n ≤ at
+  HasBytes n (position.Token t) from at = (n ≤ from) × (from < at)
 
   -- so many bytes of the command are taken
-  pub record IsReader (r : Held) (at : ℕ) : Type 0 where
+  pub record IsReader (r : Progress) (at : ℕ) : Type 0 where
     pub nested : length r.frames ≤ limits.nesting
-    pub stands : IsPlace (length r.frames) r.place r.from r.text at
+    pub stands : IsPosition (length r.frames) r.position r.from r.text at
     pub none : r.done ≡ []
-    pub own : HasBytes (parts_in r.frames) r.place r.from at
+    pub own : HasBytes (parts_in r.frames) r.position r.from at
 
   -- The child s is added to the innermost list, or is the whole command.
   abbrev pub AddsChild : (old : Built) → Sexp → (new : Built) → (whole : Bool) → Type 0
@@ -146,27 +146,27 @@ module _ (limits : Limits) where
   is_full (f ∷ fs) = nat_le limits.width (length f.children)
 
   -- the byte x, which has the number `at`, is taken or decides
-  abbrev pub Turns : (old : Held) → (at x : ℕ) → ReaderTurn → (new : Held) → Type 0
+  abbrev pub Turns : (old : Progress) → (at x : ℕ) → ReaderTurn → (new : Progress) → Type 0
   Turns old at x turn.Goes new = IsReader new (suc at) × ((more : List ℕ) → reading old at (x ∷ more) ≡ reading new (suc at) more)
   Turns old at x turn.Before new = (s : Sexp) × (new.done ≡ s ∷ []) × (new.frames ≡ []) × ((more : List ℕ) → reading old at (x ∷ more) ≡ Whole s (record { at = at; bytes = x ∷ more }))
   Turns old at x turn.Whole new = (s : Sexp) × (new.done ≡ s ∷ []) × (new.frames ≡ []) × ((more : List ℕ) → reading old at (x ∷ more) ≡ Whole s (record { at = suc at; bytes = more }))
   Turns old at x (turn.Fault name) new = (more : List ℕ) → reading old at (x ∷ more) ≡ Refused name at
 
   -- the input ends behind the bytes so far
-  abbrev pub Ends : (old : Held) → (to : ℕ) → (new : Built) → (whole : Bool) → Type 0
+  abbrev pub Ends : (old : Progress) → (to : ℕ) → (new : Built) → (whole : Bool) → Type 0
   Ends old to new true = (s : Sexp) × IsWhole new s × (reading old to [] ≡ Cut (Some s))
   Ends old to new false = reading old to [] ≡ Cut None
 
   -- a token begins with the byte x
-  pub record BeginsToken (old : Held) (at x : ℕ) (new : Held) : Type 0 where
+  pub record BeginsToken (old : Progress) (at x : ℕ) (new : Progress) : Type 0 where
     pub frames : new.frames ≡ old.frames
     pub done : new.done ≡ old.done
-    pub stands : (n : ℕ) → IsPlace n new.place new.from new.text (suc at)
-    pub own : (n : ℕ) → n ≤ at → HasBytes n new.place new.from (suc at)
-    pub reads : (fs : List OpenList) (more : List ℕ) → token_reading fs (atom limits (class x) (record { at = at; bytes = x ∷ more })) ≡ place_reading fs new.place new.from new.text (suc at) more
+    pub stands : (n : ℕ) → IsPosition n new.position new.from new.text (suc at)
+    pub own : (n : ℕ) → n ≤ at → HasBytes n new.position new.from (suc at)
+    pub reads : (fs : List OpenList) (more : List ℕ) → token_reading fs (atom limits (class x) (record { at = at; bytes = x ∷ more })) ≡ position_reading fs new.position new.from new.text (suc at) more
 
   -- a command begins with the byte x
-  abbrev pub Begins : (x : ℕ) → (new : Held) → Type 0
+  abbrev pub Begins : (x : ℕ) → (new : Progress) → Type 0
   Begins x new = IsReader new 1 × ((more : List ℕ) → sexp limits (class x) (record { at = 0; bytes = x ∷ more }) ≡ reading new 1 more)
 
   -- a token t that begins at the front of `rest` may be the next child of the innermost list, and so many of its bytes are plain but for the first

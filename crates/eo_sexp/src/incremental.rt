@@ -684,7 +684,8 @@ impl Model for Collector {
 
 impl Collector {
     /// A collector at the start of a file. `wrapped` tells whether the file may have the wrappings
-    /// of a proof: the word `unsat` at its start, and an outer pair of parentheses.
+    /// of a proof: the word `unsat` at its start, and an outer pair of parentheses. `Err` is want of
+    /// memory.
     pub fn new(alloc: Global, wrapped: bool) -> Result<Collector, AllocError>
         ensures { IfOk result (λ c. c ≡ new_collector wrapped) }
     {

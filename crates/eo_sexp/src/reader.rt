@@ -21,7 +21,7 @@ use std::alloc::AllocError;
 
 /// What the next byte stands in.
 #[derive(Clone, Copy, Debug, PartialEq, Eq)]
-pub(crate) enum Place {
+pub(crate) enum Position {
     /// White space, between two tokens.
     Gap,
     Comment,
@@ -53,7 +53,7 @@ pub(crate) struct Run {
 /// A command that is begun and not whole: the token that is begun. Its buffer has the rest.
 #[derive(Drop)]
 pub(crate) struct Reader {
-    place: Place,
+    position: Position,
     // the number of the token's first byte
     from: usize,
 }
@@ -102,13 +102,13 @@ fn is_full(buffer: &Buffer) -> bool
 }
 
 // What the byte behind the byte x of a comment stands in.
-fn behind_comment_byte(x: u8) -> Place
-    ensures { result ≡ (if is_line_end x then Place.Gap else Place.Comment) }
+fn behind_comment_byte(x: u8) -> Position
+    ensures { result ≡ (if is_line_end x then Position.Gap else Position.Comment) }
 {
     if is_line_end(x) {
-        Place::Gap
+        Position::Gap
     } else {
-        Place::Comment
+        Position::Comment
     }
 }
 
@@ -176,7 +176,7 @@ impl Reader {
     // Before a command.
     pub(crate) fn new() -> Reader {
         Reader {
-            place: Place::Gap,
+            position: Position::Gap,
             from: 0,
         }
     }
@@ -187,7 +187,7 @@ impl Reader {
         ensures bytes { OnOk result (buffer.new.bytes ≡ []) }
         ensures begins { OnOk result ((x : ℕ) → class x ≡ Open → Begins limits x (held (with_byte buffer.new x) self.new)) }
     {
-        self.place = Place::Gap;
+        self.position = Position::Gap;
         buffer.open_list(0)
     }
 
@@ -209,9 +209,9 @@ impl Reader {
     {
         self.from = at;
         match c {
-            Class::Quote => self.place = Place::Token(Token::Text { closed: false }),
-            Class::Bar => self.place = Place::Token(Token::Quoted),
-            _ => self.place = Place::Token(Token::Word),
+            Class::Quote => self.position = Position::Token(Token::Text { closed: false }),
+            Class::Bar => self.position = Position::Token(Token::Quoted),
+            _ => self.position = Position::Token(Token::Word),
         }
     }
 
@@ -229,13 +229,13 @@ impl Reader {
         ensures bytes { OnOk result (buffer.new.bytes ≡ buffer.old.bytes) }
         ensures turns { IfOk result (λ t. Turns limits (held buffer.old self.old) at x t (held (with_byte buffer.new x) self.new)) }
     {
-        match self.place {
-            Place::Gap => self.turn_gap(buffer, at, x),
-            Place::Comment => {
-                self.place = behind_comment_byte(x);
+        match self.position {
+            Position::Gap => self.turn_gap(buffer, at, x),
+            Position::Comment => {
+                self.position = behind_comment_byte(x);
                 Ok(ReaderTurn::Goes)
             }
-            Place::Token(token) => self.turn_token(buffer, token, at, x),
+            Position::Token(token) => self.turn_token(buffer, token, at, x),
         }
     }
 
@@ -307,7 +307,7 @@ impl Reader {
         ensures moves { IfOk result (λ r. r.turn ≡ ReaderTurn.Goes → 0 < r.taken) }
         ensures runs { IfOk result (λ r. Runs limits buffer.old self.old rest.now r.taken r.lines r.turn buffer.new self.new) }
     {
-        if rest[0] == b' ' && self.place == Place::Gap {
+        if rest[0] == b' ' && self.position == Position::Gap {
             return self.take_blanks(buffer, rest);
         }
         let at = buffer.bytes().len();
@@ -329,7 +329,7 @@ impl Reader {
     #[inline(always)]
     fn take_blanks(&self, buffer: &mut Buffer, rest: &[u8]) -> Result<Run, AllocError>
         requires reader { IsReader limits (held buffer.old self.now) (length buffer.old.bytes) }
-        requires gap { self.now.place ≡ Place.Gap }
+        requires gap { self.now.position ≡ Position.Gap }
         requires room { length buffer.old.bytes + length rest.now ≤ 2 ^ 24 }
         requires some { 0 < length rest.now }
         requires first { get_or rest.now 0 0 ≡ 32 }
@@ -350,8 +350,8 @@ impl Reader {
     fn begins_word(&self, x: u8) -> bool
         ensures { IsTrue result → IsFirstOf self.now x Token.Word }
     {
-        match self.place {
-            Place::Gap => begins_word(x),
+        match self.position {
+            Position::Gap => begins_word(x),
             _ => false,
         }
     }
@@ -361,8 +361,8 @@ impl Reader {
     fn begins(&self, x: u8) -> Option<Token>
         ensures { IfSome result (λ t. IsFirstOf self.now x t) }
     {
-        match self.place {
-            Place::Gap => first_of_token(x),
+        match self.position {
+            Position::Gap => first_of_token(x),
             _ => None,
         }
     }
@@ -451,7 +451,7 @@ impl Reader {
         requires ahead { IsAhead limits buffer.old token rest.now n }
         ensures { IfOk result (λ t. StopsAt limits buffer.old self.old rest.now n 0 t buffer.new self.new) }
     {
-        self.place = Place::Token(token);
+        self.position = Position::Token(token);
         self.from = at;
         buffer.extend(rest, n)?;
         self.turn_token(buffer, token, at + n, rest[n])
@@ -465,10 +465,10 @@ impl Reader {
         requires short { length buffer.old.bytes ≤ limits.command }
         ensures { IfOk result (λ n. RunsTo limits buffer.old self.now rest.now n 0 buffer.new self.now) }
     {
-        match self.place {
-            Place::Token(token) => self.run_token(buffer, token, rest),
-            Place::Comment => self.run_comment(buffer, rest),
-            Place::Gap => Ok(0),
+        match self.position {
+            Position::Token(token) => self.run_token(buffer, token, rest),
+            Position::Comment => self.run_comment(buffer, rest),
+            Position::Gap => Ok(0),
         }
     }
 
@@ -476,7 +476,7 @@ impl Reader {
     #[inline(never)]
     fn run_comment(&self, buffer: &mut Buffer, rest: &[u8]) -> Result<usize, AllocError>
         requires reader { IsReader limits (held buffer.old self.now) (length buffer.old.bytes) }
-        requires comment { self.now.place ≡ Place.Comment }
+        requires comment { self.now.position ≡ Position.Comment }
         requires short { length buffer.old.bytes ≤ limits.command }
         ensures { IfOk result (λ n. RunsTo limits buffer.old self.now rest.now n 0 buffer.new self.now) }
     {
@@ -492,7 +492,7 @@ impl Reader {
     #[inline(always)]
     fn run_token(&self, buffer: &mut Buffer, token: Token, rest: &[u8]) -> Result<usize, AllocError>
         requires reader { IsReader limits (held buffer.old self.now) (length buffer.old.bytes) }
-        requires token { self.now.place ≡ Place.Token token }
+        requires token { self.now.position ≡ Position.Token token }
         requires short { length buffer.old.bytes ≤ limits.command }
         ensures { IfOk result (λ n. RunsTo limits buffer.old self.now rest.now n 0 buffer.new self.now) }
     {
@@ -513,7 +513,7 @@ impl Reader {
     #[inline(always)]
     fn turn_gap(&mut self, buffer: &mut Buffer, at: usize, x: u8) -> Result<ReaderTurn, AllocError>
         requires reader { IsReader limits (held buffer.old self.old) at }
-        requires gap { self.old.place ≡ Place.Gap }
+        requires gap { self.old.position ≡ Position.Gap }
         requires at { length buffer.old.bytes ≡ at }
         requires room { at < 2 ^ 31 }
         ensures bytes { OnOk result (buffer.new.bytes ≡ buffer.old.bytes) }
@@ -522,7 +522,7 @@ impl Reader {
         match classify(x) {
             Class::Space => Ok(ReaderTurn::Goes),
             Class::Comment => {
-                self.place = Place::Comment;
+                self.position = Position::Comment;
                 Ok(ReaderTurn::Goes)
             }
             Class::Other => Ok(ReaderTurn::Fault(FaultName::BadByte)),
@@ -546,7 +546,7 @@ impl Reader {
     // A `(` between two tokens of a list.
     fn open_list(&mut self, buffer: &mut Buffer, at: usize) -> Result<ReaderTurn, AllocError>
         requires reader { IsReader limits (held buffer.old self.old) at }
-        requires gap { self.old.place ≡ Place.Gap }
+        requires gap { self.old.position ≡ Position.Gap }
         requires at { length buffer.old.bytes ≡ at }
         requires room { at < 2 ^ 31 }
         ensures bytes { OnOk result (buffer.new.bytes ≡ buffer.old.bytes) }
@@ -573,7 +573,7 @@ impl Reader {
         x: u8,
     ) -> Result<ReaderTurn, AllocError>
         requires reader { IsReader limits (held buffer.old self.old) at }
-        requires token { self.old.place ≡ Place.Token token }
+        requires token { self.old.position ≡ Position.Token token }
         requires at { length buffer.old.bytes ≡ at }
         requires room { at < 2 ^ 31 }
         ensures bytes { OnOk result (buffer.new.bytes ≡ buffer.old.bytes) }
@@ -581,13 +581,13 @@ impl Reader {
     {
         match token_turn(token, at - self.from, x) {
             TokenTurn::Goes(token) => {
-                self.place = Place::Token(token);
+                self.position = Position::Token(token);
                 Ok(ReaderTurn::Goes)
             }
             TokenTurn::Fault(name) => Ok(ReaderTurn::Fault(name)),
             TokenTurn::Closes => {
                 let whole = self.end_token(buffer, token, at + 1)?;
-                self.place = Place::Gap;
+                self.position = Position::Gap;
                 if whole {
                     return Ok(ReaderTurn::Whole);
                 }
@@ -595,7 +595,7 @@ impl Reader {
             }
             TokenTurn::Ends => {
                 let whole = self.end_token(buffer, token, at)?;
-                self.place = Place::Gap;
+                self.position = Position::Gap;
                 if whole {
                     return Ok(ReaderTurn::Before);
                 }
@@ -608,7 +608,7 @@ impl Reader {
     // tells whether it is the whole command.
     #[inline(always)]
     fn end_token(&self, buffer: &mut Buffer, token: Token, to: usize) -> Result<bool, AllocError>
-        requires token { self.now.place ≡ Place.Token token }
+        requires token { self.now.position ≡ Position.Token token }
         requires ends { EndsAt (held buffer.old self.now) token (length buffer.old.bytes) to }
         requires short { to ≤ 2 ^ 31 }
         requires own { parts_of buffer.old ≤ self.now.from }
@@ -623,7 +623,7 @@ impl Reader {
     #[inline(always)]
     fn kind(&self, bytes: &[u8], token: Token) -> AtomKind
         requires { self.now.from ≤ length bytes.now }
-        ensures { kind_meant result ≡ atom_kind token (text_at (Place.Token token) self.now.from bytes.now) }
+        ensures { kind_meant result ≡ atom_kind token (text_at (Position.Token token) self.now.from bytes.now) }
     {
         match token {
             Token::Word => kind_of(&bytes[self.from..]),
@@ -644,9 +644,9 @@ impl Reader {
         if buffer.depth() != 0 {
             return false;
         }
-        match self.place {
-            Place::Gap | Place::Comment => false,
-            Place::Token(token) => {
+        match self.position {
+            Position::Gap | Position::Comment => false,
+            Position::Token(token) => {
                 if !may_end(token) {
                     return false;
                 }
@@ -658,7 +658,7 @@ impl Reader {
 
     // Makes the atom that the token begun is the whole command. It takes no memory.
     fn end_command(&self, buffer: &mut Buffer, token: Token, to: usize)
-        requires token { self.now.place ≡ Place.Token token }
+        requires token { self.now.position ≡ Position.Token token }
         requires ends { EndsAt (held buffer.old self.now) token (length buffer.old.bytes) to }
         requires short { to ≤ 2 ^ 31 }
         requires none { buffer.old.done ≡ [] }

@@ -1,6 +1,6 @@
 -- Lists of which each item has a shape.
-use Rattle.std.proofs.Common.{◌≡◌, ◌<◌, ℕ, zero, suc, List, [], ◌∷◌, Option, None, Some, refl, ap, sym, ◌∙◌, arith, rules}
-use Rattle.std.specs.Prelude.{option_map, option_and_then, length, map, slice_get, slice_index_or}
+use Rattle.std.proofs.Common.{◌≡◌, suc, List, [], ◌∷◌, Option, None, Some, refl, ap, sym, ◌∙◌, rules}
+use Rattle.std.specs.Prelude.{option_map, option_and_then, length}
 use Rattle.std.specs.Option.{IsSome}
 use Rattle.std.proofs.lemmas.Option.{none-some}
 use Rattle.eo_shape.specs.Shapes.{every}
@@ -20,21 +20,6 @@ module _ {A B : Type 0} (f : A → Option B) where
   every-length (x ∷ xs) ys e =
       let p = every-cons x xs ys e in
       ap suc (every-length xs p.1 p.3) ∙ ap length (sym p.4)
-
-  -- the item at a place, and what it has
-  pub every-index : (xs : List A) (ys : List B) (i : ℕ) (x : A) → every f xs ≡ Some ys → i < length xs → x ≡ slice_index_or xs i x → (y : B) × (f x ≡ Some y) × (slice_get ys i ≡ Some y)
-  every-index [] ys i x e within is = absurd (omega (arith, within))
-  every-index (a ∷ xs) ys zero x e within is =
-      let p = every-cons a xs ys e in
-      (p.0, ap f is ∙ p.2, ap (λ zs. slice_get zs 0) p.4)
-  every-index (a ∷ xs) ys (suc i) x e within is =
-      let p = every-cons a xs ys e in
-      let q = every-index xs p.1 i x p.3 (omega (arith, within)) is in
-      (q.0, q.1, ap (λ zs. slice_get zs (suc i)) p.4 ∙ q.2)
-
-pub every-map : {A B C : Type 0} (f : B → Option C) (g : A → B) (xs : List A) → every (λ x. f (g x)) xs ≡ every f (map g xs)
-every-map f g [] = refl
-every-map f g (x ∷ xs) = ap (λ rest. option_and_then (λ y. option_map (λ ys. y ∷ ys) rest) (f (g x))) (every-map f g xs)
 
 -- where there is something to make it of
 pub mapped-some : {A B : Type 0} (f : A → B) (o : Option A) (y : B) → option_map f o ≡ Some y → IsSome o

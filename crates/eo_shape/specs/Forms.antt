@@ -12,5 +12,6 @@ shape_by form.DeclareSort = shapes.declare_sort
 shape_by form.DeclareParameterized = shapes.declare_parameterized
 shape_by form.DeclareLiterals = shapes.declare_literals
 shape_by form.Define = shapes.define
+shape_by form.Program = shapes.define_program
 shape_by form.Assume = shapes.named_formula shapes.Assume
 shape_by form.Assert = shapes.assert

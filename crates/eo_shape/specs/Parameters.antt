@@ -1,5 +1,5 @@
 -- Parameters that have their shape, in a list of s-expressions.
-use Rattle.std.specs.Prelude.{◌≡◌, List, [], ◌∷◌, map, Option, Some, option_and_then, unwrap_or}
+use Rattle.std.specs.Prelude.{◌≡◌, List, [], ◌∷◌, Option, Some, option_and_then, unwrap_or}
 use Rattle.eo_sexp.specs.Sexp.{Sexp}
 use Rattle.eo_shape.specs.Shapes.{ParameterShape, every, list_of, parameter_of, with_marks}
 

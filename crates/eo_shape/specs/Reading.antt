@@ -4,11 +4,12 @@ use Rattle.eo_base.specs.declared.FaultName.TheVariants as fault
 use Rattle.eo_shape.specs.declared.ParameterShape as code_parameter
 use Rattle.eo_shape.specs.declared.AttributeShape as code_attribute
 use Rattle.eo_shape.specs.declared.AttributeShape.TheVariants as attribute
+use Rattle.eo_shape.specs.declared.CaseShape as code_case
 use Rattle.eo_shape.specs.declared.Command as code_command
 use Rattle.eo_shape.specs.declared.Command.TheVariants as command
 use Rattle.eo_shape.specs.declared.ShapeRefused.{ShapeRefused}
 use Rattle.eo_shape.specs.declared.ShapeRefused.TheVariants as refused
-use Rattle.eo_shape.specs.Shapes.{ParameterShape, AttributeShape, NoAttribute, RightNilShape, LeftNilShape, RightShape, LeftShape, ChainShape, PairsShape, BinderShape, Command, DeclareConst, DeclareFun, DeclareSort, DeclareParameterized, DeclareLiterals, Define, Assume, Assert}
+use Rattle.eo_shape.specs.Shapes.{ParameterShape, AttributeShape, NoAttribute, RightNilShape, LeftNilShape, RightShape, LeftShape, ChainShape, PairsShape, BinderShape, CaseShape, Command, DeclareConst, DeclareFun, DeclareSort, DeclareParameterized, DeclareLiterals, Define, DefineProgram, Assume, Assert}
 
 abbrev pub read_parameter : code_parameter.ParameterShape → ParameterShape
 read_parameter p = record { name = p.name.now; type = p.ty; implicit = p.implicit; list = p.list }
@@ -23,6 +24,9 @@ read_attribute (attribute.Chain g) = ChainShape g
 read_attribute (attribute.Pairs g) = PairsShape g
 read_attribute (attribute.Binder b) = BinderShape b
 
+abbrev pub read_case : code_case.CaseShape → CaseShape
+read_case c = record { patterns = c.patterns; body = c.body }
+
 abbrev pub read_command : code_command.Command → Command
 read_command (command.DeclareConst name ty a) = DeclareConst name.now ty (read_attribute a)
 read_command (command.DeclareFun name inputs output) = DeclareFun name.now inputs output
@@ -30,6 +34,7 @@ read_command (command.DeclareSort name arity) = DeclareSort name.now arity
 read_command (command.DeclareParameterized name params ty a) = DeclareParameterized name.now params ty (read_attribute a)
 read_command (command.DeclareLiterals class ty) = DeclareLiterals class ty
 read_command (command.Define name params body) = Define name.now params body
+read_command (command.Program name params inputs output cases) = DefineProgram name.now params inputs output cases
 read_command (command.Assume name formula) = Assume name.now formula
 read_command (command.Assert formula) = Assert formula
 

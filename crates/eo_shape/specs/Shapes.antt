@@ -27,6 +27,11 @@ pub data AttributeShape : Type 0 where
   PairsShape : (joiner : Sexp) → AttributeShape
   BinderShape : (collector : Sexp) → AttributeShape
 
+-- ((S p ..) body): what the program S is applied to, and the body
+pub record CaseShape : Type 0 where
+  pub patterns : List Sexp
+  pub body : Sexp
+
 pub data Command : Type 0 where
   DeclareConst : (name : List ℕ) (type : Sexp) (attribute : AttributeShape) → Command
   DeclareFun : (name : List ℕ) (inputs : List Sexp) (output : Sexp) → Command
@@ -34,6 +39,7 @@ pub data Command : Type 0 where
   DeclareParameterized : (name : List ℕ) (parameters : List ParameterShape) (type : Sexp) (attribute : AttributeShape) → Command
   DeclareLiterals : (class : LiteralClass) (type : Sexp) → Command
   Define : (name : List ℕ) (parameters : List ParameterShape) (body : Sexp) → Command
+  DefineProgram : (name : List ℕ) (parameters : List ParameterShape) (inputs : List Sexp) (output : Sexp) (cases : List CaseShape) → Command
   Assume : (name : List ℕ) (formula : Sexp) → Command
   -- in reference files alone
   Assert : (formula : Sexp) → Command
@@ -130,6 +136,41 @@ abbrev pub define : List Sexp → Option Command
 define (s ∷ ps ∷ body ∷ []) = option_and_then (λ name. option_map (λ parameters. Define name parameters body) (parameters_of ps)) (symbol_of s)
 define ss = None
 
+-- the left side applies the program's own name
+abbrev pub applied_case : List ℕ → Sexp → List Sexp → Option CaseShape
+applied_case name body [] = None
+applied_case name body (h ∷ patterns) =
+    if is_some_word name (symbol_of h) then Some (record { patterns = patterns; body = body }) else None
+
+abbrev pub case_of : List ℕ → List Sexp → Option CaseShape
+case_of name (left ∷ body ∷ []) = option_and_then (applied_case name body) (list_of left)
+case_of name ss = None
+
+abbrev pub cases_of : List ℕ → Sexp → Option (List CaseShape)
+cases_of name s = list_of_each (λ c. option_and_then (case_of name) (list_of c)) s
+
+abbrev pub not_empty : List Sexp → Option (List Sexp)
+not_empty [] = None
+not_empty (t ∷ ts) = Some (t ∷ ts)
+
+abbrev pub inputs_of : Sexp → Option (List Sexp)
+inputs_of s = option_and_then not_empty (list_of s)
+
+-- a program by what follows `:signature`: the types of its inputs and its output, and its cases
+abbrev pub program_with : List ℕ → List ParameterShape → List Sexp → Option Command
+program_with name parameters (inputs ∷ output ∷ cases ∷ []) =
+    option_and_then (λ ts. option_map (DefineProgram name parameters ts output) (cases_of name cases)) (inputs_of inputs)
+program_with name parameters ss = None
+
+abbrev pub signed_program : List ℕ → List ParameterShape → Sexp → List Sexp → Option Command
+signed_program name parameters k rest =
+    if is_keyword (codes ":signature") k then program_with name parameters rest else None
+
+abbrev pub define_program : List Sexp → Option Command
+define_program (s ∷ ps ∷ k ∷ rest) =
+    option_and_then (λ name. option_and_then (λ parameters. signed_program name parameters k rest) (parameters_of ps)) (symbol_of s)
+define_program ss = None
+
 abbrev pub named_formula : (List ℕ → Sexp → Command) → List Sexp → Option Command
 named_formula command (s ∷ t ∷ []) = option_map (λ name. command name t) (symbol_of s)
 named_formula command ss = None
@@ -148,7 +189,7 @@ abbrev pub forms : List Form
 forms =
     (codes "declare-const", declare_const) ∷ (codes "declare-fun", declare_fun) ∷ (codes "declare-sort", declare_sort)
     ∷ (codes "declare-parameterized-const", declare_parameterized) ∷ (codes "declare-consts", declare_literals)
-    ∷ (codes "define", define) ∷ (codes "assume", named_formula Assume) ∷ []
+    ∷ (codes "define", define) ∷ (codes "program", define_program) ∷ (codes "assume", named_formula Assume) ∷ []
 
 -- in reference files (SMT-LIB 2.6, section 4.2 "Commands")
 abbrev pub reference_forms : List Form

@@ -3,11 +3,12 @@ ghost use Rattle.std.specs.Prelude.{◌≡◌, option_map};
 ghost use Rattle.eo_shape.specs.Reading.{read_command};
 ghost use Rattle.eo_shape.specs.Shapes as shapes;
 
-use crate::Command;
 use crate::attributes::attribute;
+use crate::cases::cases;
 use crate::parameters::parameters;
-use crate::words::{arity, class, symbol};
-use eo_sexp::Children;
+use crate::words::{arity, class, is_keyword, symbol};
+use crate::{Command, ParameterShapes};
+use eo_sexp::{Children, Sexp};
 
 pub(crate) fn declare_const<'b>(parts: &Children<'b>) -> Option<Command<'b>>
     ensures { option_map read_command result ≡ shapes.declare_const parts.now }
@@ -72,6 +73,57 @@ pub(crate) fn define<'b>(parts: &Children<'b>) -> Option<Command<'b>>
         params: parameters(&params)?,
         body,
     })
+}
+
+pub(crate) fn program<'b>(parts: &Children<'b>) -> Option<Command<'b>>
+    ensures { option_map read_command result ≡ shapes.define_program parts.now }
+{
+    let (name, params, keyword, rest) = parts.split_three()?;
+    signed_program(symbol(&name)?, parameters(&params)?, &keyword, &rest)
+}
+
+/// The program of this name and parameters, by what follows: `:signature`, and other parts.
+fn signed_program<'b>(
+    name: &'b [u8],
+    params: ParameterShapes<'b>,
+    keyword: &Sexp<'_>,
+    rest: &Children<'b>,
+) -> Option<Command<'b>>
+    ensures { option_map read_command result ≡ shapes.signed_program name.now params.entry keyword.now rest.now }
+{
+    if !is_keyword(keyword, b":signature") {
+        return None;
+    }
+    program_with(name, params, rest)
+}
+
+/// The program of this name and parameters, by its inputs, its output and its cases.
+fn program_with<'b>(
+    name: &'b [u8],
+    params: ParameterShapes<'b>,
+    rest: &Children<'b>,
+) -> Option<Command<'b>>
+    ensures { option_map read_command result ≡ shapes.program_with name.now params.entry rest.now }
+{
+    let (inputs, output, list) = rest.only_three()?;
+    Some(Command::Program {
+        name,
+        params,
+        inputs: some_terms(&inputs)?,
+        output,
+        cases: cases(name, &list)?,
+    })
+}
+
+/// The parts of a list, where there is one or more.
+fn some_terms<'b>(s: &Sexp<'b>) -> Option<Children<'b>>
+    ensures { result ≡ shapes.inputs_of s.now }
+{
+    let terms = s.list()?;
+    if terms.len() == 0 {
+        return None;
+    }
+    Some(terms)
 }
 
 pub(crate) fn assume<'b>(parts: &Children<'b>) -> Option<Command<'b>>

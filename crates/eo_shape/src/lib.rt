@@ -2,11 +2,13 @@
 #![tactic(auto)]
 
 mod attributes;
+mod cases;
 mod commands;
 mod parameters;
 mod shaping;
 mod words;
 
+pub use cases::CaseShapes;
 use eo_lit::LiteralClass;
 use eo_sexp::{Children, Sexp};
 pub use parameters::ParameterShapes;
@@ -47,6 +49,15 @@ pub enum AttributeShape<'a> {
     Binder(Sexp<'a>),
 }
 
+/// A case of a program: what the program is applied to, and the body.
+#[derive(Debug, Drop)]
+pub struct CaseShape<'a> {
+    /// The patterns of the arguments.
+    pub patterns: Children<'a>,
+    /// The body.
+    pub body: Sexp<'a>,
+}
+
 /// A command by its parts.
 #[derive(Debug, Drop)]
 pub enum Command<'a> {
@@ -84,6 +95,15 @@ pub enum Command<'a> {
         name: &'a [u8],
         params: ParameterShapes<'a>,
         body: Sexp<'a>,
+    },
+    /// `(program NAME (PARAMETER ..) :signature (INPUT ..) OUTPUT (CASE ..))`, with one input or
+    /// more. A case is `((NAME PATTERN ..) BODY)`.
+    Program {
+        name: &'a [u8],
+        params: ParameterShapes<'a>,
+        inputs: Children<'a>,
+        output: Sexp<'a>,
+        cases: CaseShapes<'a>,
     },
     /// `(assume NAME FORMULA)`
     Assume {

@@ -6,7 +6,7 @@ ghost use Rattle.eo_shape.specs.Shapes.{command_of, form_of, forms, reference_fo
 
 use crate::commands::{
     assert, assume, declare_const, declare_fun, declare_literals, declare_parameterized,
-    declare_sort, define,
+    declare_sort, define, program,
 };
 use crate::words::symbol;
 use crate::{Command, ShapeRefused};
@@ -21,6 +21,7 @@ pub(crate) enum Form {
     DeclareParameterized,
     DeclareLiterals,
     Define,
+    Program,
     Assume,
     Assert,
 }
@@ -93,6 +94,9 @@ fn proof_form(word: &[u8]) -> Option<Form>
     if word == b"define".as_slice() {
         return Some(Form::Define);
     }
+    if word == b"program".as_slice() {
+        return Some(Form::Program);
+    }
     if word == b"assume".as_slice() {
         return Some(Form::Assume);
     }
@@ -110,6 +114,7 @@ fn shaped<'b>(form: Form, parts: &Children<'b>) -> Option<Command<'b>>
         Form::DeclareParameterized => declare_parameterized(parts),
         Form::DeclareLiterals => declare_literals(parts),
         Form::Define => define(parts),
+        Form::Program => program(parts),
         Form::Assume => assume(parts),
         Form::Assert => assert(parts),
     }

@@ -1,7 +1,8 @@
 //! Shapes of commands, by hand.
 mod text;
 
-use crate::{AttributeShape, Command, ParameterShapes, ShapeRefused, command_of};
+use crate::{AttributeShape, CaseShapes, Command, ParameterShapes, ShapeRefused, command_of};
+use eo_sexp::Children;
 use std::fmt::Write;
 use std::test::Fail;
 use text::Text;
@@ -46,6 +47,22 @@ fn write_parameters(out: &mut String, params: &ParameterShapes<'_>) -> Result<()
     Ok(())
 }
 
+fn write_terms(out: &mut String, terms: &Children<'_>) -> Result<(), Fail> {
+    for t in terms.again() {
+        write_bytes(out, t.text())?;
+    }
+    Ok(())
+}
+
+fn write_cases(out: &mut String, cases: &CaseShapes<'_>) -> Result<(), Fail> {
+    for case in cases.again() {
+        out.push_str("case ")?;
+        write_terms(out, &case.patterns)?;
+        write_bytes(out, case.body.text())?;
+    }
+    Ok(())
+}
+
 // The parts of a command in order, with the bytes of each atom.
 fn write_command(out: &mut String, command: Command<'_>) -> Result<(), Fail> {
     match command {
@@ -64,9 +81,7 @@ fn write_command(out: &mut String, command: Command<'_>) -> Result<(), Fail> {
             output,
         } => {
             write_bytes(out, name)?;
-            for input in inputs {
-                write_bytes(out, input.text())?;
-            }
+            write_terms(out, &inputs)?;
             write_bytes(out, output.text())
         }
         Command::DeclareSort { name, arity } => {
@@ -92,6 +107,19 @@ fn write_command(out: &mut String, command: Command<'_>) -> Result<(), Fail> {
             write_bytes(out, name)?;
             write_parameters(out, &params)?;
             write_bytes(out, body.text())
+        }
+        Command::Program {
+            name,
+            params,
+            inputs,
+            output,
+            cases,
+        } => {
+            write_bytes(out, name)?;
+            write_parameters(out, &params)?;
+            write_terms(out, &inputs)?;
+            write_bytes(out, output.text())?;
+            write_cases(out, &cases)
         }
         Command::Assume { name, formula } => {
             write_bytes(out, name)?;
@@ -136,6 +164,12 @@ fn shapes(rt: HostRuntime) -> Result<(), Fail> {
         ("(declare-consts <binary> B)", false, "Binary B "),
         ("(declare-consts <string> S)", false, "String S "),
         ("(define m ((x T :list)) x)", false, "m x T list x "),
+        (
+            "(program p ((x A) (y B :list)) :signature (A B) C (((p x y) t) ((p) x)))",
+            false,
+            "p x A y B list A B C case x y t case x ",
+        ),
+        ("(program p () :signature (A) B ())", false, "p A B "),
         ("(assume a f)", false, "a f "),
         ("(assert f)", true, "f "),
     ] {
@@ -194,6 +228,71 @@ fn wrong_shapes(rt: HostRuntime) -> Result<(), Fail> {
         ),
         ("(define m ((x)) x)", false, ShapeRefused::BadCommand),
         ("(define m (x) x)", false, ShapeRefused::BadCommand),
+        (
+            "(program p () :signature (A) B ())",
+            true,
+            ShapeRefused::UnknownCommand,
+        ),
+        (
+            "(program (p) () :signature (A) B ())",
+            false,
+            ShapeRefused::BadCommand,
+        ),
+        (
+            "(program p (x) :signature (A) B ())",
+            false,
+            ShapeRefused::BadCommand,
+        ),
+        (
+            "(program p () (A) B (((p x) x)))",
+            false,
+            ShapeRefused::BadCommand,
+        ),
+        (
+            "(program p () :sig (A) B (((p x) x)))",
+            false,
+            ShapeRefused::BadCommand,
+        ),
+        (
+            "(program p () :signature () B ((p x)))",
+            false,
+            ShapeRefused::BadCommand,
+        ),
+        (
+            "(program p () :signature (A) B)",
+            false,
+            ShapeRefused::BadCommand,
+        ),
+        (
+            "(program p () :signature (A) B p)",
+            false,
+            ShapeRefused::BadCommand,
+        ),
+        (
+            "(program p () :signature (A) B () ())",
+            false,
+            ShapeRefused::BadCommand,
+        ),
+        (
+            "(program p () :signature (A) B (((q x) x)))",
+            false,
+            ShapeRefused::BadCommand,
+        ),
+        (
+            "(program p () :signature (A) B (((p x) x) (p x)))",
+            false,
+            ShapeRefused::BadCommand,
+        ),
+        (
+            "(program p () :signature (A) B (((p x) x x)))",
+            false,
+            ShapeRefused::BadCommand,
+        ),
+        (
+            "(program p () :signature (A) B ((() x)))",
+            false,
+            ShapeRefused::BadCommand,
+        ),
     ] {
         let read = Text::new(&rt, rt.alloc(), text)?;
         match command_of(&read.sexp(), in_reference) {

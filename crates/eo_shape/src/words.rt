@@ -3,7 +3,7 @@ ghost use Rattle.std.specs.Prelude.{◌≡◌, option_and_then, nat_le, if◌the
 ghost use Rattle.std.specs.Option.{option_copied};
 ghost use Rattle.eo_lit.specs.Literals.{numeral};
 ghost use Rattle.eo_shape.specs.Shapes.{arity_of, class_named, is_keyword};
-ghost use Rattle.eo_shape.specs.Words.{symbol_of, keyword_of};
+ghost use Rattle.eo_shape.specs.Words.{symbol_of, keyword_of, is_some_word};
 
 use eo_lit::{LiteralClass, read_numeral};
 use eo_sexp::{Kind, Sexp};
@@ -18,6 +18,16 @@ pub fn symbol<'b>(s: &Sexp<'b>) -> Option<&'b [u8]>
     match s.kind() {
         Kind::Symbol => Some(s.text()),
         _ => None,
+    }
+}
+
+/// Whether it is this symbol.
+pub(crate) fn is_symbol(s: &Sexp<'_>, word: &[u8]) -> bool
+    ensures { result ≡ is_some_word word.now (symbol_of s.now) }
+{
+    match s.kind() {
+        Kind::Symbol => s.text() == word,
+        _ => false,
     }
 }
 

@@ -9,3 +9,4 @@ pub mod Keeping
 pub mod Solving
 pub mod Usable
 pub mod Growing
+pub mod Views

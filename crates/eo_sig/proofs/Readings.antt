@@ -81,27 +81,27 @@ module _ (ts : List Tree) where
   literal_read l es = sym (ap (λ us. slice_get us 0) (literals_read l es) ∙ slice_get-map (tree_at ts) (filter_map (literal_id l) es) 0)
 
   -- by name, over any table of names
-  module _ {V : Type 0} (items : V → List ℕ) (w : List ℕ) where
-    same_names : {Y : Type 0} (names : List (V × ℕ)) (name : Y → List ℕ) (ys : List Y) → map (λ (e : V × ℕ). items e.0) names ≡ map name ys
-        → position (λ v. bytes_eq w (items v)) (map (λ (e : V × ℕ). e.0) names) ≡ position (λ y. bytes_eq w (name y)) ys
+  module _ (w : List ℕ) where
+    same_names : {Y : Type 0} (names : List (List ℕ × ℕ)) (name : Y → List ℕ) (ys : List Y) → map (λ (e : List ℕ × ℕ). e.0) names ≡ map name ys
+        → position (λ v. bytes_eq w v) (map (λ (e : List ℕ × ℕ). e.0) names) ≡ position (λ y. bytes_eq w (name y)) ys
     same_names names name ys e =
-        position_same (bytes_eq w) items name (map (λ (e : V × ℕ). e.0) names) ys (map_twice items (λ (e : V × ℕ). e.0) (λ e. items e.0) (λ e. refl) names ∙ e)
+        position_same (bytes_eq w) (λ v. v) name (map (λ (e : List ℕ × ℕ). e.0) names) ys (map_twice (λ v. v) (λ (e : List ℕ × ℕ). e.0) (λ e. e.0) (λ e. refl) names ∙ e)
 
-    pub constant_found : (es : List Declared) (names : List (V × ℕ)) → IsTable items const_name es names → position (λ v. bytes_eq w (items v)) (map (λ (e : V × ℕ). e.0) names) ≡ sig.constant_named (map (read_entry ts) es) w
-    constant_found es names h = same_names names (λ (c : sig.Constant). c.name) (sig.constants (map (read_entry ts) es)) (table_names items const_name es names h ∙ constant_names es)
+    pub constant_found : (es : List Declared) (names : List (List ℕ × ℕ)) → IsTable const_name es names → position (λ v. bytes_eq w v) (map (λ (e : List ℕ × ℕ). e.0) names) ≡ sig.constant_named (map (read_entry ts) es) w
+    constant_found es names h = same_names names (λ (c : sig.Constant). c.name) (sig.constants (map (read_entry ts) es)) (table_names const_name es names h ∙ constant_names es)
 
-    pub program_found : (es : List Declared) (names : List (V × ℕ)) → IsTable items program_name es names → position (λ v. bytes_eq w (items v)) (map (λ (e : V × ℕ). e.0) names) ≡ sig.program_named (map (read_entry ts) es) w
-    program_found es names h = same_names names (λ (c : sig.Program). c.name) (sig.programs (map (read_entry ts) es)) (table_names items program_name es names h ∙ program_names es)
+    pub program_found : (es : List Declared) (names : List (List ℕ × ℕ)) → IsTable program_name es names → position (λ v. bytes_eq w v) (map (λ (e : List ℕ × ℕ). e.0) names) ≡ sig.program_named (map (read_entry ts) es) w
+    program_found es names h = same_names names (λ (c : sig.Program). c.name) (sig.programs (map (read_entry ts) es)) (table_names program_name es names h ∙ program_names es)
 
-    pub rule_found : (es : List Declared) (names : List (V × ℕ)) → IsTable items rule_name es names → position (λ v. bytes_eq w (items v)) (map (λ (e : V × ℕ). e.0) names) ≡ sig.rule_named (map (read_entry ts) es) w
-    rule_found es names h = same_names names (λ (c : sig.Rule). c.name) (sig.rules (map (read_entry ts) es)) (table_names items rule_name es names h ∙ rule_names es)
+    pub rule_found : (es : List Declared) (names : List (List ℕ × ℕ)) → IsTable rule_name es names → position (λ v. bytes_eq w v) (map (λ (e : List ℕ × ℕ). e.0) names) ≡ sig.rule_named (map (read_entry ts) es) w
+    rule_found es names h = same_names names (λ (c : sig.Rule). c.name) (sig.rules (map (read_entry ts) es)) (table_names rule_name es names h ∙ rule_names es)
 
-    pub macro_found : (ms : List (V × MacroDecl)) → map (λ (e : V × MacroDecl). items e.0) ms ≡ map (λ (e : V × MacroDecl). e.1.name) ms
-        → position (λ v. bytes_eq w (items v)) (map (λ (e : V × MacroDecl). e.0) ms) ≡ sig.macro_named (map (read_macro ts) (map (λ (e : V × MacroDecl). e.1) ms)) w
+    pub macro_found : (ms : List (List ℕ × MacroDecl)) → map (λ (e : List ℕ × MacroDecl). e.0) ms ≡ map (λ (e : List ℕ × MacroDecl). e.1.name) ms
+        → position (λ v. bytes_eq w v) (map (λ (e : List ℕ × MacroDecl). e.0) ms) ≡ sig.macro_named (map (read_macro ts) (map (λ (e : List ℕ × MacroDecl). e.1) ms)) w
     macro_found ms h =
-        position_same (bytes_eq w) items (λ (m : sig.Macro). m.name) (map (λ (e : V × MacroDecl). e.0) ms) (map (read_macro ts) (map (λ (e : V × MacroDecl). e.1) ms))
-        (map_twice items (λ (e : V × MacroDecl). e.0) (λ e. items e.0) (λ e. refl) ms ∙ h
-        ∙ sym (ap (map (λ (m : sig.Macro). m.name)) (map_twice (read_macro ts) (λ (e : V × MacroDecl). e.1) (λ e. read_macro ts e.1) (λ e. refl) ms) ∙ map_twice (λ (m : sig.Macro). m.name) (λ e. read_macro ts e.1) (λ e. e.1.name) (λ e. refl) ms))
+        position_same (bytes_eq w) (λ v. v) (λ (m : sig.Macro). m.name) (map (λ (e : List ℕ × MacroDecl). e.0) ms) (map (read_macro ts) (map (λ (e : List ℕ × MacroDecl). e.1) ms))
+        (map_twice (λ v. v) (λ (e : List ℕ × MacroDecl). e.0) (λ e. e.0) (λ e. refl) ms ∙ h
+        ∙ sym (ap (map (λ (m : sig.Macro). m.name)) (map_twice (read_macro ts) (λ (e : List ℕ × MacroDecl). e.1) (λ e. read_macro ts e.1) (λ e. refl) ms) ∙ map_twice (λ (m : sig.Macro). m.name) (λ e. read_macro ts e.1) (λ e. e.1.name) (λ e. refl) ms))
 
   -- what a call adds
   pub adds_entry : (k : Kept) (x : Declared) → Adds ts k (read_entry ts x) (with_entry x k)

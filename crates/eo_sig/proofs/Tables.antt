@@ -44,69 +44,68 @@ first_append : {X : Type 0} (xs ys : List X) → slice_get (xs ++ ys) 0 ≡ opti
 first_append [] ys = refl
 first_append (x ∷ xs) ys = refl
 
-module _ {V : Type 0} (items : V → List ℕ) where
-  abbrev pub placed : List Declared → V × ℕ → List ℕ × Option Declared
-  placed es e = (items e.0, slice_get es e.1)
+abbrev pub placed : List Declared → List ℕ × ℕ → List ℕ × Option Declared
+placed es e = (e.0, slice_get es e.1)
 
-  -- each of these has a declaration
-  abbrev AllSome : List (List ℕ × Option Declared) → Type 0
-  AllSome [] = Unit {0}
-  AllSome (q ∷ qs) = ((d : Declared) × (q.1 ≡ Some d)) × AllSome qs
+-- each of these has a declaration
+abbrev AllSome : List (List ℕ × Option Declared) → Type 0
+AllSome [] = Unit {0}
+AllSome (q ∷ qs) = ((d : Declared) × (q.1 ≡ Some d)) × AllSome qs
 
-  all_some : (pick : Declared → Option (List ℕ)) (es : List Declared) → AllSome (filter_map (tagged pick) es)
-  all_some pick [] = tt
-  all_some pick (d ∷ es) = by (pick d) (all_some pick es)
-    where
-      by : (o : Option (List ℕ)) → AllSome (filter_map (tagged pick) es) → AllSome (cons_option (option_map (λ w. (w, Some d)) o) (filter_map (tagged pick) es))
-      by None h = h
-      by (Some w) h = ((d, refl), h)
+all_some : (pick : Declared → Option (List ℕ)) (es : List Declared) → AllSome (filter_map (tagged pick) es)
+all_some pick [] = tt
+all_some pick (d ∷ es) = by (pick d) (all_some pick es)
+  where
+    by : (o : Option (List ℕ)) → AllSome (filter_map (tagged pick) es) → AllSome (cons_option (option_map (λ w. (w, Some d)) o) (filter_map (tagged pick) es))
+    by None h = h
+    by (Some w) h = ((d, refl), h)
 
-  -- a longer list has the same at the places
-  stay : (es : List Declared) (x : Declared) (names : List (V × ℕ)) (qs : List (List ℕ × Option Declared)) → AllSome qs → map (placed es) names ≡ qs → map (placed (es ++ x ∷ [])) names ≡ qs
-  stay es x [] qs a e = e
-  stay es x (n ∷ ns) [] a e = absurd cc
-  stay es x (n ∷ ns) (q ∷ qs) a e =
-      let h : placed es n ≡ q = cc in
-      let t : map (placed es) ns ≡ qs = cc in
-      let at : slice_get (es ++ x ∷ []) n.1 ≡ Some a.0.0 = slice_get_left es (x ∷ []) n.1 a.0.0 (ap (λ (r : List ℕ × Option Declared). r.1) h ∙ a.0.1) in
-      let same : slice_get (es ++ x ∷ []) n.1 ≡ slice_get es n.1 = at ∙ sym (ap (λ (r : List ℕ × Option Declared). r.1) h ∙ a.0.1) in
-      let head : placed (es ++ x ∷ []) n ≡ q = ap (λ (o : Option Declared). (items n.0, o)) same ∙ h in
-      λ i. head i ∷ stay es x ns qs a.1 t i
+-- a longer list has the same at the places
+stay : (es : List Declared) (x : Declared) (names : List (List ℕ × ℕ)) (qs : List (List ℕ × Option Declared)) → AllSome qs → map (placed es) names ≡ qs → map (placed (es ++ x ∷ [])) names ≡ qs
+stay es x [] qs a e = e
+stay es x (n ∷ ns) [] a e = absurd cc
+stay es x (n ∷ ns) (q ∷ qs) a e =
+    let h : placed es n ≡ q = cc in
+    let t : map (placed es) ns ≡ qs = cc in
+    let at : slice_get (es ++ x ∷ []) n.1 ≡ Some a.0.0 = slice_get_left es (x ∷ []) n.1 a.0.0 (ap (λ (r : List ℕ × Option Declared). r.1) h ∙ a.0.1) in
+    let same : slice_get (es ++ x ∷ []) n.1 ≡ slice_get es n.1 = at ∙ sym (ap (λ (r : List ℕ × Option Declared). r.1) h ∙ a.0.1) in
+    let head : placed (es ++ x ∷ []) n ≡ q = ap (λ (o : Option Declared). (n.0, o)) same ∙ h in
+    λ i. head i ∷ stay es x ns qs a.1 t i
 
-  -- one more declaration of the kind
-  pub push_own : (pick : Declared → Option (List ℕ)) (es : List Declared) (names : List (V × ℕ)) (x : Declared) (key : V) → IsTable items pick es names → pick x ≡ Some (items key) → IsTable items pick (es ++ x ∷ []) (names ++ (key, length es) ∷ [])
-  push_own pick es names x key h e =
-      let own : filter_map (tagged pick) (x ∷ []) ≡ (items key, Some x) ∷ [] = ap (λ (o : Option (List ℕ)). cons_option (option_map (λ w. (w, Some x)) o) []) e in
-      let last : placed (es ++ x ∷ []) (key, length es) ≡ (items key, Some x) = ap (λ (o : Option Declared). (items key, o)) (slice_get_seam es x []) in
-      map-append (placed (es ++ x ∷ [])) names ((key, length es) ∷ [])
-      ∙ ap₂ (λ as' bs. as' ++ bs) (stay es x names (filter_map (tagged pick) es) (all_some pick es) h) (ap (λ q. q ∷ []) last ∙ sym own)
-      ∙ sym (filter_map-append (tagged pick) es (x ∷ []))
+-- one more declaration of the kind
+pub push_own : (pick : Declared → Option (List ℕ)) (es : List Declared) (names : List (List ℕ × ℕ)) (x : Declared) (key : List ℕ) → IsTable pick es names → pick x ≡ Some key → IsTable pick (es ++ x ∷ []) (names ++ (key, length es) ∷ [])
+push_own pick es names x key h e =
+    let own : filter_map (tagged pick) (x ∷ []) ≡ (key, Some x) ∷ [] = ap (λ (o : Option (List ℕ)). cons_option (option_map (λ w. (w, Some x)) o) []) e in
+    let last : placed (es ++ x ∷ []) (key, length es) ≡ (key, Some x) = ap (λ (o : Option Declared). (key, o)) (slice_get_seam es x []) in
+    map-append (placed (es ++ x ∷ [])) names ((key, length es) ∷ [])
+    ∙ ap₂ (λ as' bs. as' ++ bs) (stay es x names (filter_map (tagged pick) es) (all_some pick es) h) (ap (λ q. q ∷ []) last ∙ sym own)
+    ∙ sym (filter_map-append (tagged pick) es (x ∷ []))
 
-  -- one more of another kind
-  pub push_other : (pick : Declared → Option (List ℕ)) (es : List Declared) (names : List (V × ℕ)) (x : Declared) → IsTable items pick es names → pick x ≡ None → IsTable items pick (es ++ x ∷ []) names
-  push_other pick es names x h e =
-      let own : filter_map (tagged pick) (x ∷ []) ≡ [] = ap (λ (o : Option (List ℕ)). cons_option (option_map (λ w. (w, Some x)) o) []) e in
-      stay es x names (filter_map (tagged pick) es) (all_some pick es) h
-      ∙ sym (append-nil (filter_map (tagged pick) es))
-      ∙ ap (λ bs. filter_map (tagged pick) es ++ bs) (sym own)
-      ∙ sym (filter_map-append (tagged pick) es (x ∷ []))
+-- one more of another kind
+pub push_other : (pick : Declared → Option (List ℕ)) (es : List Declared) (names : List (List ℕ × ℕ)) (x : Declared) → IsTable pick es names → pick x ≡ None → IsTable pick (es ++ x ∷ []) names
+push_other pick es names x h e =
+    let own : filter_map (tagged pick) (x ∷ []) ≡ [] = ap (λ (o : Option (List ℕ)). cons_option (option_map (λ w. (w, Some x)) o) []) e in
+    stay es x names (filter_map (tagged pick) es) (all_some pick es) h
+    ∙ sym (append-nil (filter_map (tagged pick) es))
+    ∙ ap (λ bs. filter_map (tagged pick) es ++ bs) (sym own)
+    ∙ sym (filter_map-append (tagged pick) es (x ∷ []))
 
-  -- the names in a table
-  pub table_names : (pick : Declared → Option (List ℕ)) (es : List Declared) (names : List (V × ℕ)) → IsTable items pick es names → map (λ (e : V × ℕ). items e.0) names ≡ filter_map pick es
-  table_names pick es names h =
-      sym (map_twice (λ (q : List ℕ × Option Declared). q.0) (placed es) (λ e. items e.0) (λ e. refl) names) ∙ ap (map (λ (q : List ℕ × Option Declared). q.0)) h ∙ untagged es
-    where
-      untagged : (ds : List Declared) → map (λ (q : List ℕ × Option Declared). q.0) (filter_map (tagged pick) ds) ≡ filter_map pick ds
-      untagged [] = refl
-      untagged (d ∷ ds) = by (pick d) (untagged ds)
-        where
-          by : (o : Option (List ℕ)) → map (λ (q : List ℕ × Option Declared). q.0) (filter_map (tagged pick) ds) ≡ filter_map pick ds
-              → map (λ (q : List ℕ × Option Declared). q.0) (cons_option (option_map (λ w. (w, Some d)) o) (filter_map (tagged pick) ds)) ≡ cons_option o (filter_map pick ds)
-          by None h = h
-          by (Some w) h = ap (λ ws. w ∷ ws) h
+-- the names in a table
+pub table_names : (pick : Declared → Option (List ℕ)) (es : List Declared) (names : List (List ℕ × ℕ)) → IsTable pick es names → map (λ (e : List ℕ × ℕ). e.0) names ≡ filter_map pick es
+table_names pick es names h =
+    sym (map_twice (λ (q : List ℕ × Option Declared). q.0) (placed es) (λ e. e.0) (λ e. refl) names) ∙ ap (map (λ (q : List ℕ × Option Declared). q.0)) h ∙ untagged es
+  where
+    untagged : (ds : List Declared) → map (λ (q : List ℕ × Option Declared). q.0) (filter_map (tagged pick) ds) ≡ filter_map pick ds
+    untagged [] = refl
+    untagged (d ∷ ds) = by (pick d) (untagged ds)
+      where
+        by : (o : Option (List ℕ)) → map (λ (q : List ℕ × Option Declared). q.0) (filter_map (tagged pick) ds) ≡ filter_map pick ds
+            → map (λ (q : List ℕ × Option Declared). q.0) (cons_option (option_map (λ w. (w, Some d)) o) (filter_map (tagged pick) ds)) ≡ cons_option o (filter_map pick ds)
+        by None h = h
+        by (Some w) h = ap (λ ws. w ∷ ws) h
 
-pub table_length : {V : Type 0} (items : V → List ℕ) (pick : Declared → Option (List ℕ)) (es : List Declared) (names : List (V × ℕ)) → IsTable items pick es names → length names ≡ length (filter_map pick es)
-table_length items pick es names h = sym (length-map names (λ e. items e.0)) ∙ ap length (table_names items pick es names h)
+pub table_length : (pick : Declared → Option (List ℕ)) (es : List Declared) (names : List (List ℕ × ℕ)) → IsTable pick es names → length names ≡ length (filter_map pick es)
+table_length pick es names h = sym (length-map names (λ e. e.0)) ∙ ap length (table_names pick es names h)
 
 -- Declarations of one kind, in the table of their names.
 module _ {D : Type 0} (own : Declared → Option D) (name : D → List ℕ) where
@@ -128,9 +127,9 @@ module _ {D : Type 0} (own : Declared → Option D) (name : D → List ℕ) wher
   picked (x ∷ es) n q p = picked_step x (own x) refl es n q (λ m r. picked es m q r) p
 
   -- by its number
-  pub numbered : {V : Type 0} (items : V → List ℕ) (es : List Declared) (names : List (V × ℕ)) (n : ℕ) (e : V × ℕ) → IsTable items pick es names → slice_get names n ≡ Some e → Picked (filter_map own es) n (slice_get es e.1)
-  numbered items es names n e h p =
-      picked es n (items e.0, slice_get es e.1) (ap (λ qs. slice_get qs n) (sym h) ∙ slice_get-map (placed items es) names n ∙ ap (option_map (placed items es)) p)
+  pub numbered : (es : List Declared) (names : List (List ℕ × ℕ)) (n : ℕ) (e : List ℕ × ℕ) → IsTable pick es names → slice_get names n ≡ Some e → Picked (filter_map own es) n (slice_get es e.1)
+  numbered es names n e h p =
+      picked es n (e.0, slice_get es e.1) (ap (λ qs. slice_get qs n) (sym h) ∙ slice_get-map (placed es) names n ∙ ap (option_map (placed es)) p)
 
   -- how many there are
   own_count : (es : List Declared) → length (filter_map pick es) ≡ length (filter_map own es)
@@ -141,8 +140,8 @@ module _ {D : Type 0} (own : Declared → Option D) (name : D → List ℕ) wher
       by None h = h
       by (Some d) h = ap suc h
 
-  pub numbers : {V : Type 0} (items : V → List ℕ) (es : List Declared) (names : List (V × ℕ)) → IsTable items pick es names → length names ≡ length (filter_map own es)
-  numbers items es names h = table_length items pick es names h ∙ own_count es
+  pub numbers : (es : List Declared) (names : List (List ℕ × ℕ)) → IsTable pick es names → length names ≡ length (filter_map own es)
+  numbers es names h = table_length pick es names h ∙ own_count es
 
   -- what holds of every declaration holds of one by its number
   own_holds_step : (P : Declared → Type 0) (Q : D → Type 0) → ((x : Declared) (d : D) → own x ≡ Some d → P x → Q d) → (x : Declared) (o : Option D) → own x ≡ o → P x → (ds : List D) (n : ℕ) (d : D) → ((m : ℕ) → slice_get ds m ≡ Some d → Q d)
@@ -168,10 +167,10 @@ literal_own l es x t n e =
     ∙ ap (λ (o : Option ℕ). option_or o (Some t)) n
 
 -- an element that was read at a place, where the place has a declaration of the kind
-pub numbered_here : {D : Type 0} (own : Declared → Option D) (name : D → List ℕ) {V : Type 0} (items : V → List ℕ) (es : List Declared) (names : List (V × ℕ)) (n : ℕ) (e : V × ℕ) (x : Declared)
-    → IsTable items (pick own name) es names → slice_get names n ≡ Some e → x ≡ get_or es e.1 x → (d : D) × (own x ≡ Some d) × (slice_get (filter_map own es) n ≡ Some d)
-numbered_here own name items es names n e x h p g =
-    let r = numbered own name items es names n e h p in
+pub numbered_here : {D : Type 0} (own : Declared → Option D) (name : D → List ℕ) (es : List Declared) (names : List (List ℕ × ℕ)) (n : ℕ) (e : List ℕ × ℕ) (x : Declared)
+    → IsTable (pick own name) es names → slice_get names n ≡ Some e → x ≡ get_or es e.1 x → (d : D) × (own x ≡ Some d) × (slice_get (filter_map own es) n ≡ Some d)
+numbered_here own name es names n e x h p g =
+    let r = numbered own name es names n e h p in
     (r.1, ap own (g ∙ get_of_some es e.1 r.0 x r.2) ∙ r.3, r.4)
 
 pub some_copied : {D : Type 0} (o : Option (Bor D)) (d : D) → option_copied o ≡ Some d → IsSome o

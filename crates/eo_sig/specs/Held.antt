@@ -1,4 +1,4 @@
--- How a signature holds its declarations: tables of names beside the list, over any type of keys.
+-- How a signature holds its declarations: tables of names beside the list.
 use Rattle.std.specs.Prelude.{◌≡◌, ℕ, List, map, Option, Some, None, option_map, slice_get, filter_map, if◌then◌else◌}
 use Rattle.eo_lit.specs.declared.LiteralClass.{LiteralClass}
 use Rattle.eo_lit.specs.declared.LiteralClass.TheVariants as class
@@ -26,8 +26,8 @@ abbrev pub tagged : (Declared → Option (List ℕ)) → Declared → Option (Li
 tagged pick d = option_map (λ w. (w, Some d)) (pick d)
 
 -- The table has the names of the declarations of one kind, in order, each with the place of its declaration.
-abbrev pub IsTable : {V : Type 0} → (V → List ℕ) → (Declared → Option (List ℕ)) → List Declared → List (V × ℕ) → Type 0
-IsTable {V} items pick es names = map (λ (e : V × ℕ). (items e.0, slice_get es e.1)) names ≡ filter_map (tagged pick) es
+abbrev pub IsTable : (Declared → Option (List ℕ)) → List Declared → List (List ℕ × ℕ) → Type 0
+IsTable pick es names = map (λ (e : List ℕ × ℕ). (e.0, slice_get es e.1)) names ≡ filter_map (tagged pick) es
 
 -- the first type of a class of literals
 abbrev pub literal_id : LiteralClass → Declared → Option ℕ
@@ -39,11 +39,11 @@ literal_id l (declared.Literal k t) = if is_same_class l k then Some t else None
 abbrev pub first_literal : LiteralClass → List Declared → Option ℕ
 first_literal l es = slice_get (filter_map (literal_id l) es) 0
 
-pub record IsKept {V : Type 0} (items : V → List ℕ) (es : List Declared) (cs ps rs : List (V × ℕ)) (ms : List (V × MacroDecl)) (n b s : Option ℕ) : Type 0 where
-  pub constants : IsTable items const_name es cs
-  pub programs : IsTable items program_name es ps
-  pub rules : IsTable items rule_name es rs
-  pub macros : map (λ (e : V × MacroDecl). items e.0) ms ≡ map (λ (e : V × MacroDecl). e.1.name) ms
+pub record IsKept (es : List Declared) (cs ps rs : List (List ℕ × ℕ)) (ms : List (List ℕ × MacroDecl)) (n b s : Option ℕ) : Type 0 where
+  pub constants : IsTable const_name es cs
+  pub programs : IsTable program_name es ps
+  pub rules : IsTable rule_name es rs
+  pub macros : map (λ (e : List ℕ × MacroDecl). e.0) ms ≡ map (λ (e : List ℕ × MacroDecl). e.1.name) ms
   pub numeral : n ≡ first_literal class.Numeral es
   pub binary : b ≡ first_literal class.Binary es
   pub string : s ≡ first_literal class.String es

@@ -6,3 +6,4 @@ pub mod Held
 pub mod Refused
 pub mod Usable
 pub mod Growth
+pub mod Views

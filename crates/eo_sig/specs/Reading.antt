@@ -102,9 +102,6 @@ macros ts k = map (read_macro ts) k.macros
 
 -- The terms of a declaration are below n.
 
-abbrev pub ParamBelow : ℕ → Param → Type 0
-ParamBelow n p = p.ty < n
-
 abbrev pub AttributeBelow : ℕ → code_attribute.Attribute → Type 0
 AttributeBelow n attribute.Plain = Unit {0}
 AttributeBelow n (attribute.RightNil t) = t < n

@@ -12,6 +12,7 @@ mod refused;
 mod reserved;
 mod signature;
 mod types;
+mod view;
 
 pub use eo_lit::LiteralClass;
 pub use laws::{growth_law, longer_law};
@@ -22,6 +23,7 @@ pub use records::{
 pub use refused::SigRefused;
 pub use reserved::is_reserved;
 pub use signature::{SigMark, Signature};
+pub use view::SignatureView;
 
 #[cfg(test)]
 mod tests;

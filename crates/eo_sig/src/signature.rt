@@ -67,14 +67,14 @@ impl Model for Signature {
 
     ghost view = { λ a. record { entries = a.entries.items; macros = map (λ e. e.1) a.macros.entries } };
 
-    ghost invariant = { λ a. IsKept (λ w. w) a.entries.items a.constants.entries a.programs.entries a.rules.entries a.macros.entries
+    ghost invariant = { λ a. IsKept a.entries.items a.constants.entries a.programs.entries a.rules.entries a.macros.entries
         a.numeral a.binary a.string };
 }
 
 impl Signature {
     /// A signature that declares the constants `Type`, `Bool`, `true` and `false` alone, with the
     /// numbers 0 to 3, without parameters and attribute. Their types are `Type`, `Type`, `Bool`
-    /// and `Bool`.
+    /// and `Bool`. `Err` is want of memory.
     pub fn new(alloc: Global) -> Result<Signature, AllocError>
         ensures kept { IfOk result (λ s. s ≡ first_kept) }
         ensures signature { IfOk result (λ s. (ts : List Tree) → take 4 ts ≡ first_trees → signature ts s ≡ sig.first_signature) }

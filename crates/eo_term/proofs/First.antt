@@ -16,10 +16,6 @@ pub record IsConstant (n : ℕ) (k : Root) : Type 0 where
   pub node : k.node ≡ node.Con n
   pub args : k.args ≡ []
 
--- the entries are constants below n
-abbrev pub AreConstants : ℕ → List (Root × Info) → Type 0
-AreConstants n es = (i : ℕ) (e : Root × Info) → slice_get es i ≡ Some e → (m : ℕ) × (m < n) × (e.0.node ≡ node.Con m)
-
 -- what is known of a leaf without parameters
 pub record IsLeaf (s : Info) : Type 0 where
   pub height : s.height ≡ 1

@@ -1,16 +1,13 @@
 -- A tree with a part that is too tall is too tall.
-use Rattle.std.proofs.Common.{◌≡◌, ℕ, zero, suc, ◌<◌, ◌≤◌, true, List, arith}
+use Rattle.std.proofs.Common.{◌≡◌, ℕ, zero, suc, ◌<◌, ◌≤◌, true, arith}
 use Rattle.std.proofs.lemmas.Bool.{lt-ltb, ltb-true}
 use Rattle.eo_base.specs.Limits.{height_limit}
 use Rattle.eo_term.specs.declared.OpCode.{OpCode}
-use Rattle.eo_term.specs.Tree.{Tree, Trees, Var, App, Op, NoTree, More, height, height_all, is_tall}
+use Rattle.eo_term.specs.Tree.{Tree, Trees, App, Op, NoTree, More, height, height_all, is_tall}
 use Rattle.eo_term.specs.Arguments.{count_of, argument_at}
 
 pub higher : (t u : Tree) → height t ≤ height u → is_tall t ≡ true → is_tall u ≡ true
 higher t u h e = let l = ltb-true height_limit (height t) e in lt-ltb height_limit (height u) (omega (arith, h, l))
-
-pub tall_type : (s : List ℕ) (t : Tree) → is_tall t ≡ true → is_tall (Var s t) ≡ true
-tall_type s t e = higher t (Var s t) (omega arith) e
 
 pub tall_first : (a b : Tree) → is_tall a ≡ true → is_tall (App a b) ≡ true
 tall_first a b e = higher a (App a b) (omega arith) e

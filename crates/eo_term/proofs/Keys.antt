@@ -1,5 +1,5 @@
 -- Roots by their keys.
-use Rattle.std.proofs.Common.{◌≡◌, ℕ, suc, pos, ◌<◌, ◌≤◌, List, [], ◌∷◌, ◌++◌, length, get_or, map, take, position, slice_get, Option, Some, None, IfSome, IfNone, is_some, inl, inr, refl, sym, ap, ◌∙◌, subst, arith, length-append}
+use Rattle.std.proofs.Common.{◌≡◌, ℕ, suc, pos, ◌<◌, ◌≤◌, List, [], ◌∷◌, ◌++◌, length, get_or, map, take, position, slice_get, Option, Some, None, IfSome, inl, inr, refl, sym, ap, ◌∙◌, subst, arith, length-append}
 use Rattle.std.specs.Map.{keys_of, lookup}
 use Rattle.std.proofs.lemmas.List.{get_or-take, length-map, length-take-le, map-append, take-map}
 use Rattle.std.proofs.lemmas.Option.{slice_get-get_or, get_or_from_slice_get}
@@ -12,13 +12,13 @@ use Rattle.eo_term.specs.declared.node.Key.{Key}
 use Rattle.eo_term.specs.declared.node.Key.TheVariants as key
 use Rattle.eo_term.specs.declared.node.Info.{Info}
 use Rattle.eo_term.specs.declared.nodes.Nodes.{Nodes}
-use Rattle.eo_term.specs.Terms.{AreApart, HasArguments}
+use Rattle.eo_term.specs.Terms.{AreApart}
 use Rattle.eo_term.specs.Keys.{literal_node, literal_at, list_at, root_of, UsesOnly, literals_of, lists_of, list_items, ages_of, entries_of, IsOld, IsNumbered, IsKeyed, IsKept, IsKeyOf, IsMore, IsNew, HasRootAt, IsCut, Root}
 use Rattle.eo_term.specs.contracts.node.KeyPartialEq.TheImpl as key_eq
 use Rattle.eo_term.proofs.Apart.{one_place}
 use Rattle.eo_term.proofs.Exact.{key_exact, key_same}
 use Rattle.eo_term.proofs.Grown.{slice_get_push, slice_get_take}
-use Rattle.eo_term.proofs.Numbers.{slice_get_at_map, slice_get_of_map, found_entry, no_entry, lookup_none, none_from_is_some, numbered_later, numbered_cut, old_kept}
+use Rattle.eo_term.proofs.Numbers.{slice_get_at_map, slice_get_of_map, found_entry, no_entry, lookup_none, numbered_later, numbered_cut, old_kept}
 
 pub uses_weaker : (P Q R S : ℕ → Type 0) → ((l : ℕ) → P l → R l) → ((l : ℕ) → Q l → S l) → (k : Key) → UsesOnly P Q k → UsesOnly R S k
 uses_weaker P Q R S f g (key.Con k) h = tt
@@ -157,10 +157,6 @@ module _ (m n : Nodes) (k : IsKept m) (g : IsMore m n) where
       ∙ map_same (λ (e : Key × Info). (root_of (literals_of n) (lists_of n) e.0, e.1)) (λ e. (root_of (literals_of m) (lists_of m) e.0, e.1)) m.keys.entries
       (λ i e p. ap (λ r. (r, e.1)) (root_more i e.0 (k.keyed i e p)))
 
-no_arguments : (a : Literal) (is : List ℕ) → HasArguments (literal_node a) is → is ≡ []
-no_arguments (literal.Num z) is h = h
-no_arguments (literal.Bits w v) is h = h
-
 pub length-entries : (n : Nodes) → length (entries_of n) ≡ length n.keys.entries
 length-entries n = length-map n.keys.entries (λ (e : Key × Info). (root_of (literals_of n) (lists_of n) e.0, e.1))
 
@@ -170,12 +166,6 @@ module _ (n : Nodes) (h : IsKept n) where
 
   pub live_key : (i : ℕ) (k : Key) → IsKeyed n i k → UsesOnly (λ l. l < length (literals_of n)) (λ l. l < length (lists_of n)) k
   live_key i k u = uses_weaker _ _ _ _ (λ l o. omega (arith, o.0, h.literals.long)) (λ l o. omega (arith, o.0, h.lists.long)) k u
-
-  -- a root without a key is none of the table's
-  pub new_without_key : (d : Node) (is : List ℕ) → ((k : Key) → IsKeyOf n d is k → ⊥) → IsNew (entries_of n) d is
-  new_without_key d is none i e p q =
-      let at = slice_get_of_map (λ (e : Key × Info). (roots e.0, e.1)) n.keys.entries i e p in
-      none at.0.0 (record { live = live_key i at.0.0 (h.keyed i at.0 at.1); root = ap (λ (e : Root × Info). e.0) at.2 ∙ q })
 
   module _ (d : Node) (is : List ℕ) (k : Key) (own : IsKeyOf n d is k) where
     -- nor is one whose key is not there
@@ -194,10 +184,6 @@ module _ (n : Nodes) (h : IsKept n) where
           slice_get_at_map (λ (e : Key × Info). (roots e.0, e.1)) n.keys.entries i e.0 e.1
               ∙ ap (λ r. Some (r, e.0.1)) (ap roots (sym (key_exact k e.0.0 e.2)) ∙ own.root),
         )
-
-    pub missing_root : (r : Option ℕ) → is_some r ≡ is_some (lookup (key_eq.ghosts.eq k) n.keys.entries) → IfNone r (IsNew (entries_of n) d is)
-    missing_root (Some i) p = tt
-    missing_root None p = new_key (none_from_is_some {B = ℕ} (lookup (key_eq.ghosts.eq k) n.keys.entries) None (sym p) (λ i. None))
 
     -- a new root's key is not there
     pub key_absent : IsNew (entries_of n) d is → lookup (key_eq.ghosts.eq k) n.keys.entries ≡ None

@@ -152,10 +152,6 @@ module _ {K X : Type 0} (f : K → X) (n : ℕ) (es fs : List (K × ℕ)) (k : K
       (subst (λ as'. HasNumber n (map (λ e. f e.0) es ++ f k ∷ []) as' (f k) (length es)) (sym ages)
       (subst (HasNumber n (map (λ e. f e.0) es ++ f k ∷ []) (ages_of es ++ n ∷ []) (f k)) (length-map es (λ e. f e.0)) (has_pushed n (map (λ e. f e.0) es) (ages_of es) h (f k))))
 
-pub if_none : {A : Type 0} (r : Option A) (P : Type 0) → P → IfNone r P
-if_none None P h = h
-if_none (Some x) P h = tt
-
 pub on_err : {A E : Type 0} (r : Result A E) (P : Type 0) → P → OnErr r P
 on_err (Ok x) P h = tt
 on_err (Err e) P h = h

@@ -1,9 +1,13 @@
 //! The roots of terms, each under a small key.
-ghost use Rattle.std.specs.Prelude.{◌≡◌, ℕ, ◌+◌, ◌<◌, ◌≤◌, ◌^◌, [], ◌∷◌, ◌++◌, length, map, take, slice_get, Some, IsOk, IfOk, IfSome, IfNone, OnOk, OnErr};
+ghost use Rattle.std.specs.Prelude.{◌≡◌, ℕ, ◌+◌, ◌<◌, ◌≤◌, ◌^◌, [], ◌∷◌, ◌++◌, length, map, take, slice_get, Some};
+ghost use Rattle.std.specs.Prelude.{IsOk, IfOk, IfSome, IfNone, OnOk, OnErr};
 ghost use Rattle.std.specs.Map.{keys_of};
 ghost use Rattle.indexmap.specs.IndexMap.{spare};
 ghost use Rattle.eo_term.specs.Terms.{HasArguments};
-ghost use Rattle.eo_term.specs.Keys.{IsRoot, root_of, literal_node, literal_at, list_at, UsesOnly, literals_of, lists_of, list_items, ages_of, entries_of, IsKeyed, IsKept, IsMore, IsKeyOf, IsAt, IsNew, IsPut, HasRoom, IsNumbered, HasNumber, MoreLiterals, MoreLists, HasKeyRoom, IsAbsent, IsCut, IsShape, applied};
+ghost use Rattle.eo_term.specs.Keys.{IsRoot, root_of, literal_node, literal_at, list_at, UsesOnly, literals_of};
+ghost use Rattle.eo_term.specs.Keys.{lists_of, list_items, ages_of, entries_of, IsKeyed, IsKept, IsMore, IsKeyOf, IsAt};
+ghost use Rattle.eo_term.specs.Keys.{IsNew, IsPut, HasRoom, IsNumbered, HasNumber, MoreLiterals, MoreLists, HasKeyRoom};
+ghost use Rattle.eo_term.specs.Keys.{IsAbsent, IsCut, IsShape, applied};
 
 use crate::node::{Info, Key, Literal};
 use crate::{Id, Node, OpCode};

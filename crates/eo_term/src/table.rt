@@ -1,11 +1,16 @@
 //! The table of terms.
-ghost use Rattle.std.specs.Prelude.{◌≡◌, ℕ, ◌+◌, ◌<◌, ◌≤◌, ◌↔◌, ◌&&◌, ◌||◌, nat_eq, [], ◌∷◌, length, take, true, false, IsTrue, All, IfOk, OnOk, OnErr, slice_index_or};
+ghost use Rattle.std.specs.Prelude.{◌≡◌, ℕ, ◌+◌, ◌<◌, ◌≤◌, ◌↔◌, ◌&&◌, ◌||◌, nat_eq, [], ◌∷◌, length, take, true, false};
+ghost use Rattle.std.specs.Prelude.{IsTrue, All, IfOk, OnOk, OnErr, slice_index_or};
 ghost use Rattle.eo_base.specs.Characters.{AreCharacters};
 ghost use Rattle.eo_term.specs.ParamSet.{has};
-ghost use Rattle.eo_term.specs.Tree.{height, height_all, is_tall, is_value, is_closed, all_closed, is_plain, may_type_use, may_be_type, all_may_be_type, occurs, occurs_in_all, occurs_openly, uses_only, tree_eq, NoTree, Op, App};
+ghost use Rattle.eo_term.specs.Tree.{height, height_all, is_tall, is_value, is_closed, all_closed, is_plain};
+ghost use Rattle.eo_term.specs.Tree.{may_type_use, may_be_type, all_may_be_type, occurs, occurs_in_all, occurs_openly};
+ghost use Rattle.eo_term.specs.Tree.{uses_only, tree_eq, NoTree, Op, App};
 ghost use Rattle.eo_term.specs.Arguments.{count_of, arguments_of, argument_at};
 ghost use Rattle.eo_term.specs.Growth.{IsTable, Grows};
-ghost use Rattle.eo_term.specs.Terms.{Terms, tree_at, text_at, trees_at, tree_of, PartsBelow, TextsBelow, IsPlain, HasCount, HasArity, IsProper, AreLow, Interned, InternedText, IsMark, first_trees};
+ghost use Rattle.eo_term.specs.Terms.{Terms, tree_at, text_at, trees_at, tree_of, PartsBelow, TextsBelow, IsPlain};
+ghost use Rattle.eo_term.specs.Terms.{HasCount, HasArity, IsProper, AreLow, Interned, InternedText, IsMark};
+ghost use Rattle.eo_term.specs.Terms.{first_trees};
 ghost use Rattle.eo_term.specs.Refused.{IsTall};
 ghost use Rattle.eo_term.specs.Held.{Tells, IsOver, HasRoot, tree_over};
 
@@ -75,7 +80,7 @@ impl Model for Table {
 }
 
 impl Table {
-    /// A table with the constants 0 to 3.
+    /// A table with the constants 0 to 3. `Err` is want of memory.
     pub fn new(alloc: Global) -> Result<Table, AllocError>
         ensures trees { IfOk result (λ t. t.trees ≡ first_trees) }
         ensures texts { IfOk result (λ t. t.texts ≡ []) }

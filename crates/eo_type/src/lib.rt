@@ -11,6 +11,7 @@ mod settling;
 mod types;
 
 pub use leaves::is_constant;
+pub use literals::operator_value;
 pub use refused::TypeRefused;
 pub use settling::settle;
 pub use types::Types;

@@ -6,15 +6,35 @@ ghost use Rattle.eo_term.specs.Growth.{tree_in, trees_in, Grows, Makes};
 ghost use Rattle.eo_ops.specs.Operators as ops;
 ghost use Rattle.eo_ops.specs.Lit.{lit, IsWellFormed};
 ghost use Rattle.eo_type.specs.Types.{typed_answer};
-ghost use Rattle.eo_type.specs.Outcomes.{Gives};
+ghost use Rattle.eo_type.specs.Outcomes.{Answers, Gives};
 ghost use Rattle.eo_type.specs.Parts.{on_literals, on_others};
 
+use crate::TypeRefused;
 use crate::leaves::truth_value;
-use crate::refused::Stop;
+use crate::refused::{Stop, answer};
 use eo_base::Chars;
 use eo_ops::{Lit, OpResult, apply};
 use eo_term::{Id, Node, OpName, Table};
 use std::alloc::{AllocError, Global};
+
+/// The value of an operator of the language on values, by the Ethos manual's table; `None` where it
+/// is stuck. An operator whose value that table does not give by its arguments alone, as
+/// `eo::typeof` or one on lists, is stuck here.
+///
+/// `NumberRange`: the value is out of range. `Tall` never comes. `Memory`: want of memory.
+pub fn operator_value(
+    alloc: Global,
+    table: &mut Table,
+    op: OpName,
+    args: &[Id],
+) -> Result<Option<Id>, TypeRefused>
+    requires count { length args.now ≡ arity op }
+    requires args { All (λ i. i < length table.old.trees) args.now }
+    ensures answers { Answers table.new result (typed_answer (ops.tree_op_value op (trees_in table.old args.now))) }
+    ensures grows { Grows table.old table.new }
+{
+    answer(value_of(alloc, table, op, args))
+}
 
 /// The value of an operator of the language on values, as the table of operators has it.
 pub(crate) fn value_of(

@@ -26,6 +26,7 @@ use std::alloc::Global;
 /// places is looked at once.
 ///
 /// `NumberRange`: a value is out of range. `Tall` never comes, since no term becomes taller.
+/// `Memory`: want of memory.
 pub fn settle(
     alloc: Global,
     _sig: &Signature,

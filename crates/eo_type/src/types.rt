@@ -41,7 +41,7 @@ impl Model for Types {
 }
 
 impl Types {
-    /// No types.
+    /// No types. `Err` is want of memory.
     pub fn new(alloc: Global) -> Result<Types, AllocError>
         ensures types { IfOk result (λ t. t ≡ []) }
         ensures fits { IfOk result (λ t. (S : spec.Signature) (ts : List Tree) → Fits S ts t) }
@@ -66,7 +66,8 @@ impl Types {
     ///
     /// A constant has its declared type, a literal that of its class with the literal put in,
     /// a variable its own. `NumberRange`: a number, a bit string or a string in a type is out of
-    /// range. `Tall`: a type is too tall. A part that is shared is typed once.
+    /// range. `Tall`: a type is too tall. `Memory`: want of memory. A part that is shared is typed
+    /// once.
     pub fn type_of(
         &mut self,
         sig: &Signature,

@@ -1,6 +1,8 @@
 ghost use Rattle.std.specs.Prelude.{◌≤◌};
 
 mod declarations;
+mod evaluation;
+mod programs;
 mod shared;
 
 use crate::{ethos_main, run_in_memory};
@@ -98,6 +100,44 @@ fn verdicts_of_files(rt: HostRuntime) {
 }
 
 #[test]
+fn programs_of_a_proof(rt: HostRuntime) {
+    let asserts_true = b"(assert true)\n".as_slice();
+    let rows = [
+        (
+            b"(program $u ((x Bool) (y Bool)) :signature (Bool) Bool ((($u x) y)))".as_slice(),
+            b"refused F21 UnboundParam p.eo:1:0\n".as_slice(),
+        ),
+        (
+            b"(program $u ((x Bool)) :signature (Bool) Bool ((($u (eo::not x)) x)))",
+            b"refused F22 BadPattern p.eo:1:0\n",
+        ),
+        (
+            b"(program $u ((x Bool)) :signature (Bool) Bool ((($v x) x)))",
+            b"refused F11 BadCommand p.eo:1:0\n",
+        ),
+        (
+            b"(program $u ((x Bool)) :signature (Bool) Bool ((($u x x) x)))",
+            b"refused F14 BadArity p.eo:1:0\n",
+        ),
+        (
+            b"(program $u () :signature (Bool) Bool ())(define $u () true)",
+            b"refused F12 Redeclared p.eo:1:41\n",
+        ),
+        (
+            b"(program $u ((x Bool)) :signature (Bool) Bool ((($u x) x)))(assume a ($u true))",
+            b"refused F41 NoRefutation p.eo:1:79\n",
+        ),
+    ];
+    for (proof, line) in rows {
+        assert!(&rt; gives(rt.alloc(), asserts_true, proof, line, Status::Refused));
+    }
+    let asserts_false = b"(assert false)\n".as_slice();
+    let proof =
+        b"(program $u ((x Bool)) :signature (Bool) Bool ((($u true) false) (($u x) ($u true))))\n(assume a false)\n".as_slice();
+    assert!(&rt; gives(rt.alloc(), asserts_false, proof, b"correct\n", Status::Ok));
+}
+
+#[test]
 fn declarations_of_a_proof(rt: HostRuntime) {
     let asserts_true = b"(assert true)\n".as_slice();
     let rows = [
@@ -124,7 +164,7 @@ fn declarations_of_a_proof(rt: HostRuntime) {
         ),
         (
             b"(assume a (eo::not true))",
-            b"refused F16 Stuck p.eo:1:0\n",
+            b"refused F28 NotAsserted p.eo:1:0\n",
         ),
         (
             b"(define t ((x Bool)) x)(assume a (t true))(assume b (t false))",

@@ -1,6 +1,6 @@
 //! Texts, and what they mean over a signature.
 ghost use Rattle.std.specs.Prelude.{◌≡◌, ◌<◌, ◌≤◌, true, length, IsTrue, IfOk};
-ghost use Rattle.eo_sig.specs.Reading.{IsBelow, ConstBelow, MacroBelow};
+ghost use Rattle.eo_sig.specs.Reading.{IsBelow, ConstBelow, MacroBelow, ProgramBelow};
 ghost use Rattle.eo_term.specs.Growth.{Grows};
 ghost use Rattle.eo_elab.specs.Declaring.{IsCommand, DeclarationBelow};
 ghost use Rattle.eo_names.specs.Names.{AreBelow};
@@ -9,7 +9,9 @@ use crate::parameters::parameter;
 use crate::{ElabRefused, Locals, declaration, term};
 use eo_sexp::{Collector, Fed, Sexp};
 use eo_shape::{ShapeRefused, command_of};
-use eo_sig::{ConstDecl, Declaration, Entry, LiteralClass, MacroDecl, SigRefused, Signature};
+use eo_sig::{
+    ConstDecl, Declaration, Entry, LiteralClass, MacroDecl, ProgramDecl, SigRefused, Signature,
+};
 use eo_term::{Id, Table};
 use std::alloc::{AllocError, Global};
 use std::marker::Model;
@@ -225,6 +227,7 @@ fn add(sig: &mut Signature, table: &Table, d: Declaration) -> Answer
         Declaration::Const(d) => add_constant(sig, table, d),
         Declaration::Macro(d) => add_macro(sig, table, d),
         Declaration::Literal { class, ty } => add_literals(sig, table, class, ty),
+        Declaration::Program(d) => add_program(sig, table, d),
         _ => Answer::Unread,
     }
 }
@@ -252,6 +255,20 @@ fn add_macro(sig: &mut Signature, table: &Table, d: MacroDecl) -> Answer
         return Answer::Unread;
     }
     match sig.define(d) {
+        Ok(_) => Answer::Done,
+        Err(e) => unfit(&e),
+    }
+}
+
+fn add_program(sig: &mut Signature, table: &Table, d: ProgramDecl) -> Answer
+    requires ready { IsBelow (length table.now.trees) sig.old }
+    requires below { ProgramBelow (length table.now.trees) d }
+    ensures ready { IsBelow (length table.now.trees) sig.new }
+{
+    if !sig.is_free(d.name.as_bytes()) {
+        return Answer::Unread;
+    }
+    match sig.add_program(table, d) {
         Ok(_) => Answer::Done,
         Err(e) => unfit(&e),
     }

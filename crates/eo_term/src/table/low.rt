@@ -1,5 +1,5 @@
 //! Terms that are known not to be too tall.
-ghost use Rattle.std.specs.Prelude.{◌≡◌, ◌<◌, length, false, All};
+ghost use Rattle.std.specs.Prelude.{◌≡◌, ◌<◌, length, false, All, OnErr};
 ghost use Rattle.eo_term.specs.Tree.{Con, Op, NoTree, is_tall};
 ghost use Rattle.eo_term.specs.Terms.{trees_at, tree_of, PartsBelow, TextsBelow, IsPlain, IsProper, HasArity};
 ghost use Rattle.eo_term.specs.Growth.{Grows, Makes};
@@ -9,7 +9,8 @@ use crate::{Id, Node, OpCode};
 use std::alloc::AllocError;
 
 impl Table {
-    /// The term with this root, as [`Table::intern`] has it, where it is not too tall.
+    /// The term with this root, as [`Table::intern`] has it, where it is not too tall. `Err` is want
+    /// of memory, and the table stays as it is.
     pub fn intern_low(&mut self, node: Node) -> Result<Id, AllocError>
         requires plain { IsPlain node }
         requires parts { PartsBelow (length self.old.trees) node }
@@ -17,6 +18,7 @@ impl Table {
         requires proper { IsProper node }
         requires low { is_tall (tree_of self.old.trees self.old.texts node NoTree) ≡ false }
         ensures makes { Makes self.new result (tree_of self.old.trees self.old.texts node NoTree) }
+        ensures err { OnErr result (self.new ≡ self.old) }
         ensures grows { Grows self.old self.new }
     {
         match self.intern(node) {
@@ -27,12 +29,13 @@ impl Table {
     }
 
     /// The term that applies an operator or a program, as [`Table::intern_op`] has it, where it is
-    /// not too tall.
+    /// not too tall. `Err` is want of memory, and the table stays as it is.
     pub fn intern_low_op(&mut self, code: OpCode, args: &[Id]) -> Result<Id, AllocError>
         requires count { HasArity code (length args.now) }
         requires args { All (λ j. j < length self.old.trees) args.now }
         requires low { is_tall (Op code (trees_at self.old.trees args.now)) ≡ false }
         ensures makes { Makes self.new result (Op code (trees_at self.old.trees args.now)) }
+        ensures err { OnErr result (self.new ≡ self.old) }
         ensures grows { Grows self.old self.new }
     {
         match self.intern_op(code, args) {
@@ -42,9 +45,10 @@ impl Table {
         }
     }
 
-    /// The constant of this number.
+    /// The constant of this number. `Err` is want of memory, and the table stays as it is.
     pub fn constant(&mut self, k: usize) -> Result<Id, AllocError>
         ensures makes { Makes self.new result (Con k) }
+        ensures err { OnErr result (self.new ≡ self.old) }
         ensures grows { Grows self.old self.new }
     {
         self.intern_low(Node::Con(k))

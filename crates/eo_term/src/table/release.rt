@@ -21,6 +21,7 @@ impl Table {
     }
 
     /// Releases to the mark, but keeps the trees of some terms, whose numbers are replaced by new ones.
+    /// `Err` is want of memory, and all stays as it is.
     pub fn carry_all(&mut self, mark: Mark, ids: &mut [Id]) -> Result<(), AllocError>
         requires mark { IsMark self.old mark }
         requires live { All (λ j. j < length self.old.trees) ids.old }
@@ -45,7 +46,8 @@ impl Table {
         Ok(())
     }
 
-    /// Releases to the mark, but keeps the tree of one term, and answers its new number.
+    /// Releases to the mark, but keeps the tree of one term, and answers its new number. `Err` is want
+    /// of memory, and the table stays as it is.
     pub fn carry(&mut self, mark: Mark, id: Id) -> Result<Id, AllocError>
         requires mark { IsMark self.old mark }
         requires live { id < length self.old.trees }

@@ -80,12 +80,30 @@ fn literals_of_shared_type(alloc: Global) -> Result<bool, AllocError> {
     is_accepted(alloc, &proof, 63)
 }
 
+// Macros `t0`, `t1`, .. of which each is the operator `eo::and` on the one before it, twice.
+fn operators(alloc: Global) -> Result<Vec<u8>, AllocError> {
+    let mut proof = b"(define t0 () (eo::is_ok true))\n".to_vec(alloc)?;
+    for j in 0..DOUBLINGS {
+        let k = j + 1;
+        let line = format!(in alloc; "(define t{k} () (eo::and t{j} t{j}))\n")?;
+        proof.extend_from_slice(line.as_bytes())?;
+    }
+    Ok(proof)
+}
+
+fn formula_of_shared_operators(alloc: Global) -> Result<bool, AllocError> {
+    let mut proof = operators(alloc)?;
+    proof.extend_from_slice(b"(assume @a t60)\n")?;
+    is_accepted(alloc, &proof, 62)
+}
+
 #[test]
 fn shared_terms_are_answered_at_once(rt: HostRuntime) {
     assert!(&rt; constant_of_shared_type(rt.alloc()) == Ok(true));
     assert!(&rt; macro_of_shared_term(rt.alloc()) == Ok(true));
     assert!(&rt; parameter_of_shared_type(rt.alloc()) == Ok(true));
     assert!(&rt; literals_of_shared_type(rt.alloc()) == Ok(true));
+    assert!(&rt; formula_of_shared_operators(rt.alloc()) == Ok(true));
 }
 
 /// How many numbers are defined.

@@ -2,7 +2,7 @@ use Rattle.std.proofs.Common.{ap, ◌∙◌}
 use Rattle.std.specs.Prelude.{Ok}
 use Rattle.eo_base.proofs.Answering.{fails}
 use Rattle.eo_shape.specs.Reading as shapes
-use Rattle.eo_elab.specs.Declarations.{declaration, as_constant, as_macro, ALiteralType}
+use Rattle.eo_elab.specs.Declarations.{declaration, as_constant, as_macro, as_program, ALiteralType}
 use Rattle.eo_elab.specs.Declaring.{or_bad}
 use Rattle.eo_elab.specs.Worlds.{context_in}
 use Rattle.eo_elab.proofs.CheckedLemmas.{then-ok, then-err}
@@ -78,6 +78,18 @@ unfolding declaration
 returns-in_ok-d-in-Define-clause-gives c = record {
   live = c.in_ok-d-in-Define.ensures.gives.live;
   is = ap (λ k. or_bad (declaration (context_in c.args.table.now c.args.sig.now) (shapes.read_command k))) c.in-Define.is ∙ then-ok as_macro _ _ c.in_ok-d-in-Define.ensures.gives.is;
+}
+
+pub returns-in_err-d-in-Program-clause-gives : goal.returns-in_err-d-in-Program-clause-gives
+unfolding declaration
+returns-in_err-d-in-Program-clause-gives c =
+    fails _ _ _ _ _ _ _ c.from_residual-in_err-d-in-Program.ensures.1 (λ f e. ap (λ k. or_bad (declaration (context_in c.args.table.now c.args.sig.now) (shapes.read_command k))) c.in-Program.is ∙ then-err as_program _ f e) c.in_err-d-in-Program.ensures.gives
+
+pub returns-in_ok-d-in-Program-clause-gives : goal.returns-in_ok-d-in-Program-clause-gives
+unfolding declaration
+returns-in_ok-d-in-Program-clause-gives c = record {
+  live = c.in_ok-d-in-Program.ensures.gives.live;
+  is = ap (λ k. or_bad (declaration (context_in c.args.table.now c.args.sig.now) (shapes.read_command k))) c.in-Program.is ∙ then-ok as_program _ _ c.in_ok-d-in-Program.ensures.gives.is;
 }
 
 pub returns-in-Assume-clause-gives : goal.returns-in-Assume-clause-gives

@@ -12,5 +12,6 @@ returns c =
     let fourth = differs w (codes "declare-parameterized-const") c.eq-4.result (c.eq-4.ensures ∙ ap (bytes_eq w) c.as_slice-4.ensures) c.if-eq-4.false in
     let fifth = differs w (codes "declare-consts") c.eq-5.result (c.eq-5.ensures ∙ ap (bytes_eq w) c.as_slice-5.ensures) c.if-eq-5.false in
     let sixth = differs w (codes "define") c.eq-6.result (c.eq-6.ensures ∙ ap (bytes_eq w) c.as_slice-6.ensures) c.if-eq-6.false in
-    let seventh = differs w (codes "assume") c.eq-7.result (c.eq-7.ensures ∙ ap (bytes_eq w) c.as_slice-7.ensures) c.if-eq-7.false in
-    rw (first, second, third, fourth, fifth, sixth, seventh) refl
+    let seventh = differs w (codes "program") c.eq-7.result (c.eq-7.ensures ∙ ap (bytes_eq w) c.as_slice-7.ensures) c.if-eq-7.false in
+    let eighth = differs w (codes "assume") c.eq-8.result (c.eq-8.ensures ∙ ap (bytes_eq w) c.as_slice-8.ensures) c.if-eq-8.false in
+    rw (first, second, third, fourth, fifth, sixth, seventh, eighth) refl

@@ -21,4 +21,5 @@ returns c =
     record {
       pushed = pushed;
       reads = λ n ts us h same. ap (read_pairs us) pushed ∙ pushed_pairs ts us n c.args.self.now name c.args.id h same.at;
+      err = tt;
     }

@@ -17,7 +17,7 @@ returns-in_err-declare-clause-does c =
 pub returns-clause-whole : goal.returns-clause-whole
 returns-clause-whole c =
     let h = c.args.self.now in
-    whole_entry h c.requires.whole c.declare.new.self (c.in_ok-declare.ensures.below (length h.table.trees) c.requires.whole.signature c.requires.below) (IsConstant (read_constant h.table.trees c.args.d)) (c.in_ok-declare.ensures.adds.adds h.table.trees)
+    whole_entry h c.requires.whole c.declare.new.self (c.in_ok-declare.ensures.below (length h.table.trees) c.requires.whole.signature c.requires.below) (IsConstant (read_constant h.table.trees c.args.d)) (c.in_ok-declare.ensures.adds.adds h.table.trees) c.in_ok-declare.ensures.usable
 
 pub returns-clause-does : goal.returns-clause-does
 returns-clause-does c =

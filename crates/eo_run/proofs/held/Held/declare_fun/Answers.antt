@@ -1,10 +1,10 @@
 use Rattle.std.proofs.Common.{sym, subst}
 use Rattle.eo_run.specs.Held.{state_of}
 use Rattle.eo_run.specs.Step.{typed_constant}
-use Rattle.eo_run.proofs.Adding.{declared-refused, declared-added}
+use Rattle.eo_run.proofs.Adding.{declared-refused, declared-added, fun-alone, none-read}
 use Rattle.eo_run.proofs.Holding.{keeps_table}
 use Rattle.eo_run.specs.State.{State, context}
-use Rattle.eo_sig.specs.Reading.{read_constant}
+use Rattle.eo_sig.specs.Reading.{read_constant, read_parameter}
 use Rattle.eo_elab.specs.Declaring.{MayRepeat}
 use Rattle.eo_run.proofs.held.Held.declare_fun.Goals as goal
 
@@ -27,3 +27,8 @@ pub returns-clause-does : goal.returns-clause-does
 returns-clause-does c =
     let keeps = keeps_table c.args.self.now c.requires c.declared_fun.new.table c.in_ok-d.ensures.grows.stays c.in_ok-d.ensures.grows.table in
     declared-added _ typed_constant (state_of c.args.self.now) c.add_valued.result c.add_valued.new.self _ (read_constant c.declared_fun.new.table.trees c.in_ok-d.d) keeps.same c.in_ok-d.ensures.gives.is c.add_valued.ensures.does
+
+pub add_valued-requires-clause-alone : goal.add_valued-requires-clause-alone
+add_valued-requires-clause-alone c =
+    let ts = c.declared_fun.new.table.trees in
+    none-read (read_parameter ts) c.in_ok-d.d.params (fun-alone _ _ (read_constant ts c.in_ok-d.d) _ _ c.in_ok-d.ensures.gives.is)

@@ -2,11 +2,11 @@ use Rattle.std.proofs.Common.{◌≡◌, ℕ, List, Bool, true, false, refl, len
 use Rattle.eo_base.specs.Limits.{limits}
 use Rattle.eo_sexp.proofs.LimitFacts.{command_is}
 use Rattle.eo_sexp.specs.Built.{Built}
-use Rattle.eo_sexp.specs.Reader.{Held, held, Ends}
+use Rattle.eo_sexp.specs.Reader.{Progress, held, Ends}
 use Rattle.eo_sexp.proofs.FedEnds.{ends-open, ends-command, ends-unsat}
 use Rattle.eo_sexp.proofs.incremental.Machine.finish_begun.Goals as goal
 
-ends-at : (old : Held) (new : Built) (bytes kept : List ℕ) (w v : Bool) → bytes ≡ kept → w ≡ v → Ends limits old (length bytes) new w → Ends limits old (length kept) new v
+ends-at : (old : Progress) (new : Built) (bytes kept : List ℕ) (w v : Bool) → bytes ≡ kept → w ≡ v → Ends limits old (length bytes) new w → Ends limits old (length kept) new v
 ends-at old new bytes kept w v e f h = subst (λ bs. Ends limits old (length bs) new v) e (subst (λ u. Ends limits old (length bytes) new u) f h)
 
 pub returns-then-is_unsat : goal.returns-then-is_unsat

@@ -4,7 +4,7 @@ use Rattle.eo_sexp.specs.Token.{class_of}
 use Rattle.eo_sexp.specs.Reader.{held}
 use Rattle.eo_sexp.proofs.LimitFacts.{some_token}
 use Rattle.eo_sexp.proofs.TokenBegins.{quote_begins, bar_begins, word_begins, word-is}
-use Rattle.eo_sexp.proofs.TokenPlaces.{text-none, text-first}
+use Rattle.eo_sexp.proofs.TokenPositions.{text-none, text-first}
 use Rattle.eo_sexp.proofs.reader.Reader.begin_token.Goals as goal
 
 pub returns-in-Quote : goal.returns-in-Quote

@@ -4,7 +4,7 @@ use Rattle.eo_sexp.specs.Token.{may_end}
 use Rattle.eo_sexp.specs.Reader.{held, EndsAt, atom_of, IsWhole}
 use Rattle.eo_sexp.proofs.ReaderSteps.{list-cut, atom-ended, atom-open}
 use Rattle.eo_sexp.proofs.OpenFrames.{whole-child}
-use Rattle.eo_sexp.proofs.TokenPlaces.{may_end-at}
+use Rattle.eo_sexp.proofs.TokenPositions.{may_end-at}
 use Rattle.eo_sexp.proofs.reader.Reader.finish.Goals as goal
 
 pub returns-then-depth-ne0-clause-ends : goal.returns-then-depth-ne0-clause-ends

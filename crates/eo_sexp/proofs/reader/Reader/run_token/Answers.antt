@@ -1,6 +1,6 @@
 use Rattle.std.proofs.Common.{◌≡◌, ◌≤◌, ap, true, All, length, length-take, take, take-take, arith, subst}
 use Rattle.eo_base.specs.Limits.{limits}
-use Rattle.eo_sexp.specs.declared.reader.Place.TheVariants as place
+use Rattle.eo_sexp.specs.declared.reader.Position.TheVariants as position
 use Rattle.eo_sexp.specs.Token.{is_plain}
 use Rattle.eo_sexp.specs.Reader.{held, RunsTo}
 use Rattle.eo_sexp.proofs.RunSteps.{runs-none}
@@ -18,7 +18,7 @@ returns-in_ok-extend c =
     let at : length c.bytes-at.result.now ≡ size = ap length c.bytes-at.ensures in
     let few : n ≤ most = omega (arith, c.plain_run-run.ensures.within, length-take most rest) in
     let some : n ≤ length rest = omega (arith, few, c.smaller-most.ensures.a) in
-    let s = stands-as limits (held c.args.buffer.now c.args.self.now) size (place.Token c.args.token) c.requires.token c.requires.reader in
+    let s = stands-as limits (held c.args.buffer.now c.args.self.now) size (position.Token c.args.token) c.requires.token c.requires.reader in
     let same : take n (take most rest) ≡ take n rest = take-take n most rest few in
     token-runs limits c.args.buffer.now c.extend.new.self c.args.self.now c.args.token rest n c.requires.token c.requires.reader
     c.in_ok-extend.ensures some

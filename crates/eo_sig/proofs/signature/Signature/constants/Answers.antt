@@ -10,7 +10,7 @@ use Rattle.eo_sig.proofs.signature.Signature.constants.Goals as goal
 
 pub returns-clause-value : goal.returns-clause-value
 returns-clause-value c = λ ts. subst (λ k. c.len.result ≡ length (sig.constants (signature ts k))) c.self.view_is
-    (c.len.ensures.len ∙ table_length (λ w. w) const_name c.self.inside.entries.items c.self.inside.constants.entries c.self.invariant.constants
+    (c.len.ensures.len ∙ table_length const_name c.self.inside.entries.items c.self.inside.constants.entries c.self.invariant.constants
     ∙ ap length (constant_names ts c.self.inside.entries.items) ∙ length-map (sig.constants (map (read_entry ts) c.self.inside.entries.items)) (λ (p : sig.Constant). p.name))
 
 pub returns-clause-count : goal.returns-clause-count

@@ -9,5 +9,5 @@ use Rattle.eo_sig.proofs.signature.Signature.programs.Goals as goal
 
 pub returns : goal.returns
 returns c = λ ts. subst (λ k. c.len.result ≡ length (sig.programs (signature ts k))) c.self.view_is
-    (c.len.ensures.len ∙ table_length (λ w. w) program_name c.self.inside.entries.items c.self.inside.programs.entries c.self.invariant.programs
+    (c.len.ensures.len ∙ table_length program_name c.self.inside.entries.items c.self.inside.programs.entries c.self.invariant.programs
     ∙ ap length (program_names ts c.self.inside.entries.items) ∙ length-map (sig.programs (map (read_entry ts) c.self.inside.entries.items)) (λ (p : sig.Program). p.name))

@@ -9,24 +9,24 @@ use Rattle.eo_sig.proofs.signature.Signature.rule_of.Goals as goal
 pub unwrap-requires : goal.unwrap-requires
 unwrap-requires c =
     let within : c.args.n < length (rules_of (record { entries = c.self.inside.entries.items; macros = [] })) = subst (λ (k : Kept). c.args.n < length (rules_of k)) (sym c.self.view_is) c.requires in
-    c.get_index.ensures.found.1 (omega (arith, within, numbers rule_decl_of (λ d. d.name) (λ w. w) c.self.inside.entries.items c.self.inside.rules.entries c.self.invariant.rules))
+    c.get_index.ensures.found.1 (omega (arith, within, numbers rule_decl_of (λ d. d.name) c.self.inside.entries.items c.self.inside.rules.entries c.self.invariant.rules))
 
 pub index-requires : goal.index-requires
 index-requires c =
     let at : slice_get c.self.inside.rules.entries c.args.n ≡ Some (c.unwrap.result.0.now, c.unwrap.result.1.now) = sym c.get_index.ensures.entry ∙ ap (option_map (λ p. (p.0.now, p.1.now))) c.unwrap.ensures in
-    let r = numbered rule_decl_of (λ d. d.name) (λ w. w) c.self.inside.entries.items c.self.inside.rules.entries c.args.n _ c.self.invariant.rules at in
+    let r = numbered rule_decl_of (λ d. d.name) c.self.inside.entries.items c.self.inside.rules.entries c.args.n _ c.self.invariant.rules at in
     omega (arith, slice_get_within c.self.inside.entries.items c.unwrap.result.1.now r.0 r.2, c.self.inside.entries.ok)
 
 pub unwrap-requires-2 : goal.unwrap-requires-2
 unwrap-requires-2 c =
     let at : slice_get c.self.inside.rules.entries c.args.n ≡ Some (c.unwrap.result.0.now, c.unwrap.result.1.now) = sym c.get_index.ensures.entry ∙ ap (option_map (λ p. (p.0.now, p.1.now))) c.unwrap.ensures in
-    let r = numbered_here rule_decl_of (λ d. d.name) (λ w. w) c.self.inside.entries.items c.self.inside.rules.entries c.args.n _ c.index.result.now c.self.invariant.rules at c.index.ensures in
+    let r = numbered_here rule_decl_of (λ d. d.name) c.self.inside.entries.items c.self.inside.rules.entries c.args.n _ c.index.result.now c.self.invariant.rules at c.index.ensures in
     some_copied c.as_rule.result r.0 (c.as_rule.ensures ∙ r.1)
 
 pub returns-clause-kept : goal.returns-clause-kept
 returns-clause-kept c =
     let at : slice_get c.self.inside.rules.entries c.args.n ≡ Some (c.unwrap.result.0.now, c.unwrap.result.1.now) = sym c.get_index.ensures.entry ∙ ap (option_map (λ p. (p.0.now, p.1.now))) c.unwrap.ensures in
-    let r = numbered_here rule_decl_of (λ d. d.name) (λ w. w) c.self.inside.entries.items c.self.inside.rules.entries c.args.n _ c.index.result.now c.self.invariant.rules at c.index.ensures in
+    let r = numbered_here rule_decl_of (λ d. d.name) c.self.inside.entries.items c.self.inside.rules.entries c.args.n _ c.index.result.now c.self.invariant.rules at c.index.ensures in
     let same : Some r.0 ≡ Some c.unwrap-2.result.now = sym r.1 ∙ sym c.as_rule.ensures ∙ ap option_copied c.unwrap-2.ensures in
     subst (λ (k : Kept). slice_get (rules_of k) c.args.n ≡ Some c.unwrap-2.result.now) c.self.view_is (r.2 ∙ same)
 

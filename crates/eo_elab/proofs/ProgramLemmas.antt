@@ -1,0 +1,142 @@
+-- What a command that declares a program declares, by its parts.
+use Rattle.std.proofs.Common.{◌≡◌, ℕ, ◌<◌, ◌≤◌, ◌==◌, true, false, List, [], ◌∷◌, ◌++◌, map, All, length, refl, ap, sym, ◌∙◌, arith, rules, tests}
+use Rattle.std.specs.Prelude.{Ok, Err}
+use Rattle.std.proofs.lemmas.List.{append-nil, append_assoc}
+use Rattle.std.proofs.lemmas.List.Elements.{All-head, All-tail, All-weaker}
+use Rattle.eo_base.specs.declared.FaultName.{FaultName}
+use Rattle.eo_base.specs.declared.FaultName.TheVariants.{Redeclared, BadArity, Parameters}
+use Rattle.eo_base.specs.Checks.{Checked, ◌>>=◌}
+use Rattle.eo_base.specs.Limits.{parameters_limit}
+use Rattle.eo_sexp.specs.Sexp.{Sexp}
+use Rattle.eo_shape.specs.Shapes.{ParameterShape, CaseShape}
+use Rattle.eo_sig.specs.declared.records.Case as code_case
+use Rattle.eo_sig.specs.Reading.{read_case, CaseBelow}
+use Rattle.eo_sig.specs.Signature.{Case, Program}
+use Rattle.eo_term.specs.Terms.{tree_at}
+use Rattle.eo_term.specs.Tree.{Tree}
+use Rattle.eo_elab.specs.Declarations.{Bound, bind, unbound, is_free_name, meanings, declared_case, declared_cases, program, with_cases, program_over, declared_program}
+use Rattle.eo_elab.specs.Meaning.{meaning}
+use Rattle.eo_names.specs.Contexts.{Context, Local}
+use Rattle.eo_elab.proofs.CheckedLemmas.{then-ok, then-err, require-yes, require-no}
+use Rattle.eo_elab.proofs.ConstantLemmas.{trees-grown, ids-more}
+use Rattle.eo_elab.proofs.DeclaringLemmas.{few-yes, few-no}
+
+-- ---- a case
+
+pub same-count : (m n : ℕ) → m ≡ n → (m == n) ≡ true
+same-count m n e = search (rules, tests)
+
+pub other-count : (m n : ℕ) → (m ≡ n → ⊥) → (m == n) ≡ false
+other-count m n e = search (rules, tests)
+
+module _ (c : Context) (ls : List Local) (n : ℕ) (s : CaseShape) where
+  abbrev with_patterns : List Tree → Checked Case
+  with_patterns ps = meaning c ls s.body >>= λ t. Ok (record { patterns = ps; body = t })
+
+  pub case-arity : (length s.patterns == n) ≡ false → declared_case c ls n s ≡ Err BadArity
+  unfolding declared_case
+  case-arity e = require-no _ BadArity _ e
+
+  module _ (e : (length s.patterns == n) ≡ true) where
+    case-parts : declared_case c ls n s ≡ (meanings c ls s.patterns >>= with_patterns)
+    unfolding declared_case
+    case-parts = require-yes _ BadArity _ e
+
+    pub case-no-patterns : (f : FaultName) → meanings c ls s.patterns ≡ Err f → declared_case c ls n s ≡ Err f
+    case-no-patterns f h = case-parts ∙ then-err with_patterns (meanings c ls s.patterns) f h
+
+    module _ (ps : List Tree) (h : meanings c ls s.patterns ≡ Ok ps) where
+      pub case-no-body : (f : FaultName) → meaning c ls s.body ≡ Err f → declared_case c ls n s ≡ Err f
+      case-no-body f k = case-parts ∙ then-ok with_patterns (meanings c ls s.patterns) ps h ∙ then-err (λ t. Ok (record { patterns = ps; body = t })) (meaning c ls s.body) f k
+
+      pub case-whole : (t : Tree) → meaning c ls s.body ≡ Ok t → declared_case c ls n s ≡ Ok (record { patterns = ps; body = t })
+      case-whole t k = case-parts ∙ then-ok with_patterns (meanings c ls s.patterns) ps h ∙ then-ok (λ t. Ok (record { patterns = ps; body = t })) (meaning c ls s.body) t k
+
+-- ---- cases in order
+
+-- what is read behind some cases
+abbrev pub cases_behind : List Case → Checked (List Case) → Checked (List Case)
+cases_behind before m = m >>= λ ks. Ok (before ++ ks)
+
+pub cases_behind-none : (m : Checked (List Case)) → cases_behind [] m ≡ m
+unfolding ◌>>=◌
+cases_behind-none (Ok ks) = refl
+cases_behind-none (Err fault) = refl
+
+cases_behind-first : (before : List Case) (k : Case) (m : Checked (List Case)) → cases_behind (before ++ k ∷ []) m ≡ cases_behind before (m >>= λ ks. Ok (k ∷ ks))
+unfolding ◌>>=◌
+cases_behind-first before k (Ok ks) = ap Ok (append_assoc before (k ∷ []) ks)
+cases_behind-first before k (Err fault) = refl
+
+module _ (c : Context) (locals : List Local) (n : ℕ) (before : List Case) (s : CaseShape) (rest : List CaseShape) where
+  abbrev first_case : Checked Case → Checked (List Case)
+  first_case m = cases_behind before (m >>= λ k. declared_cases c locals n rest >>= λ ks. Ok (k ∷ ks))
+
+  pub cases-next : (k : Case) → declared_case c locals n s ≡ Ok k → cases_behind (before ++ k ∷ []) (declared_cases c locals n rest) ≡ cases_behind before (declared_cases c locals n (s ∷ rest))
+  unfolding ◌>>=◌ declared_cases
+  cases-next k e = cases_behind-first before k (declared_cases c locals n rest) ∙ ap first_case (sym e)
+
+  pub cases-refused : (fault : FaultName) → declared_case c locals n s ≡ Err fault → cases_behind before (declared_cases c locals n (s ∷ rest)) ≡ Err fault
+  unfolding ◌>>=◌ declared_cases
+  cases-refused fault e = ap first_case e
+
+pub cases-end : (c : Context) (locals : List Local) (n : ℕ) (before : List Case) → cases_behind before (declared_cases c locals n []) ≡ Ok before
+unfolding ◌>>=◌ declared_cases
+cases-end c locals n before = ap Ok (append-nil before)
+
+-- cases over a table that grows
+module _ (n m : ℕ) (ts us : List Tree) (more : n ≤ m) (same : (i : ℕ) → i < n → tree_at us i ≡ tree_at ts i) where
+  case-grown : (k : code_case.Case) → CaseBelow n k → read_case us k ≡ read_case ts k
+  case-grown k h = let ps = trees-grown n ts us k.patterns same h.patterns in λ i. record { patterns = ps i; body = same k.body h.body i }
+
+  pub cases-grown : (ks : List code_case.Case) → All (CaseBelow n) ks → map (read_case us) ks ≡ map (read_case ts) ks
+  cases-grown [] h = refl
+  cases-grown (k ∷ ks) h = λ i. case-grown k (All-head (CaseBelow n) k ks h) i ∷ cases-grown ks (All-tail (CaseBelow n) k ks h) i
+
+  case-more : (k : code_case.Case) → CaseBelow n k → CaseBelow m k
+  case-more k h = record { patterns = ids-more n m k.patterns more h.patterns; body = omega (arith, more, h.body) }
+
+  pub cases-more : (ks : List code_case.Case) → All (CaseBelow n) ks → All (CaseBelow m) ks
+  cases-more ks h = All-weaker (CaseBelow n) (CaseBelow m) case-more ks h
+
+-- ---- the whole
+
+module _ (c : Context) (name : List ℕ) (shapes : List ParameterShape) (inputs : List Sexp) (output : Sexp) (cases : List CaseShape) where
+  abbrev over : Bound → Checked Program
+  over b = program_over c name b inputs output cases
+
+  module _ (free : is_free_name c name ≡ true) where
+    pub program-many : parameters_limit < length shapes → declared_program c name shapes inputs output cases ≡ Err Parameters
+    unfolding declared_program
+    program-many h = require-yes _ Redeclared _ free ∙ require-no _ Parameters _ (few-no (length shapes) h)
+
+    module _ (h : length shapes ≤ parameters_limit) where
+      pub program-inputs : parameters_limit < length inputs → declared_program c name shapes inputs output cases ≡ Err Parameters
+      unfolding declared_program
+      program-inputs k = require-yes _ Redeclared _ free ∙ require-yes _ Parameters _ (few-yes (length shapes) h) ∙ require-no _ Parameters _ (few-no (length inputs) k)
+
+      module _ (k : length inputs ≤ parameters_limit) where
+        program-parts : declared_program c name shapes inputs output cases ≡ (bind c unbound shapes >>= over)
+        unfolding declared_program
+        program-parts = require-yes _ Redeclared _ free ∙ require-yes _ Parameters _ (few-yes (length shapes) h) ∙ require-yes _ Parameters _ (few-yes (length inputs) k)
+
+        pub program-unbound : (f : FaultName) → bind c unbound shapes ≡ Err f → declared_program c name shapes inputs output cases ≡ Err f
+        program-unbound f e = program-parts ∙ then-err over (bind c unbound shapes) f e
+
+        pub program-bound : (b : Bound) → bind c unbound shapes ≡ Ok b → declared_program c name shapes inputs output cases ≡ program_over c name b inputs output cases
+        program-bound b e = program-parts ∙ then-ok over (bind c unbound shapes) b e
+
+-- over parameters
+module _ (c : Context) (name : List ℕ) (b : Bound) (inputs : List Sexp) (output : Sexp) (cases : List CaseShape) where
+  abbrev after_inputs : List Tree → Checked Program
+  after_inputs ts = meaning c b.locals output >>= λ t. with_cases c b.locals (program name b.parameters ts t []) cases
+
+  pub over-no-inputs : (f : FaultName) → meanings c b.locals inputs ≡ Err f → program_over c name b inputs output cases ≡ Err f
+  over-no-inputs f e = then-err after_inputs (meanings c b.locals inputs) f e
+
+  module _ (ts : List Tree) (e : meanings c b.locals inputs ≡ Ok ts) where
+    pub over-no-output : (f : FaultName) → meaning c b.locals output ≡ Err f → program_over c name b inputs output cases ≡ Err f
+    over-no-output f h = then-ok after_inputs (meanings c b.locals inputs) ts e ∙ then-err (λ t. with_cases c b.locals (program name b.parameters ts t []) cases) (meaning c b.locals output) f h
+
+    pub over-cases : (t : Tree) → meaning c b.locals output ≡ Ok t → program_over c name b inputs output cases ≡ with_cases c b.locals (program name b.parameters ts t []) cases
+    over-cases t h = then-ok after_inputs (meanings c b.locals inputs) ts e ∙ then-ok (λ t. with_cases c b.locals (program name b.parameters ts t []) cases) (meaning c b.locals output) t h

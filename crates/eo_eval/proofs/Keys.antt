@@ -1,0 +1,60 @@
+-- Calls by the ids of their arguments are calls.
+use Rattle.std.specs.Prelude.{◌≡◌, ℕ, ◌<◌, Bool, true, false, ◌&&◌, ◌||◌, List, [], ◌∷◌, length, map, All, Some, is_some, refl}
+use Rattle.std.proofs.Common.{sym, ap, cond, eqb, true≢false}
+use Rattle.std.specs.List.{list_any}
+use Rattle.std.specs.Map.{lookup}
+use Rattle.std.specs.Str.{bytes_eq}
+use Rattle.std.specs.Cmp.Lexicographic.{pointwise, bytes_decides}
+use Rattle.std.proofs.lemmas.List.Elements.{All-head, All-tail}
+use Rattle.eo_term.specs.Tree.{Tree, tree_eq}
+use Rattle.eo_term.specs.Terms.{tree_at}
+use Rattle.eo_term.proofs.Equality.{tree_list_decides}
+use Rattle.eo_eval.specs.Evaluation.{call_eq}
+use Rattle.eo_eval.specs.Reading.{read_call, begun}
+use Rattle.eo_eval.specs.declared.calls.CallKey.{CallKey}
+use Rattle.eo_eval.specs.declared.stack.Known as code_known
+use Rattle.eo_eval.specs.contracts.calls.CallKeyPartialEq.TheImpl as key_eq
+
+alike : (a b : Bool) → (a ≡ true → b ≡ true) → (b ≡ true → a ≡ true) → a ≡ b
+alike true b f g = sym (f refl)
+alike false true f g = g refl
+alike false false f g = refl
+
+module _ (ts : List Tree) (same : (i j : ℕ) → i < length ts → j < length ts → tree_at ts i ≡ tree_at ts j → i ≡ j) where
+  abbrev Below : ℕ → Type 0
+  Below i = i < length ts
+
+  abbrev KeyBelow : CallKey × code_known.Known → Type 0
+  KeyBelow c = All Below c.0.args.items
+
+  ids_same : (xs ys : List ℕ) → All (λ i. i < length ts) xs → All (λ i. i < length ts) ys → map (tree_at ts) xs ≡ map (tree_at ts) ys → xs ≡ ys
+  ids_same [] [] p q e = refl
+  ids_same [] (y ∷ ys) p q e = absurd (cc e)
+  ids_same (x ∷ xs) [] p q e = absurd (cc e)
+  ids_same (x ∷ xs) (y ∷ ys) p q e =
+      let one : tree_at ts x ≡ tree_at ts y = cc e in
+      let more : map (tree_at ts) xs ≡ map (tree_at ts) ys = cc e in
+      let first : x ≡ y = same x y (All-head Below x xs p) (All-head Below y ys q) one in
+      let rest : xs ≡ ys = ids_same xs ys (All-tail Below x xs p) (All-tail Below y ys q) more in
+      λ i. first i ∷ rest i
+
+  args_alike : (xs ys : List ℕ) → All (λ i. i < length ts) xs → All (λ i. i < length ts) ys → bytes_eq xs ys ≡ pointwise tree_eq (map (tree_at ts) xs) (map (tree_at ts) ys)
+  args_alike xs ys p q =
+      alike (bytes_eq xs ys) (pointwise tree_eq (map (tree_at ts) xs) (map (tree_at ts) ys))
+      (λ h. (tree_list_decides (map (tree_at ts) xs) (map (tree_at ts) ys)).1 (ap (map (tree_at ts)) ((bytes_decides xs ys).0 h)))
+      (λ h. (bytes_decides xs ys).1 (ids_same xs ys p q ((tree_list_decides (map (tree_at ts) xs) (map (tree_at ts) ys)).0 h)))
+
+  key_alike : (k l : CallKey) → All (λ i. i < length ts) k.args.items → All (λ i. i < length ts) l.args.items → key_eq.ghosts.eq k l ≡ call_eq (read_call ts k) (read_call ts l)
+  key_alike k l p q = ap (λ b. eqb k.program l.program && b) (args_alike k.args.items l.args.items p q)
+
+  pub begun_found : (k : CallKey) → All (λ i. i < length ts) k.args.items → (es : List (CallKey × code_known.Known)) → All (λ (c : CallKey × code_known.Known). All (λ i. i < length ts) c.0.args.items) es → is_some (lookup (key_eq.ghosts.eq k) es) ≡ list_any (call_eq (read_call ts k)) (begun ts es)
+  begun_found k p [] q = refl
+  begun_found k p (e ∷ es) q =
+      let rest = begun_found k p es (All-tail KeyBelow e es q) in
+      by (key_eq.ghosts.eq k e.0) (call_eq (read_call ts k) (read_call ts e.0)) (key_alike k e.0 p (All-head KeyBelow e es q)) rest
+    where
+      by : (a b : Bool) → a ≡ b → is_some (lookup (key_eq.ghosts.eq k) es) ≡ list_any (call_eq (read_call ts k)) (begun ts es) → is_some (cond a (Some e.1) (lookup (key_eq.ghosts.eq k) es)) ≡ (b || list_any (call_eq (read_call ts k)) (begun ts es))
+      by true true h r = refl
+      by true false h r = absurd (true≢false h)
+      by false true h r = absurd (true≢false (sym h))
+      by false false h r = r

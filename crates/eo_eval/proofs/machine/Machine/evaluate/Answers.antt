@@ -1,0 +1,28 @@
+use Rattle.std.proofs.Common.{◌∙◌, ap, sym, refl}
+use Rattle.eo_eval.specs.Evaluation.{Ended}
+use Rattle.eo_term.specs.Tree.{Tree}
+use Rattle.eo_term.specs.Growth.{tree_in}
+use Rattle.eo_term.proofs.Growing.{grows_refl}
+use Rattle.eo_sig.specs.Reading.{signature}
+use Rattle.eo_sig.proofs.Growing.{grows_under}
+use Rattle.eo_eval.proofs.Pushed.{first_told, first_ready}
+use Rattle.eo_eval.proofs.Values.{told_value}
+use Rattle.eo_eval.proofs.machine.Machine.evaluate.Goals as goal
+
+pub loop-init : goal.loop-init
+loop-init c =
+    let fresh = c.requires.fresh in
+    record {
+      told = first_told c.args.sig.now c.args.table.now c.args.self.now c.args.id fresh.frames fresh.values fresh.calls;
+      ready = first_ready c.args.sig.now c.args.table.now c.args.types.now c.args.self.now c.args.id fresh.frames fresh.values fresh.calls fresh.terms c.requires.usable c.requires.fit c.requires.live;
+      same = refl;
+      grows = grows_under c.args.sig.now c.args.table.now c.args.table.now c.requires.fit.below (grows_refl c.args.table.now);
+    }
+
+pub returns-in-Some-clause-gives : goal.returns-in-Some-clause-gives
+returns-in-Some-clause-gives c =
+    let outcome = sym (ap (λ (r : Ended Tree). r.0) c.loop.invariant.told) ∙ c.in-Some.ensures.told c.args.sig.now c.loop.table in
+    record {
+      outcome = outcome;
+      value = told_value (signature c.args.table.now.trees c.args.sig.now) c.requires.usable (tree_in c.args.table.now c.args.id) c.loop.table _ outcome (c.in-Some.ensures.live _ c.loop.invariant.ready.stands.now_live);
+    }

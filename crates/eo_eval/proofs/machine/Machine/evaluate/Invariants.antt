@@ -1,0 +1,17 @@
+use Rattle.std.proofs.Common.{◌≡◌, []}
+use Rattle.eo_base.specs.Limits.{calls_limit, open_calls_limit}
+use Rattle.eo_term.specs.Growth.{tree_in}
+use Rattle.eo_sig.specs.Reading.{signature}
+use Rattle.eo_sig.specs.Growth.{GrowsUnder}
+use Rattle.eo_eval.specs.Evaluation.{eval}
+use Rattle.eo_eval.specs.Ready.{Ready, told_in}
+use Rattle.eo_eval.proofs.machine.Machine.evaluate.Given as goal
+
+-- what is held, finished by the definition, is the whole
+abbrev pub invariant-loop : goal.invariant-loop
+invariant-loop l = record {
+  told : told_in l.sig l.table l.self l.now ≡ eval (signature l.fn.table.trees l.fn.sig) calls_limit open_calls_limit (tree_in l.fn.table l.fn.id) [];
+  ready : Ready l.sig l.table l.types l.self l.now;
+  same : l.sig ≡ l.fn.sig;
+  grows : GrowsUnder l.fn.sig l.fn.table l.table;
+}

@@ -1,0 +1,137 @@
+-- What each turn of an evaluation finds and leaves.
+use Rattle.std.specs.Prelude.{◌≡◌, ℕ, ◌<◌, ◌≤◌, max, take, drop, All, List, [], ◌∷◌, ◌++◌, length, reverse}
+use Rattle.eo_base.specs.Limits.{calls_limit}
+use Rattle.eo_term.specs.Terms.{Terms, tree_at}
+use Rattle.eo_sig.specs.Reading.{Kept, signature}
+use Rattle.eo_sig.specs.Usable.{IsUsable}
+use Rattle.eo_type.specs.Known.{Fit}
+use Rattle.eo_eval.specs.Evaluation.{Outcome, Value, Stuck, Ended, Begun, Call, Eval, on_body, body_of, eval}
+use Rattle.eo_term.specs.Arguments.{count_of}
+use Rattle.eo_eval.specs.Machine.{parts_of, Family, Frame, Again, Stacked, evals, calls, finish, resume, resume_with}
+use Rattle.eo_eval.specs.declared.stack.Now.TheVariants as next
+use Rattle.eo_sig.specs.Signature.{Signature}
+use Rattle.eo_eval.specs.declared.stack.Frame.TheVariants as frame
+use Rattle.eo_term.specs.Tree.{Tree}
+use Rattle.eo_eval.specs.Reading.{call_at, node_of, deepest_of, left_of, wait_of, result_of, depth_of, outcome_in, OutcomeBelow, waiting, told, Waits, begun, Remembers, IsFrame, IsPlaced, NowBelow}
+use Rattle.eo_eval.specs.declared.stack.Now as code_now
+use Rattle.eo_eval.specs.declared.stack.Frame as code_frame
+use Rattle.eo_eval.specs.declared.machine.Machine.{Machine}
+use Rattle.eo_eval.specs.declared.evaluator.Outcome as code_outcome
+
+-- what the definition makes of all that a machine holds and of what it does next
+abbrev pub told_in : Kept → Terms → Machine → code_now.Now → Ended Tree
+told_in k t e now = told (signature t.trees k) calls_limit t.trees (begun t.trees e.calls.entries) e.stack.frames.items e.stack.values.items now
+
+-- where each node that collects has its values, which are fewer than its parts
+abbrev pub Based : List Tree → List code_frame.Frame → List ℕ → Type 0
+Based ts [] vs = Unit {0}
+Based ts (frame.Parts i base d k ∷ fs) vs = ((base ≤ length vs) × (length (drop base vs) < count_of (parts_of (tree_at ts i)))) × Based ts fs (take base vs)
+Based ts (f ∷ fs) vs = Based ts fs vs
+
+-- What waits, and the values that are collected, are right for what is done next.
+pub record Stands (S : Signature) (most : ℕ) (ts : List Tree) (b : Begun) (fs : List code_frame.Frame) (vs : List ℕ) (now : code_now.Now) : Type 0 where
+  pub now_live : NowBelow (length ts) now
+  pub frames_live : All (IsFrame ts) fs
+  pub placed : All (IsPlaced (length b)) fs
+  pub values_live : All (λ i. i < length ts) vs
+  pub based : Based ts (reverse fs) vs
+  pub waits : Waits S most ts b (waiting ts b (reverse fs) vs) now
+
+-- nothing is begun, and nothing is remembered
+pub record IsFresh (e : Machine) : Type 0 where
+  pub frames : e.stack.frames.items ≡ []
+  pub values : e.stack.values.items ≡ []
+  pub calls : e.calls.entries ≡ []
+  pub terms : e.terms.entries ≡ []
+
+-- All else that a machine holds is right.
+pub record Held (k : Kept) (t : Terms) (typed : List (ℕ × ℕ)) (e : Machine) : Type 0 where
+  pub usable : IsUsable (signature t.trees k)
+  pub fit : Fit k t typed
+  pub keys_live : All (λ c. All (λ i. i < length t.trees) c.0.args.items) e.calls.entries
+  pub remembers : Remembers (signature t.trees k) calls_limit t.trees e.calls.entries e.terms.entries
+
+pub record Ready (k : Kept) (t : Terms) (typed : List (ℕ × ℕ)) (e : Machine) (now : code_now.Now) : Type 0 where
+  pub held : Held k t typed e
+  pub stands : Stands (signature t.trees k) calls_limit t.trees (begun t.trees e.calls.entries) e.stack.frames.items e.stack.values.items now
+
+-- The same, where the last thing that waits was taken off.
+
+abbrev pub told_popped : Kept → Terms → Machine → code_frame.Frame → code_now.Now → Ended Tree
+told_popped k t e f now = told (signature t.trees k) calls_limit t.trees (begun t.trees e.calls.entries) (e.stack.frames.items ++ f ∷ []) e.stack.values.items now
+
+pub record PoppedReady (k : Kept) (t : Terms) (typed : List (ℕ × ℕ)) (e : Machine) (f : code_frame.Frame) (now : code_now.Now) : Type 0 where
+  pub held : Held k t typed e
+  pub stands : Stands (signature t.trees k) calls_limit t.trees (begun t.trees e.calls.entries) (e.stack.frames.items ++ f ∷ []) e.stack.values.items now
+
+-- What is remembered of an evaluation answers so, where so many calls may open.
+abbrev pub Recalls : List Tree → Begun → Family → ℕ → code_now.Now → Type 0
+Recalls ts b F left (next.Value v d) = (v < length ts) × (Again F (Value (tree_at ts v)) d b × (d ≤ left))
+Recalls ts b F left (next.Stuck d) = Again F Stuck d b × (d ≤ left)
+Recalls ts b F left next.Deep = (o : Outcome Tree) × ((d : ℕ) × (Again F o d b × (left < d)))
+Recalls ts b F left _ = ⊥
+
+-- Steps of nodes that wait.
+
+-- a node that has no values in the list of those that are collected
+abbrev pub HasNoValues : code_frame.Frame → Type 0
+HasNoValues (frame.Parts i base d k) = ⊥
+HasNoValues (frame.Body place body) = ⊥
+HasNoValues _ = Unit {0}
+
+-- a node that waited for this result ends so
+pub record Concludes (k : Kept) (t : Terms) (e : Machine) (f : code_frame.Frame) (now : code_now.Now) (o : code_outcome.Outcome) : Type 0 where
+  pub live : OutcomeBelow (length t.trees) o
+  pub ends : (call : Call → Eval Tree) (c : Begun) → resume_with (signature t.trees k) call (wait_of t.trees e.stack.values.items f) (result_of t.trees now, c) ≡ (outcome_in t.trees o, c)
+
+-- with this result it goes on to wait for another term
+pub record Proceeds (S : Signature) (most : ℕ) (ts : List Tree) (f : code_frame.Frame) (now : code_now.Now) (g : code_frame.Frame) (p l : ℕ) : Type 0 where
+  pub node : node_of g ≡ node_of f
+  pub depth : deepest_of g ≡ max (deepest_of f) (depth_of now)
+  pub frame : IsFrame ts g
+  pub live : p < length ts
+  pub waits : (j : ℕ) (c : Begun) → resume S most j (wait_of ts [] f) (result_of ts now, c) ≡ resume S most j (wait_of ts [] g) (evals S most (tree_at ts p) j c)
+  pub tells : (c : Begun) → resume S most (left_of f) (wait_of ts [] f) (result_of ts now, c) ≡ resume S most (left_of g) (wait_of ts [] g) (evals S most (tree_at ts p) l c)
+
+-- a term begins to wait for another one
+pub record Begins (S : Signature) (most : ℕ) (ts : List Tree) (i l : ℕ) (g : code_frame.Frame) (p : ℕ) : Type 0 where
+  pub node : node_of g ≡ i
+  pub depth : deepest_of g ≡ 0
+  pub frame : IsFrame ts g
+  pub live : p < length ts
+  pub waits : (j : ℕ) (c : Begun) → evals S most (tree_at ts i) j c ≡ resume S most j (wait_of ts [] g) (evals S most (tree_at ts p) j c)
+  pub tells : (c : Begun) → evals S most (tree_at ts i) l c ≡ resume S most (left_of g) (wait_of ts [] g) (evals S most (tree_at ts p) l c)
+
+-- a term ends so, and what it ends with comes again where so many calls may open
+pub record Keeps (S : Signature) (most : ℕ) (ts : List Tree) (b : Begun) (i : ℕ) (o : code_outcome.Outcome) (d : ℕ) : Type 0 where
+  pub term : i < length ts
+  pub value : OutcomeBelow (length ts) o
+  pub again : Again (evals S most (tree_at ts i)) (outcome_in ts o) d b
+
+-- Calls.
+
+-- the call at a place among those begun
+abbrev pub called_at : Terms → Machine → ℕ → Call
+called_at t e place = call_at (begun t.trees e.calls.entries) place
+
+-- what waits
+abbrev pub waiting_in : Terms → Machine → List Frame
+waiting_in t e = waiting t.trees (begun t.trees e.calls.entries) (reverse e.stack.frames.items) e.stack.values.items
+
+-- what the definition makes of all that waits and of a call that was begun, whose body is still to be found
+abbrev pub told_run : Kept → Terms → Machine → Call → ℕ → Ended Tree
+told_run k t e x left =
+    let S = signature t.trees k in
+    finish S calls_limit (waiting_in t e) (on_body (body_of S x) (eval S calls_limit left) (begun t.trees e.calls.entries))
+
+-- what it makes of all that waits and of a call
+abbrev pub told_call : Kept → Terms → Machine → Call → ℕ → Ended Tree
+told_call k t e x left =
+    let S = signature t.trees k in
+    finish S calls_limit (waiting_in t e) (calls S calls_limit x left (begun t.trees e.calls.entries))
+
+-- All is right for a call that is made next.
+pub record Calling (k : Kept) (t : Terms) (typed : List (ℕ × ℕ)) (e : Machine) (x : Call) : Type 0 where
+  pub held : Held k t typed e
+  pub stands : Stands (signature t.trees k) calls_limit t.trees (begun t.trees e.calls.entries) e.stack.frames.items e.stack.values.items next.Deep
+  pub waits : Stacked (signature t.trees k) calls_limit (begun t.trees e.calls.entries) (waiting_in t e) (calls (signature t.trees k) calls_limit x)

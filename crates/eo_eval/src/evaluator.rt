@@ -1,0 +1,110 @@
+//! The evaluator.
+ghost use Rattle.std.specs.Prelude.{◌<◌, length};
+ghost use Rattle.eo_sig.specs.Growth.{GrowsUnder};
+ghost use Rattle.eo_sig.specs.Reading.{signature};
+ghost use Rattle.eo_sig.specs.Usable.{IsUsable};
+ghost use Rattle.eo_type.specs.Known.{Fit};
+ghost use Rattle.eo_eval.specs.Outcomes.{GivesOutcome, outcome_of};
+
+use crate::machine::Machine;
+use eo_sig::Signature;
+use eo_term::{Id, Table};
+use eo_type::Types;
+use std::alloc::{AllocError, Global};
+use std::marker::Model;
+
+/// How evaluation ends.
+#[derive(Clone, Copy, Debug, PartialEq, Eq)]
+pub enum Outcome {
+    /// With a value.
+    Value(Id),
+    /// With none.
+    Stuck,
+    /// More calls are open than may be.
+    Deep,
+    /// More different calls were begun than may be.
+    Calls,
+    /// A number is out of range.
+    Range,
+    /// A term is too tall.
+    Tall,
+}
+
+/// Why it is not known how evaluation ends.
+#[derive(Debug, Drop)]
+pub enum EvalRefused {
+    /// Want of memory.
+    Memory(AllocError),
+}
+
+impl From<AllocError> for EvalRefused {
+    ghost use Rattle.std.specs.Prelude.{◌≡◌};
+    ghost use Rattle.eo_eval.specs.declared.evaluator.EvalRefused.TheVariants.{Memory};
+
+    ghost from_gives = { λ e refused. refused ≡ Memory e };
+
+    fn from(e: AllocError) -> EvalRefused {
+        EvalRefused::Memory(e)
+    }
+}
+
+/// What evaluates terms. It remembers nothing from one evaluation to the next, and keeps memory for
+/// it.
+#[derive(Drop)]
+pub struct Evaluator {
+    machine: Machine,
+}
+
+impl Model for Evaluator {
+    ghost use Rattle.eo_eval.specs.Ready.{IsFresh};
+
+    ghost Value = { Unit {0} };
+
+    ghost view = { λ e. tt };
+
+    ghost invariant = { λ e. IsFresh e.machine };
+}
+
+impl Evaluator {
+    /// An evaluator that takes its memory there.
+    pub fn new(alloc: Global) -> Result<Evaluator, AllocError> {
+        Ok(Evaluator {
+            machine: Machine::new(alloc),
+        })
+    }
+
+    /// How the evaluation of a closed term ends, by the rules of the Ethos manual for programs and
+    /// operators.
+    ///
+    /// A node evaluates its parts from left to right, and is stuck where one is. A call of a
+    /// program goes on with the body of the first case that matches, and is stuck where none does.
+    /// At most [`CALL_DEPTH`] calls are open at once, and at most [`CALLS`] different ones are
+    /// begun. A call that was finished is not evaluated again in the same evaluation. A term that
+    /// is a value is answered at once, without memory.
+    ///
+    /// Want of memory is the only refusal. The terms that were there stay in either case.
+    ///
+    /// [`CALL_DEPTH`]: eo_base::limits::CALL_DEPTH
+    /// [`CALLS`]: eo_base::limits::CALLS
+    pub fn evaluate(
+        &mut self,
+        sig: &Signature,
+        table: &mut Table,
+        types: &mut Types,
+        id: Id,
+    ) -> Result<Outcome, EvalRefused>
+        requires live { id < length table.old.trees }
+        requires usable { IsUsable (signature table.old.trees sig.now) }
+        requires fit { Fit sig.now table.old types.old }
+        ensures gives { GivesOutcome table.new result (outcome_of sig.now table.old id) }
+        ensures fits { Fit sig.now table.new types.new }
+        ensures grows { GrowsUnder sig.now table.old table.new }
+    {
+        if table.is_value(id) {
+            return Ok(Outcome::Value(id));
+        }
+        let result = self.machine.evaluate(sig, table, types, id);
+        self.machine.clear();
+        result
+    }
+}

@@ -1,0 +1,9 @@
+//! What holds of evaluation. A call costs nothing: it tells a proof what its clause says.
+ghost use Rattle.eo_sig.specs.Signature.{Signature};
+ghost use Rattle.eo_eval.specs.Settling.{SettlesAsEvaluated};
+
+/// A law: where the operators in a term are such that declared types may hold them, and it settles
+/// to a term without parameters, it is evaluated to that term if it is a value, and else is stuck.
+pub fn settling_law()
+    ensures { (S : Signature) → SettlesAsEvaluated S }
+{}

@@ -1,0 +1,187 @@
+//! Calls of programs.
+ghost use Rattle.std.specs.Prelude.{◌≡◌, ◌<◌, ℕ, List, length, All, IfOk, IfSome, IfNone};
+ghost use Rattle.eo_sig.specs.Growth.{GrowsUnder};
+ghost use Rattle.eo_sig.specs.Reading.{IsBelow, signature};
+ghost use Rattle.eo_eval.specs.Bodies.{FindsBody};
+ghost use Rattle.eo_eval.specs.Evaluation.{body_of};
+ghost use Rattle.eo_eval.specs.Ready.{Ready, Calling, Recalls, called_at, told_in, told_call, told_run};
+ghost use Rattle.eo_eval.specs.Machine.{calls};
+ghost use Rattle.eo_eval.specs.Reading.{read_call, call_at, begun, Remembers};
+ghost use Rattle.eo_eval.specs.declared.stack.Now.TheVariants as next;
+ghost use Rattle.eo_sig.specs.Signature as spec;
+ghost use Rattle.eo_term.specs.Tree.{Tree};
+
+use crate::bodies::body;
+use crate::calls::CallKey;
+use crate::machine::Machine;
+use crate::machine::memory::used;
+use crate::stack::{Frame, Known, Now};
+use eo_base::limits::CALLS;
+use eo_sig::Signature;
+use eo_term::{Id, Table, TermRefused};
+use eo_type::Types;
+use std::alloc::AllocError;
+
+impl Machine {
+    /// A program is called on values, where so many calls may open.
+    pub(crate) fn call(
+        &mut self,
+        sig: &Signature,
+        table: &mut Table,
+        types: &Types,
+        key: CallKey,
+        left: usize,
+    ) -> Result<Now, AllocError>
+        requires key { All (λ i. i < length table.old.trees) key.args.items }
+        requires calling { Calling sig.now table.old types.now self.old (read_call table.old.trees key) }
+        ensures told { IfOk result (λ n. told_in sig.now table.new self.new n
+            ≡ told_call sig.now table.old self.old (read_call table.old.trees key) left) }
+        ensures ready { IfOk result (λ n. Ready sig.now table.new types.now self.new n) }
+        ensures grows { GrowsUnder sig.now table.old table.new }
+    {
+        sig.laws();
+        if left == 0 {
+            return Ok(Now::Deep);
+        }
+        match self.begin_call(sig, table, types, key, left)? {
+            Some(place) => self.call_begun(sig, table, types, place, left),
+            None => Ok(Now::Calls),
+        }
+    }
+
+    // The place of a call, which begins if it was not begun before; none, where too many calls were.
+    fn begin_call(
+        &mut self,
+        sig: &Signature,
+        table: &Table,
+        types: &Types,
+        key: CallKey,
+        left: usize,
+    ) -> Result<Option<usize>, AllocError>
+        requires left { 0 < left }
+        requires key { All (λ i. i < length table.now.trees) key.args.items }
+        requires calling { Calling sig.now table.now types.now self.old (read_call table.now.trees key) }
+        ensures place { IfOk result (λ r. IfSome r (λ p. p < length self.new.calls.entries)) }
+        ensures calling { IfOk result (λ r. IfSome r (λ p. Calling sig.now table.now types.now self.new (called_at table.now self.new p))) }
+        ensures told { IfOk result (λ r. IfSome r (λ p. told_call sig.now table.now self.new (called_at table.now self.new p) left
+            ≡ told_call sig.now table.now self.old (read_call table.now.trees key) left)) }
+        ensures full { IfOk result (λ r. IfNone r (told_in sig.now table.now self.new next.Calls
+            ≡ told_call sig.now table.now self.old (read_call table.now.trees key) left)) }
+        ensures ready { IfOk result (λ r. IfNone r (Ready sig.now table.now types.now self.new next.Calls)) }
+    {
+        table.laws();
+        if let Some(place) = self.calls.get_index_of(&key) {
+            return Ok(Some(place));
+        }
+        let place = self.calls.len();
+        if place >= CALLS {
+            return Ok(None);
+        }
+        self.calls.insert(key, Known::Open)?;
+        Ok(Some(place))
+    }
+
+    // A call that was begun: what is known of it is used, or it goes on with its body.
+    fn call_begun(
+        &mut self,
+        sig: &Signature,
+        table: &mut Table,
+        types: &Types,
+        place: usize,
+        left: usize,
+    ) -> Result<Now, AllocError>
+        requires left { 0 < left }
+        requires place { place < length self.old.calls.entries }
+        requires calling { Calling sig.now table.old types.now self.old (called_at table.old self.old place) }
+        ensures told { IfOk result (λ n. told_in sig.now table.new self.new n
+            ≡ told_call sig.now table.old self.old (called_at table.old self.old place) left) }
+        ensures ready { IfOk result (λ n. Ready sig.now table.new types.now self.new n) }
+        ensures grows { GrowsUnder sig.now table.old table.new }
+    {
+        sig.laws();
+        match self.known_call(place, left) {
+            Some(now) => Ok(now),
+            None => self.run(sig, table, types, place, left - 1),
+        }
+    }
+
+    // What is known of a call that was begun, where so many calls may open.
+    fn known_call(&self, place: usize, left: usize) -> Option<Now>
+        requires { place < length self.now.calls.entries }
+        ensures { (S : spec.Signature) (most : ℕ) (ts : List Tree) → Remembers S most ts self.now.calls.entries self.now.terms.entries →
+            IfSome result (λ n. Recalls ts (begun ts self.now.calls.entries) (calls S most (call_at (begun ts
+            self.now.calls.entries) place)) left n) }
+    {
+        let (_, known) = self.calls.get_index(place).unwrap();
+        used(*known, left)
+    }
+
+    // A call that was begun goes on with its body, where so many calls may open.
+    fn run(
+        &mut self,
+        sig: &Signature,
+        table: &mut Table,
+        types: &Types,
+        place: usize,
+        left: usize,
+    ) -> Result<Now, AllocError>
+        requires place { place < length self.old.calls.entries }
+        requires calling { Calling sig.now table.old types.now self.old (called_at table.old self.old place) }
+        ensures told { IfOk result (λ n. told_in sig.now table.new self.new n
+            ≡ told_run sig.now table.old self.old (called_at table.old self.old place) left) }
+        ensures ready { IfOk result (λ n. Ready sig.now table.new types.now self.new n) }
+        ensures grows { GrowsUnder sig.now table.old table.new }
+    {
+        types.laws();
+        let found = self.body_at(sig, table, place);
+        self.enter_body(sig, table, types, place, left, found)
+    }
+
+    // The body of a call that was begun.
+    fn body_at(
+        &self,
+        sig: &Signature,
+        table: &mut Table,
+        place: usize,
+    ) -> Result<Option<Id>, TermRefused>
+        requires place { place < length self.now.calls.entries }
+        requires keys { All (λ c. All (λ i. i < length table.old.trees) c.0.args.items) self.now.calls.entries }
+        requires below { IsBelow (length table.old.trees) sig.now }
+        ensures body { FindsBody table.new result (body_of (signature table.old.trees sig.now) (called_at table.old self.now place)) }
+        ensures grows { GrowsUnder sig.now table.old table.new }
+    {
+        let (key, _) = self.calls.get_index(place).unwrap();
+        body(self.alloc, sig, table, key.program, key.args.as_slice())
+    }
+
+    // A call goes on with the body that was found for it.
+    fn enter_body(
+        &mut self,
+        sig: &Signature,
+        table: &Table,
+        types: &Types,
+        place: usize,
+        left: usize,
+        found: Result<Option<Id>, TermRefused>,
+    ) -> Result<Now, AllocError>
+        requires place { place < length self.old.calls.entries }
+        requires calling { Calling sig.now table.now types.now self.old (called_at table.now self.old place) }
+        requires body { FindsBody table.now found (body_of (signature table.now.trees sig.now) (called_at table.now self.old place)) }
+        ensures told { IfOk result (λ n. told_in sig.now table.now self.new n
+            ≡ told_run sig.now table.now self.old (called_at table.now self.old place) left) }
+        ensures ready { IfOk result (λ n. Ready sig.now table.now types.now self.new n) }
+    {
+        match found {
+            Ok(Some(body)) => {
+                self.stack.wait(Frame::Body { place, body })?;
+                Ok(Now::Enter { id: body, left })
+            }
+            Ok(None) => {
+                self.finish_call(place, Known::Stuck { deepest: 1 });
+                Ok(Now::Stuck { deepest: 1 })
+            }
+            Err(TermRefused::Tall) => Ok(Now::Tall),
+            Err(TermRefused::Memory(e)) => Err(e),
+        }
+    }
+}

@@ -1,0 +1,629 @@
+//! Results that are given to what waits.
+ghost use Rattle.std.specs.Prelude.{◌≡◌, ◌<◌, ◌≤◌, ◌+◌, drop, false, length, IfOk, IfSome, IfNone, List, ℕ, Some};
+ghost use Rattle.eo_term.specs.Tree.{Tree, Op, truth};
+ghost use Rattle.eo_eval.specs.Evaluation.{Value, are_equal};
+ghost use Rattle.eo_term.specs.Terms.{tree_at};
+ghost use Rattle.eo_term.specs.Growth.{tree_in};
+ghost use Rattle.eo_term.specs.Arguments.{arguments_of, count_of};
+ghost use Rattle.eo_term.specs.declared.OpCode.TheVariants as code;
+ghost use Rattle.eo_eval.specs.Machine.{is_call, parts_of};
+ghost use Rattle.eo_sig.specs.Reading.{signature};
+ghost use Rattle.eo_sig.specs.Growth.{GrowsUnder};
+ghost use Rattle.eo_type.specs.Known.{Fit};
+ghost use Rattle.eo_base.specs.Limits.{calls_limit};
+ghost use Rattle.eo_eval.specs.Reading.{IsNode, IsResult, HasMore, IsNoTruth, given_in};
+ghost use Rattle.eo_eval.specs.Reading.{now_of, outcome_in, OutcomeBelow, result_of, NowBelow};
+ghost use Rattle.eo_eval.specs.Ready.{Ready, PoppedReady, Concludes, Proceeds, Begins, HasNoValues, told_in, told_popped};
+ghost use Rattle.eo_eval.specs.declared.stack.Now.TheVariants as next;
+ghost use Rattle.eo_eval.specs.declared.stack.Frame.TheVariants as frame;
+
+use crate::calls::CallKey;
+use crate::evaluator::Outcome;
+use crate::machine::Machine;
+use crate::machine::parts::part_of;
+use crate::operators::made;
+use crate::stack::{Frame, Now};
+use crate::turns::next_part;
+use eo_sig::Signature;
+use eo_term::{FALSE, Id, Node, OpCode, TRUE, Table};
+use eo_type::{Types, is_constant};
+use std::alloc::AllocError;
+
+impl Machine {
+    /// A result is given to what waits last.
+    pub(crate) fn give(
+        &mut self,
+        sig: &Signature,
+        table: &mut Table,
+        types: &mut Types,
+        now: &Now,
+    ) -> Result<Now, AllocError>
+        requires result { IsResult now.now }
+        requires ready { Ready sig.now table.old types.old self.old now.now }
+        ensures told { IfOk result (λ n. told_in sig.now table.new self.new n ≡ told_in sig.now table.old self.old now.now) }
+        ensures ready { IfOk result (λ n. Ready sig.now table.new types.new self.new n) }
+        ensures fits { Fit sig.now table.new types.new }
+        ensures grows { GrowsUnder sig.now table.old table.new }
+    {
+        match self.stack.pop() {
+            None => Ok(*now),
+            Some(frame) => self.give_to(sig, table, types, &frame, now),
+        }
+    }
+
+    // A result is given to what was taken off.
+    fn give_to(
+        &mut self,
+        sig: &Signature,
+        table: &mut Table,
+        types: &mut Types,
+        frame: &Frame,
+        now: &Now,
+    ) -> Result<Now, AllocError>
+        requires result { IsResult now.now }
+        requires ready { PoppedReady sig.now table.old types.old self.old frame.now now.now }
+        ensures told { IfOk result (λ n. told_in sig.now table.new self.new n ≡ told_popped sig.now table.old self.old frame.now now.now) }
+        ensures ready { IfOk result (λ n. Ready sig.now table.new types.new self.new n) }
+        ensures fits { Fit sig.now table.new types.new }
+        ensures grows { GrowsUnder sig.now table.old table.new }
+    {
+        match *frame {
+            Frame::Parts {
+                id,
+                base,
+                deepest,
+                left,
+            } => self.give_parts(sig, table, types, id, base, deepest, left, now),
+            Frame::Choice { id, left } => self.choose(sig, table, types, id, left, now),
+            Frame::Left { id, left } => self.compare(sig, table, types, id, left, now),
+            Frame::Require { id, left } => self.require(sig, table, types, id, left, now),
+            Frame::Required {
+                id,
+                first,
+                deepest,
+                left,
+            } => self.allow(sig, table, types, id, first, deepest, left, now),
+            Frame::Tested { .. } => {
+                let outcome = truth_of(table, now.is_value());
+                self.conclude(sig, table, types, frame, now, outcome)
+            }
+            Frame::Right { first, .. } => {
+                let outcome = truth_of(table, is_given(table, now, first));
+                self.conclude(sig, table, types, frame, now, outcome)
+            }
+            Frame::Unequal { .. } => {
+                let outcome = truth_of(table, false);
+                self.conclude(sig, table, types, frame, now, outcome)
+            }
+            Frame::Missed { .. } => self.conclude(sig, table, types, frame, now, Outcome::Stuck),
+            Frame::Handed { .. } => self.conclude(sig, table, types, frame, now, given(now)),
+            Frame::Body { place, body } => self.end_call(sig, table, types, place, body, now),
+        }
+    }
+
+    // A node that collects the values of its parts is given the result of its next part.
+    fn give_parts(
+        &mut self,
+        sig: &Signature,
+        table: &mut Table,
+        types: &mut Types,
+        id: Id,
+        base: usize,
+        before: usize,
+        left: usize,
+        now: &Now,
+    ) -> Result<Now, AllocError>
+        requires result { IsResult now.now }
+        requires ready { PoppedReady sig.now table.old types.old self.old (frame.Parts id base before left) now.now }
+        ensures told { IfOk result (λ n. told_in sig.now table.new self.new n
+            ≡ told_popped sig.now table.old self.old (frame.Parts id base before left) now.now) }
+        ensures ready { IfOk result (λ n. Ready sig.now table.new types.new self.new n) }
+        ensures fits { Fit sig.now table.new types.new }
+        ensures grows { GrowsUnder sig.now table.old table.new }
+    {
+        let frame = Frame::Parts {
+            id,
+            base,
+            deepest: before,
+            left,
+        };
+        match *now {
+            Now::Value { id: value, deepest } => {
+                self.give_part(sig, table, types, id, base, before, left, value, deepest)
+            }
+            _ => self.conclude(sig, table, types, &frame, now, Outcome::Stuck),
+        }
+    }
+
+    // A node gets the value of its next part.
+    fn give_part(
+        &mut self,
+        sig: &Signature,
+        table: &mut Table,
+        types: &mut Types,
+        node: Id,
+        base: usize,
+        before: usize,
+        left: usize,
+        id: Id,
+        deepest: usize,
+    ) -> Result<Now, AllocError>
+        requires ready { PoppedReady sig.now table.old types.old self.old (frame.Parts node base before left) (next.Value id deepest) }
+        ensures told { IfOk result (λ n. told_in sig.now table.new self.new n
+            ≡ told_popped sig.now table.old self.old (frame.Parts node base before left) (next.Value id deepest)) }
+        ensures ready { IfOk result (λ n. Ready sig.now table.new types.new self.new n) }
+        ensures fits { Fit sig.now table.new types.new }
+        ensures grows { GrowsUnder sig.now table.old table.new }
+    {
+        let done = self.stack.values.len() - base + 1;
+        match part_of(table, node, done) {
+            Some(part) => next_part(
+                table,
+                &mut self.stack,
+                node,
+                base,
+                part,
+                id,
+                deepest,
+                before,
+                left,
+            ),
+            None => match program_of(table, node) {
+                Some(program) => {
+                    self.give_call(
+                        sig, table, types, program, node, base, before, left, id, deepest,
+                    )
+                }
+                None => self.give_last(sig, table, types, node, base, before, left, id, deepest),
+            },
+        }
+    }
+
+    // A program call gets the value of its last argument.
+    fn give_call(
+        &mut self,
+        sig: &Signature,
+        table: &mut Table,
+        types: &Types,
+        program: usize,
+        node: Id,
+        base: usize,
+        before: usize,
+        left: usize,
+        id: Id,
+        deepest: usize,
+    ) -> Result<Now, AllocError>
+        requires program { Op (code.Prog program) (arguments_of (tree_in table.old node)) ≡ tree_in table.old node }
+        requires base { base ≤ length self.old.stack.values.items }
+        requires last { length (drop base self.old.stack.values.items) + 1 ≡ count_of (parts_of (tree_in table.old node)) }
+        requires ready { PoppedReady sig.now table.old types.now self.old (frame.Parts node base before left) (next.Value id deepest) }
+        ensures told { IfOk result (λ n. told_in sig.now table.new self.new n
+            ≡ told_popped sig.now table.old self.old (frame.Parts node base before left) (next.Value id deepest)) }
+        ensures ready { IfOk result (λ n. Ready sig.now table.new types.now self.new n) }
+        ensures grows { GrowsUnder sig.now table.old table.new }
+    {
+        self.stack.collect(id)?;
+        let args = self.stack.values.as_slice()[base..].to_vec(self.alloc)?;
+        self.stack.cut(base);
+        self.stack.wait(Frame::Handed {
+            id: node,
+            deepest: before.max(deepest),
+        })?;
+        self.call(sig, table, types, CallKey { program, args }, left)
+    }
+
+    // A node other than a program call gets the value of its last part.
+    fn give_last(
+        &mut self,
+        sig: &Signature,
+        table: &mut Table,
+        types: &mut Types,
+        node: Id,
+        base: usize,
+        before: usize,
+        left: usize,
+        id: Id,
+        deepest: usize,
+    ) -> Result<Now, AllocError>
+        requires kind { is_call (tree_in table.old node) ≡ false }
+        requires base { base ≤ length self.old.stack.values.items }
+        requires last { length (drop base self.old.stack.values.items) + 1 ≡ count_of (parts_of (tree_in table.old node)) }
+        requires ready { PoppedReady sig.now table.old types.old self.old (frame.Parts node base before left) (next.Value id deepest) }
+        ensures told { IfOk result (λ n. told_in sig.now table.new self.new n
+            ≡ told_popped sig.now table.old self.old (frame.Parts node base before left) (next.Value id deepest)) }
+        ensures ready { IfOk result (λ n. Ready sig.now table.new types.new self.new n) }
+        ensures fits { Fit sig.now table.new types.new }
+        ensures grows { GrowsUnder sig.now table.old table.new }
+    {
+        self.stack.collect(id)?;
+        let outcome = made(
+            self.alloc,
+            sig,
+            table,
+            types,
+            node,
+            &self.stack.values.as_slice()[base..],
+        )?;
+        self.stack.forget();
+        let frame = Frame::Parts {
+            id: node,
+            base,
+            deepest: before,
+            left,
+        };
+        self.conclude(
+            sig,
+            table,
+            types,
+            &frame,
+            &Now::Value { id, deepest },
+            outcome,
+        )
+    }
+
+    // A choice is given its condition.
+    fn choose(
+        &mut self,
+        sig: &Signature,
+        table: &Table,
+        types: &Types,
+        id: Id,
+        left: usize,
+        now: &Now,
+    ) -> Result<Now, AllocError>
+        requires result { IsResult now.now }
+        requires more { HasMore table.now.trees id 2 }
+        requires ready { PoppedReady sig.now table.now types.now self.old (frame.Choice id left) now.now }
+        ensures told { IfOk result (λ n. told_in sig.now table.now self.new n
+            ≡ told_popped sig.now table.now self.old (frame.Choice id left) now.now) }
+        ensures ready { IfOk result (λ n. Ready sig.now table.now types.now self.new n) }
+    {
+        let frame = Frame::Choice { id, left };
+        let deepest = now.deepest();
+        match truth_given(table, now) {
+            Some(true) => {
+                let part = table.arg(id, 1);
+                self.proceed(
+                    sig,
+                    table,
+                    types,
+                    &frame,
+                    now,
+                    Frame::Handed { id, deepest },
+                    part,
+                    left,
+                )
+            }
+            Some(false) => {
+                let part = table.arg(id, 2);
+                self.proceed(
+                    sig,
+                    table,
+                    types,
+                    &frame,
+                    now,
+                    Frame::Handed { id, deepest },
+                    part,
+                    left,
+                )
+            }
+            None => self.conclude(sig, table, types, &frame, now, Outcome::Stuck),
+        }
+    }
+
+    // A comparison is given its first term.
+    fn compare(
+        &mut self,
+        sig: &Signature,
+        table: &Table,
+        types: &Types,
+        id: Id,
+        left: usize,
+        now: &Now,
+    ) -> Result<Now, AllocError>
+        requires result { IsResult now.now }
+        requires more { HasMore table.now.trees id 1 }
+        requires ready { PoppedReady sig.now table.now types.now self.old (frame.Left id left) now.now }
+        ensures told { IfOk result (λ n. told_in sig.now table.now self.new n
+            ≡ told_popped sig.now table.now self.old (frame.Left id left) now.now) }
+        ensures ready { IfOk result (λ n. Ready sig.now table.now types.now self.new n) }
+    {
+        let frame = Frame::Left { id, left };
+        let deepest = now.deepest();
+        let part = table.arg(id, 1);
+        match now.value() {
+            Some(first) => self.proceed(
+                sig,
+                table,
+                types,
+                &frame,
+                now,
+                Frame::Right { id, first, deepest },
+                part,
+                left,
+            ),
+            None => self.proceed(
+                sig,
+                table,
+                types,
+                &frame,
+                now,
+                Frame::Unequal { id, deepest },
+                part,
+                left,
+            ),
+        }
+    }
+
+    // A requirement is given its first term.
+    fn require(
+        &mut self,
+        sig: &Signature,
+        table: &Table,
+        types: &Types,
+        id: Id,
+        left: usize,
+        now: &Now,
+    ) -> Result<Now, AllocError>
+        requires result { IsResult now.now }
+        requires more { HasMore table.now.trees id 2 }
+        requires ready { PoppedReady sig.now table.now types.now self.old (frame.Require id left) now.now }
+        ensures told { IfOk result (λ n. told_in sig.now table.now self.new n
+            ≡ told_popped sig.now table.now self.old (frame.Require id left) now.now) }
+        ensures ready { IfOk result (λ n. Ready sig.now table.now types.now self.new n) }
+    {
+        let frame = Frame::Require { id, left };
+        let deepest = now.deepest();
+        let part = table.arg(id, 1);
+        match now.value() {
+            Some(first) => self.proceed(
+                sig,
+                table,
+                types,
+                &frame,
+                now,
+                Frame::Required {
+                    id,
+                    first,
+                    deepest,
+                    left,
+                },
+                part,
+                left,
+            ),
+            None => self.proceed(
+                sig,
+                table,
+                types,
+                &frame,
+                now,
+                Frame::Missed { id, deepest },
+                part,
+                left,
+            ),
+        }
+    }
+
+    // A requirement is given its second term.
+    fn allow(
+        &mut self,
+        sig: &Signature,
+        table: &Table,
+        types: &Types,
+        id: Id,
+        first: Id,
+        before: usize,
+        left: usize,
+        now: &Now,
+    ) -> Result<Now, AllocError>
+        requires result { IsResult now.now }
+        requires more { HasMore table.now.trees id 2 }
+        requires first { first < length table.now.trees }
+        requires ready { PoppedReady sig.now table.now types.now self.old (frame.Required id first before left) now.now }
+        ensures told { IfOk result (λ n. told_in sig.now table.now self.new n
+            ≡ told_popped sig.now table.now self.old (frame.Required id first before left) now.now) }
+        ensures ready { IfOk result (λ n. Ready sig.now table.now types.now self.new n) }
+    {
+        let frame = Frame::Required {
+            id,
+            first,
+            deepest: before,
+            left,
+        };
+        if !is_given(table, now, first) {
+            return self.conclude(sig, table, types, &frame, now, Outcome::Stuck);
+        }
+        let deepest = before.max(now.deepest());
+        let part = table.arg(id, 2);
+        self.proceed(
+            sig,
+            table,
+            types,
+            &frame,
+            now,
+            Frame::Handed { id, deepest },
+            part,
+            left,
+        )
+    }
+
+    // A call is given the result of its body.
+    fn end_call(
+        &mut self,
+        sig: &Signature,
+        table: &Table,
+        types: &Types,
+        place: usize,
+        body: Id,
+        now: &Now,
+    ) -> Result<Now, AllocError>
+        requires result { IsResult now.now }
+        requires place { place < length self.old.calls.entries }
+        requires ready { PoppedReady sig.now table.now types.now self.old (frame.Body place body) now.now }
+        ensures told { IfOk result (λ n. told_in sig.now table.now self.new n
+            ≡ told_popped sig.now table.now self.old (frame.Body place body) now.now) }
+        ensures ready { IfOk result (λ n. Ready sig.now table.now types.now self.new n) }
+    {
+        // No stack holds so many calls that this count ends.
+        let Some(deepest) = now.deepest().checked_add(1) else {
+            return Err(AllocError);
+        };
+        self.finish_call(place, now.known(deepest));
+        Ok(now.deeper(deepest))
+    }
+
+    // A node that waited for a result ends with this outcome, which is kept.
+    fn conclude(
+        &mut self,
+        sig: &Signature,
+        table: &Table,
+        types: &Types,
+        frame: &Frame,
+        now: &Now,
+        outcome: Outcome,
+    ) -> Result<Now, AllocError>
+        requires node { IsNode frame.now }
+        requires result { IsResult now.now }
+        requires ready { PoppedReady sig.now table.now types.now self.old frame.now now.now }
+        requires concludes { Concludes sig.now table.now self.old frame.now now.now outcome }
+        ensures told { IfOk result (λ n. told_in sig.now table.now self.new n ≡ told_popped sig.now table.now self.old frame.now now.now) }
+        ensures ready { IfOk result (λ n. Ready sig.now table.now types.now self.new n) }
+    {
+        self.stack.leave(frame);
+        let deepest = frame.deepest().max(now.deepest());
+        self.keep(frame.node(), &outcome, deepest)?;
+        Ok(ended(&outcome, deepest))
+    }
+
+    // A node that waited for a result goes on to wait for another term.
+    fn proceed(
+        &mut self,
+        sig: &Signature,
+        table: &Table,
+        types: &Types,
+        frame: &Frame,
+        now: &Now,
+        other: Frame,
+        part: Id,
+        left: usize,
+    ) -> Result<Now, AllocError>
+        requires before { HasNoValues frame.now }
+        requires after { HasNoValues other }
+        requires result { IsResult now.now }
+        requires ready { PoppedReady sig.now table.now types.now self.old frame.now now.now }
+        requires proceeds { Proceeds (signature table.now.trees sig.now) calls_limit table.now.trees frame.now now.now other part left }
+        ensures told { IfOk result (λ n. told_in sig.now table.now self.new n ≡ told_popped sig.now table.now self.old frame.now now.now) }
+        ensures ready { IfOk result (λ n. Ready sig.now table.now types.now self.new n) }
+    {
+        self.stack.wait(other)?;
+        Ok(Now::Enter { id: part, left })
+    }
+
+    // A term begins to wait for another one.
+    pub(crate) fn begin(
+        &mut self,
+        sig: &Signature,
+        table: &Table,
+        types: &Types,
+        id: Id,
+        frame: Frame,
+        part: Id,
+        left: usize,
+    ) -> Result<Now, AllocError>
+        requires frame { HasNoValues frame }
+        requires ready { Ready sig.now table.now types.now self.old (next.Enter id left) }
+        requires begins { Begins (signature table.now.trees sig.now) calls_limit table.now.trees id left frame part }
+        ensures told { IfOk result (λ n. told_in sig.now table.now self.new n ≡ told_in sig.now table.now self.old (next.Enter id left)) }
+        ensures ready { IfOk result (λ n. Ready sig.now table.now types.now self.new n) }
+    {
+        self.stack.wait(frame)?;
+        Ok(Now::Enter { id: part, left })
+    }
+}
+
+// What is done next after a node has ended so.
+fn ended(outcome: &Outcome, deepest: usize) -> Now
+    ensures { result ≡ now_of outcome.now deepest }
+{
+    match *outcome {
+        Outcome::Value(id) => Now::Value { id, deepest },
+        Outcome::Stuck => Now::Stuck { deepest },
+        Outcome::Deep => Now::Deep,
+        Outcome::Calls => Now::Calls,
+        Outcome::Range => Now::Range,
+        Outcome::Tall => Now::Tall,
+    }
+}
+
+// The outcome of a node that has the value of another term, or none as that.
+fn given(now: &Now) -> Outcome
+    ensures outcome { (ts : List Tree) → outcome_in ts result ≡ result_of ts now.now }
+    ensures live { (n : ℕ) → NowBelow n now.now → OutcomeBelow n result }
+{
+    match now.value() {
+        Some(id) => Outcome::Value(id),
+        None => Outcome::Stuck,
+    }
+}
+
+// The outcome of a test.
+fn truth_of(table: &Table, holds: bool) -> Outcome
+    ensures outcome { outcome_in table.now.trees result ≡ Value (truth holds) }
+    ensures live { OutcomeBelow (length table.now.trees) result }
+{
+    table.laws();
+    Outcome::Value(if holds { TRUE } else { FALSE })
+}
+
+// The truth value that is given, if one is.
+fn truth_given(table: &Table, now: &Now) -> Option<bool>
+    requires { NowBelow (length table.now.trees) now.now }
+    ensures some { IfSome result (λ b. result_of table.now.trees now.now ≡ Value (truth b)) }
+    ensures none { IfNone result (IsNoTruth (result_of table.now.trees now.now)) }
+{
+    let Some(id) = now.value() else {
+        return None;
+    };
+    if is_constant(table, id, 2) {
+        return Some(true);
+    }
+    if is_constant(table, id, 3) {
+        return Some(false);
+    }
+    None
+}
+
+// Whether the term is what is given.
+fn is_given(table: &Table, now: &Now, id: Id) -> bool
+    requires given { NowBelow (length table.now.trees) now.now }
+    requires live { id < length table.now.trees }
+    ensures { result ≡ are_equal (Some (tree_at table.now.trees id)) (given_in table.now.trees now.now) }
+{
+    match now.value() {
+        Some(value) => table.is_same(id, value),
+        None => false,
+    }
+}
+
+// The program that a term calls, if it is a program call.
+fn program_of(table: &Table, id: Id) -> Option<usize>
+    requires { id < length table.now.trees }
+    ensures some { IfSome result (λ p. Op (code.Prog p) (arguments_of (tree_in table.now id)) ≡ tree_in table.now id) }
+    ensures none { IfNone result (is_call (tree_in table.now id) ≡ false) }
+{
+    match table.node(id) {
+        Node::Op { code, .. } => match code {
+            OpCode::Prog(program) => Some(program),
+            OpCode::Builtin(_) => None,
+        },
+        Node::Con(_) => None,
+        Node::Num(_) => None,
+        Node::Bits { .. } => None,
+        Node::Str(_) => None,
+        Node::Par(_) => None,
+        Node::Var { .. } => None,
+        Node::App { .. } => None,
+        Node::Arr { .. } => None,
+        Node::Qar { .. } => None,
+    }
+}

@@ -1,0 +1,4 @@
+//! Outcomes of closed terms.
+mod operators;
+mod programs;
+mod world;

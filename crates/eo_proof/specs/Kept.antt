@@ -1,0 +1,70 @@
+-- How facts that are kept with numbers of terms stand for facts in scopes.
+use Rattle.std.specs.Prelude.{◌≡◌, ℕ, ◌<◌, Bool, List, [], ◌∷◌, ◌++◌, map, take, drop, reverse, length, All, nat_eq}
+use Rattle.std.specs.List.{list_any}
+use Rattle.eo_term.specs.Tree.{Tree}
+use Rattle.eo_term.specs.Terms.{tree_at}
+use Rattle.eo_proof.specs.declared.facts.Begun.{Begun}
+use Rattle.eo_proof.specs.Scopes.{Fact, Scope, Scopes}
+
+-- a name and a term
+abbrev pub NamedId : Type 0
+NamedId = List ℕ × ℕ
+
+pub record Kept : Type 0 where
+  -- those of all scopes, the oldest first
+  pub facts : List NamedId
+  -- the open scopes, the innermost first
+  pub begun : List Begun
+
+abbrev pub read_fact : List Tree → NamedId → Fact
+read_fact ts f = record { name = f.0; formula = tree_at ts f.1 }
+
+-- the facts outside the open scopes
+abbrev pub outer_facts : List NamedId → List Begun → List NamedId
+outer_facts fs [] = fs
+outer_facts fs (b ∷ bs) = outer_facts (take b.first fs) bs
+
+abbrev pub opened : List Tree → List NamedId → List Begun → List Scope
+opened ts fs [] = []
+opened ts fs (b ∷ bs) = record { hypothesis = tree_at ts b.hypothesis; facts = map (read_fact ts) (drop b.first fs) } ∷ opened ts (take b.first fs) bs
+
+-- the facts in scopes
+unfoldable pub scopes : List Tree → Kept → Scopes
+scopes ts k = record { outermost = map (read_fact ts) (outer_facts k.facts k.begun); opened = opened ts k.facts k.begun }
+
+-- how many facts there are outside the innermost scope
+abbrev pub outer_count : Kept → ℕ
+outer_count k = by k.begun
+  where
+    by : List Begun → ℕ
+    by [] = length k.facts
+    by (b ∷ bs) = b.first
+
+-- all terms are below n
+pub record AreBelow (n : ℕ) (k : Kept) : Type 0 where
+  pub facts : All (λ (f : NamedId). f.1 < n) k.facts
+  pub hypotheses : All (λ (b : Begun). b.hypothesis < n) k.begun
+
+-- each scope begins within the facts, and the inner ones behind the outer ones
+abbrev pub AreBegun : ℕ → List Begun → Type 0
+AreBegun n [] = Unit {0}
+AreBegun n (b ∷ bs) = (b.first < n) × AreBegun b.first bs
+
+-- whether the term 3, which is `false`, is one of the formulas
+abbrev pub holds_false : List NamedId → Bool
+holds_false facts = list_any (λ (f : NamedId). nat_eq f.1 3) facts
+
+-- what the code keeps, the innermost scope last
+abbrev pub kept_of : List NamedId → List Begun → Kept
+kept_of fs bs = record { facts = fs; begun = reverse bs }
+
+-- the scopes are in order, and it is known whether the outermost facts refute
+pub record IsKept (k : Kept) (told : Bool) : Type 0 where
+  pub begun : AreBegun (length k.facts) k.begun
+  pub refutes : told ≡ holds_false (outer_facts k.facts k.begun)
+
+abbrev pub with_named : Kept → NamedId → Kept
+with_named k f = record k { facts = k.facts ++ f ∷ [] }
+
+abbrev pub with_begun : Kept → NamedId → Kept
+with_begun k f = record { facts = k.facts ++ f ∷ []; begun = record { first = length k.facts; hypothesis = f.1 } ∷ k.begun }

@@ -1,0 +1,232 @@
+//! Facts in scopes.
+ghost use Rattle.std.specs.Prelude.{◌≡◌, ℕ, ◌<◌, List, ◌∷◌, ◌++◌, [], map, length, None, is_some, IfOk, OnOk, OnErr};
+ghost use Rattle.std.specs.Map.{lookup};
+ghost use Rattle.std.specs.Str.{bytes_eq};
+ghost use Rattle.eo_term.specs.Growth.{IsTable};
+ghost use Rattle.eo_term.specs.Terms.{Terms, tree_at};
+ghost use Rattle.eo_term.specs.Tree.{Tree};
+ghost use Rattle.eo_proof.specs.Kept.{scopes, outer_count, outer_facts, holds_false, with_named, with_begun, AreBelow};
+ghost use Rattle.eo_proof.specs.Outcomes.{Added, Found};
+ghost use Rattle.eo_proof.specs.Scopes as scope;
+ghost use Rattle.eo_proof.specs.Scopes.{no_facts};
+
+use crate::FactIds;
+use eo_base::{Name, NameRef};
+use eo_term::{FALSE, Id};
+use indexmap::IndexMap;
+use std::alloc::{AllocError, Global};
+use std::hash::{BuildHasherDefault, DefaultHasher};
+use std::marker::Model;
+
+/// Why a fact was not added, or a scope not opened. The facts are then as they were before.
+#[derive(Debug, Drop)]
+pub enum FactRefused {
+    /// A fact has the name.
+    Redeclared,
+    /// As many scopes are open as may be.
+    ScopeDepth,
+    /// Want of memory.
+    Memory(AllocError),
+}
+
+impl From<AllocError> for FactRefused {
+    ghost use Rattle.std.specs.Prelude.{◌≡◌};
+    ghost use Rattle.eo_proof.specs.declared.facts.FactRefused.TheVariants.{Memory};
+
+    ghost from_gives = { λ e refused. refused ≡ Memory e };
+
+    fn from(e: AllocError) -> FactRefused {
+        FactRefused::Memory(e)
+    }
+}
+
+/// No fact has the name.
+#[derive(Clone, Copy, Debug, PartialEq, Eq)]
+pub struct UnknownPremise;
+
+/// No scope is open.
+#[derive(Clone, Copy, Debug, PartialEq, Eq)]
+pub struct NoScope;
+
+/// A scope that is open.
+#[derive(Clone, Copy, Debug)]
+pub(crate) struct Begun {
+    /// How many facts were there before it.
+    pub(crate) first: usize,
+    /// Its assumption.
+    pub(crate) hypothesis: Id,
+}
+
+/// Formulas by their names, in scopes. Each scope but the outermost begins with an assumption, which
+/// is a fact of it. No two facts have the same name. A name is found by its hash, which is SipHash,
+/// since the proof chooses the names.
+#[derive(Drop)]
+pub struct Facts {
+    pub(crate) alloc: Global,
+    // Those of all scopes, the oldest first.
+    pub(crate) formulas: IndexMap<Name, Id, BuildHasherDefault<DefaultHasher>>,
+    // The open scopes, the innermost last.
+    pub(crate) begun: Vec<Begun>,
+    // Whether a fact of the outermost scope is `false`.
+    pub(crate) refutes: bool,
+}
+
+impl Model for Facts {
+    ghost use Rattle.eo_proof.specs.Kept.{Kept, kept_of, IsKept};
+
+    ghost Value = { Kept };
+
+    ghost view = { λ a. kept_of a.formulas.entries a.begun.items };
+
+    ghost invariant = { λ a. IsKept (kept_of a.formulas.entries a.begun.items) a.refutes };
+}
+
+impl Facts {
+    /// No facts, and no scope but the outermost.
+    #[tactic(auto, using(crate::proofs::Reading::first_is))]
+    pub fn new(alloc: Global) -> Result<Facts, AllocError>
+        ensures none { IfOk result (λ f. (ts : List Tree) → scopes ts f ≡ no_facts) }
+    {
+        Ok(Facts {
+            alloc,
+            formulas: IndexMap::with_hasher(alloc, BuildHasherDefault::new()),
+            begun: Vec::new(alloc),
+            refutes: false,
+        })
+    }
+
+    /// Adds a fact to the innermost scope.
+    ///
+    /// `Redeclared`: a fact has the name. `Memory`: want of memory.
+    #[tactic(auto, using(crate::proofs::Reading::live_is_named))]
+    pub fn add(&mut self, name: &[u8], id: Id) -> Result<(), FactRefused>
+        ensures adds { (ts : List Tree) → Added result (scopes ts self.old) name.now (tree_at ts id) (scopes ts self.new) }
+        ensures below { (m : ℕ) → AreBelow m self.old → id < m → AreBelow m self.new }
+        ensures same { OnErr result (self.new ≡ self.old) }
+    {
+        if self.has(name) {
+            return Err(FactRefused::Redeclared);
+        }
+        let name = Name::new(self.alloc, name)?;
+        self.put(name, id)?;
+        Ok(())
+    }
+
+    /// The fact with the name, in any scope.
+    pub fn find(&self, name: &[u8]) -> Result<Id, UnknownPremise>
+        ensures finds { (ts : List Tree) → Found ts result (scope.fact_named (scopes ts self.now) name.now) }
+        ensures below { (m : ℕ) → AreBelow m self.now → IfOk result (λ i. i < m) }
+    {
+        match self.named(name) {
+            Some(id) => Ok(id),
+            None => Err(UnknownPremise),
+        }
+    }
+
+    /// Whether no fact outside the innermost scope has the name.
+    pub fn is_free_outside(&self, name: &[u8]) -> bool
+        ensures { (ts : List Tree) → result ≡ scope.is_free_outside (scopes ts self.now) name.now }
+    {
+        let outer = self.outer_count();
+        match self.formulas.get_index_of(NameRef(name)) {
+            Some(place) => place >= outer,
+            None => true,
+        }
+    }
+
+    /// How many scopes are open, without the outermost.
+    #[tactic(auto, using(crate::proofs::Reading::depth_is))]
+    pub fn depth(&self) -> usize
+        ensures { (ts : List Tree) → result ≡ scope.depth (scopes ts self.now) }
+    {
+        self.open()
+    }
+
+    /// Whether `false` is a fact of the outermost scope.
+    pub fn has_false(&self) -> bool
+        ensures { (t : Terms) → IsTable t → AreBelow (length t.trees) self.now → result ≡ scope.has_false (scopes t.trees self.now) }
+    {
+        self.refutes
+    }
+
+    /// The formulas of all facts, the oldest first.
+    #[tactic(auto, using(crate::proofs::Reading::formulas_are))]
+    pub fn roots(&self) -> FactIds<'_>
+        ensures { (ts : List Tree) → map (tree_at ts) result ≡ scope.formulas (scopes ts self.now) }
+    {
+        FactIds {
+            left: self.formulas.values(),
+        }
+    }
+
+    // The term with the name.
+    fn named(&self, name: &[u8]) -> Option<Id>
+        ensures { result ≡ lookup (bytes_eq name.now) self.now.facts }
+    {
+        self.formulas.get(NameRef(name)).copied()
+    }
+
+    // Whether a fact has the name.
+    pub(crate) fn has(&self, name: &[u8]) -> bool
+        ensures { result ≡ is_some (lookup (bytes_eq name.now) self.now.facts) }
+    {
+        self.formulas.contains_key(NameRef(name))
+    }
+
+    // How many scopes are open.
+    fn open(&self) -> usize
+        ensures { result ≡ length self.now.begun }
+    {
+        self.begun.as_slice().len()
+    }
+
+    // How many facts there are outside the innermost scope.
+    fn outer_count(&self) -> usize
+        ensures { result ≡ outer_count self.now }
+    {
+        match self.begun.last() {
+            Some(scope) => scope.first,
+            None => self.formulas.len(),
+        }
+    }
+
+    // Whether `false` is a fact of the outermost scope once this is a fact of the innermost.
+    fn refutes_with(&self, id: Id) -> bool
+        ensures { (name : List ℕ) → result ≡ holds_false (outer_facts (self.now.facts ++ (name, id) ∷ []) self.now.begun) }
+    {
+        if !self.begun.is_empty() {
+            return self.refutes;
+        }
+        self.refutes | (id == FALSE)
+    }
+
+    // Adds a fact to the innermost scope, whose name none has.
+    fn put(&mut self, name: Name, id: Id) -> Result<(), AllocError>
+        requires { lookup (bytes_eq name) self.old.facts ≡ None }
+        ensures added { OnOk result (self.new ≡ with_named self.old (name, id)) }
+        ensures adds { OnOk result ((ts : List Tree) → scopes ts self.new ≡ scope.with_fact (scopes ts self.old) name (tree_at ts id)) }
+        ensures same { OnErr result (self.new ≡ self.old) }
+    {
+        let refutes = self.refutes_with(id);
+        self.formulas.insert(name, id)?;
+        self.refutes = refutes;
+        Ok(())
+    }
+
+    // Opens a scope, with an assumption whose name no fact has.
+    pub(crate) fn begin(&mut self, name: Name, id: Id) -> Result<(), AllocError>
+        requires { lookup (bytes_eq name) self.old.facts ≡ None }
+        ensures added { OnOk result (self.new ≡ with_begun self.old (name, id)) }
+        ensures begins { OnOk result ((ts : List Tree) → scopes ts self.new ≡ scope.with_scope (scopes ts self.old) name (tree_at ts id)) }
+        ensures same { OnErr result (self.new ≡ self.old) }
+    {
+        self.begun.reserve(1)?;
+        let first = self.formulas.len();
+        self.formulas.insert(name, id)?;
+        self.begun.push(Begun {
+            first,
+            hypothesis: id,
+        })?;
+        Ok(())
+    }
+}

@@ -1,0 +1,176 @@
+//! The values of terms: formulas and declared types that are evaluated.
+use super::gives;
+use eo_base::Status;
+use std::alloc::{AllocError, Global};
+
+const ASSERTS_TRUE: &[u8] = b"(assert true)\n";
+
+const ASSERTS_FALSE: &[u8] = b"(assert false)\n";
+
+#[test]
+fn formulas_are_evaluated(rt: HostRuntime) {
+    let rows = [
+        (
+            b"(assume a (eo::not false))".as_slice(),
+            b"refused F41 NoRefutation p.eo:1:26\n".as_slice(),
+        ),
+        (
+            b"(assume a (eo::not true))",
+            b"refused F28 NotAsserted p.eo:1:0\n",
+        ),
+        (
+            b"(assume a (eo::ite true true (eo::zdiv 1 0)))",
+            b"refused F41 NoRefutation p.eo:1:45\n",
+        ),
+        (
+            b"(assume a (eo::zdiv 1 0))",
+            b"refused F16 Stuck p.eo:1:0\n",
+        ),
+        (
+            b"(assume a (eo::add 1 1))",
+            b"refused F15 IllTyped p.eo:1:0\n",
+        ),
+        (
+            b"(assume a (eo::typeof true))",
+            b"refused F27 NotBool p.eo:1:0\n",
+        ),
+        (
+            b"(assume a (eo::is_ok (eo::add 170141183460469231731687303715884105727 1)))",
+            b"refused F17 NumberRange p.eo:1:0\n",
+        ),
+        (
+            b"(program $f ((x Bool)) :signature (Bool) Bool ((($f x) true) (($f true) false)))(assume a ($f true))",
+            b"refused F41 NoRefutation p.eo:1:100\n",
+        ),
+        (
+            b"(program $g ((x Bool)) :signature (Bool) Bool ((($g false) true)))(assume a ($g true))",
+            b"refused F16 Stuck p.eo:1:66\n",
+        ),
+        (
+            b"(program $h ((x Bool)) :signature (Bool) Bool ((($h x) ($h x))))(assume a ($h true))",
+            b"refused F19 EvalDepth p.eo:1:64\n",
+        ),
+        (
+            b"(program $a ((x Bool)) :signature (Bool) Bool ((($a x) ($b x))))",
+            b"refused F13 UnknownSymbol p.eo:1:0\n",
+        ),
+        (
+            b"(define m ((x Bool)) (eo::not x))(assume a (m false))",
+            b"refused F41 NoRefutation p.eo:1:53\n",
+        ),
+    ];
+    for (proof, line) in rows {
+        assert!(&rt; gives(rt.alloc(), ASSERTS_TRUE, proof, line, Status::Refused));
+    }
+}
+
+#[test]
+fn a_test_of_a_stuck_term_is_a_fact(rt: HostRuntime) {
+    let proof =
+        b"(program $g ((x Bool)) :signature (Bool) Bool ((($g false) true)))(assume @p1 (eo::is_ok ($g true)))".as_slice();
+    assert!(&rt; gives(rt.alloc(), ASSERTS_FALSE, proof, b"correct\n", Status::Ok));
+}
+
+#[test]
+fn declared_types_are_evaluated(rt: HostRuntime) {
+    let rows = [
+        (
+            b"(declare-const c (eo::ite (eo::is_eq Type Type) Bool Type))(assume a c)".as_slice(),
+            b"refused F28 NotAsserted p.eo:1:59\n".as_slice(),
+        ),
+        (
+            b"(declare-const c (eo::ite (eo::is_eq Type Bool) Bool Type))(assume a c)",
+            b"refused F27 NotBool p.eo:1:59\n",
+        ),
+        (
+            b"(declare-fun f ((eo::ite true Bool Type)) Bool)(assume a (f true))",
+            b"refused F28 NotAsserted p.eo:1:47\n",
+        ),
+        (
+            b"(declare-const c (eo::ite true Bool (eo::zdiv 1 0)))(assume a c)",
+            b"refused F28 NotAsserted p.eo:1:52\n",
+        ),
+        (
+            b"(declare-const c (eo::ite Bool Bool Bool))",
+            b"refused F16 Stuck p.eo:1:0\n",
+        ),
+        (
+            b"(declare-const c (eo::requires true false Bool))",
+            b"refused F16 Stuck p.eo:1:0\n",
+        ),
+        (
+            b"(declare-fun f ((eo::zdiv 1 0)) Bool)",
+            b"refused F16 Stuck p.eo:1:0\n",
+        ),
+        (
+            b"(declare-const c (eo::add 170141183460469231731687303715884105727 1))",
+            b"refused F17 NumberRange p.eo:1:0\n",
+        ),
+        (
+            b"(declare-const c (eo::not true))",
+            b"refused F15 IllTyped p.eo:1:0\n",
+        ),
+        (
+            b"(declare-const c (eo::ite (eo::is_ok true) Bool Type))",
+            b"refused F22 BadPattern p.eo:1:0\n",
+        ),
+    ];
+    for (proof, line) in rows {
+        assert!(&rt; gives(rt.alloc(), ASSERTS_TRUE, proof, line, Status::Refused));
+    }
+}
+
+/// Programs that go down from a number, on the lines 1 to 7, in 464 bytes.
+const COUNTDOWNS: &[u8] = b"(declare-const Int Type)
+(declare-consts <numeral> Int)
+(program $e ((n Int)) :signature (Int) Bool ((($e 0) true) (($e n) ($e (eo::add n -1)))))
+(program $k ((n Int)) :signature (Int) Bool ((($k n) ($e n))))
+(program $d ((n Int)) :signature (Int) Bool ((($d 0) true) (($d n) (eo::and ($d (eo::add n -1)) ($d (eo::add n -1))))))
+(declare-const f (-> Bool Bool))
+(program $t ((n Int)) :signature (Int) Bool ((($t 0) true) (($t n) (f (f (f ($t (eo::add n -1))))))))
+";
+
+/// Whether a command on line 8, behind these programs, gives this line.
+fn gives_over_countdowns(alloc: Global, command: &[u8], line: &[u8]) -> Result<bool, AllocError> {
+    let mut proof = COUNTDOWNS.to_vec(alloc)?;
+    proof.extend_from_slice(command)?;
+    Ok(gives(alloc, ASSERTS_TRUE, &proof, line, Status::Refused))
+}
+
+#[test]
+fn calls_have_a_greatest_depth(rt: HostRuntime) {
+    let rows = [
+        (
+            b"(assume @a (eo::and ($e 999) ($k 998)))".as_slice(),
+            b"refused F41 NoRefutation p.eo:8:503\n".as_slice(),
+        ),
+        (
+            b"(assume @a (eo::and ($e 999) ($k 999)))",
+            b"refused F19 EvalDepth p.eo:8:464\n",
+        ),
+        (
+            b"(assume @a ($e 999))",
+            b"refused F41 NoRefutation p.eo:8:484\n",
+        ),
+        (
+            b"(assume @a ($e 1000))",
+            b"refused F19 EvalDepth p.eo:8:464\n",
+        ),
+        (
+            b"(assume @a ($d 60))",
+            b"refused F41 NoRefutation p.eo:8:483\n",
+        ),
+        (
+            b"(assume @a ($t 300))",
+            b"refused F28 NotAsserted p.eo:8:464\n",
+        ),
+        (
+            b"(assume @a ($t 999))",
+            b"refused F18 TermHeight p.eo:8:464\n",
+        ),
+        (b"(assume @a ($e false))", b"refused F16 Stuck p.eo:8:464\n"),
+    ];
+    for (command, line) in rows {
+        assert!(&rt; gives_over_countdowns(rt.alloc(), command, line) == Ok(true));
+    }
+}
