@@ -21,7 +21,7 @@ impl Model for Text {
 }
 
 impl Text {
-    /// A text with the bytes of `s`.
+    /// A text with the bytes of `s`. Refused only where no memory is left.
     pub fn new(alloc: Global, s: &str) -> Result<Text, AllocError>
         ensures { IfOk result (λ t. t ≡ s.now) }
     {
@@ -63,7 +63,7 @@ impl Model for Chars {
 }
 
 impl Chars {
-    /// A list of these characters.
+    /// A list of these characters. Refused only where no memory is left.
     pub fn new(alloc: Global, c: &[u32]) -> Result<Chars, AllocError>
         requires { AreCharacters c.now }
         ensures { IfOk result (λ a. a ≡ c.now) }

@@ -26,7 +26,7 @@ impl Model for Name {
 }
 
 impl Name {
-    /// A name with these bytes.
+    /// A name with these bytes. Refused only where no memory is left.
     pub fn new(alloc: Global, b: &[u8]) -> Result<Name, AllocError>
         ensures { IfOk result (λ n. n ≡ b.now) }
     {

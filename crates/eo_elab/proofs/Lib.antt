@@ -11,3 +11,12 @@ pub mod WalkSteps
 pub mod Giving
 pub mod ProgramLemmas
 mod ProgramVectors
+pub mod Uses
+pub mod PutUses
+pub mod FoldUses
+pub mod SymbolUses
+pub mod ReadingUses
+pub mod FormUses
+pub mod MeansUses
+pub mod BoundUses
+pub mod RuleLemmas

@@ -7,8 +7,7 @@ use Rattle.eo_base.specs.declared.FaultName.{FaultName}
 use Rattle.eo_base.specs.declared.FaultName.TheVariants.{Redeclared, BadArity, Parameters}
 use Rattle.eo_base.specs.Checks.{Checked, ◌>>=◌}
 use Rattle.eo_base.specs.Limits.{parameters_limit}
-use Rattle.eo_sexp.specs.Sexp.{Sexp}
-use Rattle.eo_shape.specs.Shapes.{ParameterShape, CaseShape}
+use Rattle.eo_shape.specs.Shapes.{CaseShape, ProgramShape}
 use Rattle.eo_sig.specs.declared.records.Case as code_case
 use Rattle.eo_sig.specs.Reading.{read_case, CaseBelow}
 use Rattle.eo_sig.specs.Signature.{Case, Program}
@@ -101,42 +100,42 @@ module _ (n m : ℕ) (ts us : List Tree) (more : n ≤ m) (same : (i : ℕ) → 
 
 -- ---- the whole
 
-module _ (c : Context) (name : List ℕ) (shapes : List ParameterShape) (inputs : List Sexp) (output : Sexp) (cases : List CaseShape) where
+module _ (c : Context) (s : ProgramShape) where
   abbrev over : Bound → Checked Program
-  over b = program_over c name b inputs output cases
+  over b = program_over c b s
 
-  module _ (free : is_free_name c name ≡ true) where
-    pub program-many : parameters_limit < length shapes → declared_program c name shapes inputs output cases ≡ Err Parameters
+  module _ (free : is_free_name c s.name ≡ true) where
+    pub program-many : parameters_limit < length s.parameters → declared_program c s ≡ Err Parameters
     unfolding declared_program
-    program-many h = require-yes _ Redeclared _ free ∙ require-no _ Parameters _ (few-no (length shapes) h)
+    program-many h = require-yes _ Redeclared _ free ∙ require-no _ Parameters _ (few-no (length s.parameters) h)
 
-    module _ (h : length shapes ≤ parameters_limit) where
-      pub program-inputs : parameters_limit < length inputs → declared_program c name shapes inputs output cases ≡ Err Parameters
+    module _ (h : length s.parameters ≤ parameters_limit) where
+      pub program-inputs : parameters_limit < length s.inputs → declared_program c s ≡ Err Parameters
       unfolding declared_program
-      program-inputs k = require-yes _ Redeclared _ free ∙ require-yes _ Parameters _ (few-yes (length shapes) h) ∙ require-no _ Parameters _ (few-no (length inputs) k)
+      program-inputs k = require-yes _ Redeclared _ free ∙ require-yes _ Parameters _ (few-yes (length s.parameters) h) ∙ require-no _ Parameters _ (few-no (length s.inputs) k)
 
-      module _ (k : length inputs ≤ parameters_limit) where
-        program-parts : declared_program c name shapes inputs output cases ≡ (bind c unbound shapes >>= over)
+      module _ (k : length s.inputs ≤ parameters_limit) where
+        program-parts : declared_program c s ≡ (bind c unbound s.parameters >>= over)
         unfolding declared_program
-        program-parts = require-yes _ Redeclared _ free ∙ require-yes _ Parameters _ (few-yes (length shapes) h) ∙ require-yes _ Parameters _ (few-yes (length inputs) k)
+        program-parts = require-yes _ Redeclared _ free ∙ require-yes _ Parameters _ (few-yes (length s.parameters) h) ∙ require-yes _ Parameters _ (few-yes (length s.inputs) k)
 
-        pub program-unbound : (f : FaultName) → bind c unbound shapes ≡ Err f → declared_program c name shapes inputs output cases ≡ Err f
-        program-unbound f e = program-parts ∙ then-err over (bind c unbound shapes) f e
+        pub program-unbound : (f : FaultName) → bind c unbound s.parameters ≡ Err f → declared_program c s ≡ Err f
+        program-unbound f e = program-parts ∙ then-err over (bind c unbound s.parameters) f e
 
-        pub program-bound : (b : Bound) → bind c unbound shapes ≡ Ok b → declared_program c name shapes inputs output cases ≡ program_over c name b inputs output cases
-        program-bound b e = program-parts ∙ then-ok over (bind c unbound shapes) b e
+        pub program-bound : (b : Bound) → bind c unbound s.parameters ≡ Ok b → declared_program c s ≡ program_over c b s
+        program-bound b e = program-parts ∙ then-ok over (bind c unbound s.parameters) b e
 
 -- over parameters
-module _ (c : Context) (name : List ℕ) (b : Bound) (inputs : List Sexp) (output : Sexp) (cases : List CaseShape) where
+module _ (c : Context) (b : Bound) (s : ProgramShape) where
   abbrev after_inputs : List Tree → Checked Program
-  after_inputs ts = meaning c b.locals output >>= λ t. with_cases c b.locals (program name b.parameters ts t []) cases
+  after_inputs ts = meaning c b.locals s.output >>= λ t. with_cases c b.locals (program s.name b.parameters ts t []) s.cases
 
-  pub over-no-inputs : (f : FaultName) → meanings c b.locals inputs ≡ Err f → program_over c name b inputs output cases ≡ Err f
-  over-no-inputs f e = then-err after_inputs (meanings c b.locals inputs) f e
+  pub over-no-inputs : (f : FaultName) → meanings c b.locals s.inputs ≡ Err f → program_over c b s ≡ Err f
+  over-no-inputs f e = then-err after_inputs (meanings c b.locals s.inputs) f e
 
-  module _ (ts : List Tree) (e : meanings c b.locals inputs ≡ Ok ts) where
-    pub over-no-output : (f : FaultName) → meaning c b.locals output ≡ Err f → program_over c name b inputs output cases ≡ Err f
-    over-no-output f h = then-ok after_inputs (meanings c b.locals inputs) ts e ∙ then-err (λ t. with_cases c b.locals (program name b.parameters ts t []) cases) (meaning c b.locals output) f h
+  module _ (ts : List Tree) (e : meanings c b.locals s.inputs ≡ Ok ts) where
+    pub over-no-output : (f : FaultName) → meaning c b.locals s.output ≡ Err f → program_over c b s ≡ Err f
+    over-no-output f h = then-ok after_inputs (meanings c b.locals s.inputs) ts e ∙ then-err (λ t. with_cases c b.locals (program s.name b.parameters ts t []) s.cases) (meaning c b.locals s.output) f h
 
-    pub over-cases : (t : Tree) → meaning c b.locals output ≡ Ok t → program_over c name b inputs output cases ≡ with_cases c b.locals (program name b.parameters ts t []) cases
-    over-cases t h = then-ok after_inputs (meanings c b.locals inputs) ts e ∙ then-ok (λ t. with_cases c b.locals (program name b.parameters ts t []) cases) (meaning c b.locals output) t h
+    pub over-cases : (t : Tree) → meaning c b.locals s.output ≡ Ok t → program_over c b s ≡ with_cases c b.locals (program s.name b.parameters ts t []) s.cases
+    over-cases t h = then-ok after_inputs (meanings c b.locals s.inputs) ts e ∙ then-ok (λ t. with_cases c b.locals (program s.name b.parameters ts t []) s.cases) (meaning c b.locals s.output) t h

@@ -1,17 +1,17 @@
 -- What a declaring command declares, or its first fault. The checks of a whole declaration (patterns, unbound parameters) and of types follow when it is added.
-use Rattle.std.specs.Prelude.{ℕ, zero, suc, Bool, false, not, ◌||◌, ◌==◌, nat_le, if◌then◌else◌, List, [], ◌∷◌, ◌++◌, length, Option, Some, None, is_none, slice_get, bytes_eq, codes, Ok, Err}
+use Rattle.std.specs.Prelude.{ℕ, zero, suc, Bool, false, not, ◌||◌, ◌==◌, nat_le, if◌then◌else◌, List, [], ◌∷◌, ◌++◌, length, Option, Some, None, is_none, is_some, slice_get, bytes_eq, codes, Ok, Err}
 use Rattle.std.specs.List.{list_any}
 use Rattle.std.specs.Option.{option_map_or}
-use Rattle.eo_base.specs.declared.FaultName.TheVariants.{Redeclared, UnknownSymbol, BadArity, TermHeight, Parameters}
+use Rattle.eo_base.specs.declared.FaultName.TheVariants.{Redeclared, UnknownSymbol, BadArity, BadPattern, TermHeight, Parameters}
 use Rattle.eo_base.specs.Checks.{Checked, ◌>>=◌, require, no_fault, Passed}
 use Rattle.eo_base.specs.Limits.{parameters_limit}
 use Rattle.eo_sexp.specs.Sexp.{Sexp}
 use Rattle.eo_lit.specs.declared.LiteralClass.{LiteralClass}
-use Rattle.eo_sig.specs.Signature.{Parameter, Attribute, Plain, RightNil, LeftNil, Right, Left, Chain, Pairs, Binder, Constant, Macro, Case, Program, Rule, IsProgram, Named, NamesConstant, NamesMacro, NamesProgram, lookup, constant_at, is_free, literal_type, constant_fault}
+use Rattle.eo_sig.specs.Signature.{Parameter, Attribute, Plain, RightNil, LeftNil, Right, Left, Chain, Pairs, Binder, Constant, Macro, Case, Program, PremiseShape, Each, Joined, Rule, Signature, IsProgram, Named, NamesConstant, NamesMacro, NamesProgram, lookup, constant_at, is_free, is_free_rule, terminator, literal_type, constant_fault}
 use Rattle.eo_term.specs.Tree.{Tree, Con, Par, Arr, Qar, type_tree, is_tall}
 use Rattle.eo_names.specs.Contexts.{Context, Local, is_reference}
 use Rattle.eo_elab.specs.Meaning.{meaning}
-use Rattle.eo_shape.specs.Shapes.{ParameterShape, AttributeShape, NoAttribute, RightNilShape, LeftNilShape, RightShape, LeftShape, ChainShape, PairsShape, BinderShape, CaseShape, Command, DeclareConst, DeclareFun, DeclareSort, DeclareParameterized, DeclareLiterals, Define, DefineProgram}
+use Rattle.eo_shape.specs.Shapes.{ParameterShape, AttributeShape, NoAttribute, RightNilShape, LeftNilShape, RightShape, LeftShape, ChainShape, PairsShape, BinderShape, CaseShape, ProgramShape, PremisesShape, EachShape, JoinedShape, RuleShape, Command, DeclareConst, DeclareFun, DeclareSort, DeclareParameterized, DeclareLiterals, Define, DefineProgram, DeclareRule}
 
 pub data Declaration : Type 0 where
   AConstant : (constant : Constant) → Declaration
@@ -230,20 +230,79 @@ with_cases c locals p shapes = do
   Ok (record p { cases = cases })
 
 -- a program over parameters
-abbrev pub program_over : Context → List ℕ → Bound → List Sexp → Sexp → List CaseShape → Checked Program
-program_over c name b inputs output cases = do
-  ts ← meanings c b.locals inputs
-  t ← meaning c b.locals output
-  with_cases c b.locals (program name b.parameters ts t []) cases
+abbrev pub program_over : Context → Bound → ProgramShape → Checked Program
+program_over c b s = do
+  ts ← meanings c b.locals s.inputs
+  t ← meaning c b.locals s.output
+  with_cases c b.locals (program s.name b.parameters ts t []) s.cases
 
 -- (program S (p ..) :signature (T ..) T (case ..))
-unfoldable pub declared_program : Context → List ℕ → List ParameterShape → List Sexp → Sexp → List CaseShape → Checked Program
-declared_program c name shapes inputs output cases = do
-  _ ← require (is_free_name c name) Redeclared
-  _ ← few (length shapes)
-  _ ← few (length inputs)
-  b ← bind c unbound shapes
-  program_over c name b inputs output cases
+unfoldable pub declared_program : Context → ProgramShape → Checked Program
+declared_program c s = do
+  _ ← require (is_free_name c s.name) Redeclared
+  _ ← few (length s.parameters)
+  _ ← few (length s.inputs)
+  b ← bind c unbound s.parameters
+  program_over c b s
+
+-- ---- rules
+
+-- what the premises are matched with, before it is known whether the second tree can join them
+pub data PremisesMeant : Type 0 where
+  EachMeant : (patterns : List Tree) → PremisesMeant
+  JoinedMeant : (pattern joiner : Tree) → PremisesMeant
+
+-- a constant with a terminator
+abbrev pub joiner : Signature → Tree → Checked ℕ
+joiner S (Con k) = require (is_some (terminator S k)) BadPattern >>= λ _. Ok k
+joiner S t = Err BadPattern
+
+abbrev pub premise_shape : Signature → PremisesMeant → Checked PremiseShape
+premise_shape S (EachMeant ps) = Ok (Each ps)
+premise_shape S (JoinedMeant p f) = joiner S f >>= λ k. Ok (Joined p k)
+
+module _ (c : Context) (locals : List Local) where
+  abbrev pub optional_meaning : Option Sexp → Checked (Option Tree)
+  optional_meaning None = Ok None
+  optional_meaning (Some s) = do
+    t ← meaning c locals s
+    Ok (Some t)
+
+  abbrev pub premises_meant : PremisesShape → Checked PremisesMeant
+  premises_meant (EachShape ps) = do
+    ts ← meanings c locals ps
+    Ok (EachMeant ts)
+  premises_meant (JoinedShape p f) = do
+    t ← meaning c locals p
+    u ← meaning c locals f
+    Ok (JoinedMeant t u)
+
+  unfoldable pub requirements_meant : List (Sexp × Sexp) → Checked (List (Tree × Tree))
+  requirements_meant [] = Ok []
+  requirements_meant (q ∷ qs) = do
+    a ← meaning c locals q.0
+    b ← meaning c locals q.1
+    rest ← requirements_meant qs
+    Ok ((a, b) ∷ rest)
+
+-- a rule over parameters
+abbrev pub rule_over : Context → Bound → RuleShape → Checked Rule
+rule_over c b s = do
+  assumed ← optional_meaning c b.locals s.assumed
+  premises ← premises_meant c b.locals s.premises
+  arguments ← meanings c b.locals s.arguments
+  requirements ← requirements_meant c b.locals s.requirements
+  conclusion ← meaning c b.locals s.conclusion
+  shape ← premise_shape c.signature premises
+  Ok (record { name = s.name; parameters = b.parameters; assumed = assumed; premises = shape; arguments = arguments; requirements = requirements; conclusion = conclusion; sorry = s.sorry })
+
+-- (declare-rule S (p ..) ..)
+unfoldable pub declared_rule : Context → RuleShape → Checked Rule
+declared_rule c s = do
+  _ ← require (is_free_rule c.signature s.name) Redeclared
+  _ ← few (length s.parameters)
+  b ← bind c unbound s.parameters
+  rule_over c b s
 
 -- ---- each declaring command
 
@@ -256,6 +315,9 @@ as_macro m = Ok (AMacro m)
 abbrev pub as_program : Program → Checked Declaration
 as_program p = Ok (AProgram p)
 
+abbrev pub as_rule : Rule → Checked Declaration
+as_rule r = Ok (ARule r)
+
 -- What a declaring command declares. Other commands declare nothing.
 unfoldable pub declaration : Context → Command → Option (Checked Declaration)
 declaration c (DeclareConst name type shape) = Some (declared_const c name type shape >>= as_constant)
@@ -264,5 +326,6 @@ declaration c (DeclareSort name arity) = Some (declared_sort c name arity >>= as
 declaration c (DeclareParameterized name shapes type shape) = Some (declared_parameterized c name shapes type shape >>= as_constant)
 declaration c (DeclareLiterals class type) = Some (declared_literals c class type >>= λ t. Ok (ALiteralType class t))
 declaration c (Define name shapes body) = Some (defined c name shapes body >>= as_macro)
-declaration c (DefineProgram name shapes inputs output cases) = Some (declared_program c name shapes inputs output cases >>= as_program)
+declaration c (DefineProgram shape) = Some (declared_program c shape >>= as_program)
+declaration c (DeclareRule shape) = Some (declared_rule c shape >>= as_rule)
 declaration c command = None

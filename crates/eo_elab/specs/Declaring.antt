@@ -5,20 +5,22 @@ use Rattle.eo_base.specs.Checks.{Checked, ◌>>=◌}
 use Rattle.eo_sexp.specs.Sexp.{Sexp}
 use Rattle.eo_sig.specs.Reading.{Kept, read_parameter, read_attribute, read_constant, read_macro, read_program, read_rule, AttributeBelow, ConstBelow, MacroBelow, ProgramBelow, RuleBelow}
 use Rattle.eo_lit.specs.declared.LiteralClass.{LiteralClass}
-use Rattle.eo_sig.specs.Signature.{Attribute, Constant, Macro, Case, Program, literal_type, constant_fault}
+use Rattle.eo_sig.specs.Signature.{Attribute, Constant, Macro, Case, Program, Rule, literal_type, constant_fault}
 use Rattle.eo_sig.specs.declared.records.Param.{Param}
 use Rattle.eo_sig.specs.declared.records.Attribute as code_attribute
 use Rattle.eo_sig.specs.declared.records.Declaration as code
 use Rattle.eo_sig.specs.declared.records.ProgramDecl.{ProgramDecl}
 use Rattle.eo_sig.specs.declared.records.Declaration.TheVariants as variant
-use Rattle.eo_shape.specs.Shapes.{AttributeShape, ParameterShape, CaseShape, Command, command_of}
+use Rattle.eo_shape.specs.Shapes.{AttributeShape, ParameterShape, CaseShape, ProgramShape, RuleShape, Command, command_of}
 use Rattle.eo_shape.specs.declared.AttributeShape as code_shape
 use Rattle.eo_shape.specs.declared.ParameterShape as code_param
+use Rattle.eo_shape.specs.declared.Command as code_command
+use Rattle.eo_shape.specs.declared.Command.TheVariants as command
 use Rattle.eo_shape.specs.Reading.{read_attribute as read_shape}
 use Rattle.eo_term.specs.Tree.{Tree}
 use Rattle.eo_term.specs.Terms.{Terms, tree_at}
 use Rattle.eo_elab.specs.declared.parameters.Bound as code_bound
-use Rattle.eo_elab.specs.Declarations.{Declaration, AConstant, ALiteralType, AMacro, AProgram, ARule, Bound, declaration, meanings, attribute, bound_type, function_type, not_tall, plain_constant, declared_const, declared_parameterized, declared_cases, declared_program, program_over, with_cases, with_program, is_free_name, is_free_or_reference}
+use Rattle.eo_elab.specs.Declarations.{Declaration, AConstant, ALiteralType, AMacro, AProgram, ARule, Bound, declaration, meanings, attribute, bound_type, function_type, not_tall, plain_constant, declared_const, declared_fun, declared_sort, declared_parameterized, as_constant, declared_cases, declared_program, program_over, declared_rule, rule_over, with_cases, with_program, is_free_name, is_free_or_reference}
 use Rattle.eo_names.specs.Contexts.{Context, Local}
 use Rattle.eo_elab.specs.Meaning.{meaning}
 use Rattle.eo_names.specs.Names.{read_locals}
@@ -107,6 +109,17 @@ module _ (c : Context) where
   abbrev pub const_by : List ℕ → Sexp → code_shape.AttributeShape → Checked Constant
   const_by name type shape = declared_const c name type (read_shape shape)
 
+-- the constant that a command declares; others declare none
+abbrev pub constant_of : Context → code_command.Command → Checked Constant
+constant_of c (command.DeclareConst name ty a) = declared_const c name.now ty (read_shape a)
+constant_of c (command.DeclareFun name inputs output) = declared_fun c name.now inputs output
+constant_of c (command.DeclareSort name arity) = declared_sort c name.now arity
+constant_of c (command.DeclareParameterized name params ty a) = declared_parameterized c name.now params ty (read_shape a)
+constant_of c k = Err BadCommand
+
+abbrev pub declared_constant : Context → code_command.Command → Checked Declaration
+declared_constant c k = constant_of c k >>= as_constant
+
 -- the same over a table and a signature
 abbrev pub parameterized_in : Terms → Kept → List ℕ → List ParameterShape → Sexp → code_shape.AttributeShape → Checked Constant
 parameterized_in t k name params type shape = declared_parameterized (context t.trees k) name params type (read_shape shape)
@@ -115,11 +128,11 @@ abbrev pub typed_over_in : Terms → Kept → code_bound.Bound → Sexp → code
 typed_over_in t k b type shape = typed_over (context t.trees k) (read_bound t.trees b) type (read_shape shape)
 
 -- a program, one over parameters, the cases of one that has none yet, and it with them
-abbrev pub program_in : Terms → Kept → List ℕ → List ParameterShape → List Sexp → Sexp → List CaseShape → Checked Program
-program_in t k name shapes inputs output cases = declared_program (context t.trees k) name shapes inputs output cases
+abbrev pub program_in : Terms → Kept → ProgramShape → Checked Program
+program_in t k shape = declared_program (context t.trees k) shape
 
-abbrev pub program_over_in : Terms → Kept → List ℕ → code_bound.Bound → List Sexp → Sexp → List CaseShape → Checked Program
-program_over_in t k name b inputs output cases = program_over (context t.trees k) name (read_bound t.trees b) inputs output cases
+abbrev pub program_over_in : Terms → Kept → code_bound.Bound → ProgramShape → Checked Program
+program_over_in t k b shape = program_over (context t.trees k) (read_bound t.trees b) shape
 
 abbrev pub own_cases_in : Terms → Kept → List LocalName → ProgramDecl → List CaseShape → Checked (List Case)
 own_cases_in t k ls d cases =
@@ -128,6 +141,13 @@ own_cases_in t k ls d cases =
 
 abbrev pub with_cases_in : Terms → Kept → List LocalName → ProgramDecl → List CaseShape → Checked Program
 with_cases_in t k ls d cases = with_cases (context t.trees k) (read_locals t.trees ls) (read_program t.trees d) cases
+
+-- a rule, and one over parameters
+abbrev pub rule_in : Terms → Kept → RuleShape → Checked Rule
+rule_in t k shape = declared_rule (context t.trees k) shape
+
+abbrev pub rule_over_in : Terms → Kept → code_bound.Bound → RuleShape → Checked Rule
+rule_over_in t k b shape = rule_over (context t.trees k) (read_bound t.trees b) shape
 
 -- the type over parameters of which the first has this number
 abbrev pub bound_type_in : Terms → ℕ → List Param → ℕ → Tree

@@ -13,8 +13,9 @@ use Rattle.eo_sig.specs.declared.records.Declaration as code
 use Rattle.eo_sig.specs.declared.records.MacroDecl.{MacroDecl}
 use Rattle.eo_sig.specs.declared.records.Case as code_case
 use Rattle.eo_sig.specs.declared.records.ProgramDecl.{ProgramDecl}
-use Rattle.eo_sig.specs.Reading.{Kept, read_attribute, read_constant, read_macro, read_case, read_program, AttributeBelow, ConstBelow, MacroBelow, CaseBelow, ProgramBelow}
-use Rattle.eo_sig.specs.Signature.{Attribute, Constant, Macro, Case, Program}
+use Rattle.eo_sig.specs.declared.records.RuleDecl.{RuleDecl}
+use Rattle.eo_sig.specs.Reading.{Kept, read_attribute, read_constant, read_macro, read_case, read_program, read_rule, AttributeBelow, ConstBelow, MacroBelow, CaseBelow, ProgramBelow, RuleBelow}
+use Rattle.eo_sig.specs.Signature.{Attribute, Constant, Macro, Case, Program, Rule}
 use Rattle.eo_term.specs.Tree.{Tree}
 use Rattle.eo_term.specs.Terms.{Terms, tree_at}
 use Rattle.eo_elab.specs.declared.parameters.Bound as code_bound
@@ -115,6 +116,9 @@ GivesCases t r o = Gives told (All (CaseBelow (length t.trees))) (map (read_case
 
 abbrev pub GivesProgram : Terms → Result ProgramDecl ElabRefused → Checked Program → Type 0
 GivesProgram t r o = Gives told (ProgramBelow (length t.trees)) (read_program t.trees) r o
+
+abbrev pub GivesRule : Terms → Result RuleDecl ElabRefused → Checked Rule → Type 0
+GivesRule t r o = Gives told (RuleBelow (length t.trees)) (read_rule t.trees) r o
 
 abbrev pub GivesDeclaration : Terms → Result code.Declaration ElabRefused → Checked Declaration → Type 0
 GivesDeclaration t r o = Gives told (DeclarationBelow (length t.trees)) (read_declaration t.trees) r o

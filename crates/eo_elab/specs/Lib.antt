@@ -4,3 +4,5 @@ pub mod Forms
 pub mod Worlds
 pub mod Declaring
 pub mod Gives
+pub mod Fitting
+pub mod RuleParts

@@ -7,7 +7,7 @@ ghost use Rattle.eo_sig.specs.Reading.{read_constant, read_macro, IsBelow, IsFre
 ghost use Rattle.eo_shape.specs.Reading.{read_attribute, read_command};
 ghost use Rattle.eo_elab.specs.Declarations.{declared_fun, declared_sort, declared_literals, declaration, defined, is_free_or_reference};
 ghost use Rattle.eo_elab.specs.Declaring.{read_bound, read_declaration, declared, or_bad, typed, type_of_function};
-ghost use Rattle.eo_elab.specs.Declaring.{const_by, parameterized_in, typed_over_in, IsCommand, BoundBelow};
+ghost use Rattle.eo_elab.specs.Declaring.{const_by, constant_of, declared_constant, parameterized_in, typed_over_in, IsCommand, BoundBelow};
 ghost use Rattle.eo_elab.specs.Declaring.{MayRepeat, MayBeMacro, MayBeLiterals, MayBeDeclared};
 ghost use Rattle.eo_names.specs.Gives.{GivesTree};
 ghost use Rattle.eo_elab.specs.Gives.{GivesTyped, GivesConstant, GivesMacro, GivesDeclaration};
@@ -18,6 +18,7 @@ use crate::constants::{
 };
 use crate::parameters::{Bound, bind, parameter};
 use crate::programs::declared_program;
+use crate::rules::declared_rule;
 use crate::{ElabRefused, Locals, term};
 use eo_base::Name;
 use eo_base::limits::PARAMETERS;
@@ -29,8 +30,8 @@ use eo_term::{HEIGHT_LIMIT, Id, Table};
 use std::alloc::Global;
 
 /// What the command declares, which is one of `declare-const`, `declare-fun`, `declare-sort`,
-/// `declare-parameterized-const`, `declare-consts`, `define` and `program`, in a signature or a
-/// proof (Ethos manual, declarations, programs).
+/// `declare-parameterized-const`, `declare-consts`, `define`, `program` and `declare-rule`, in a
+/// signature or a proof (Ethos manual, declarations, programs, rules).
 ///
 /// A refusal is the first fault, in this order:
 ///
@@ -41,10 +42,13 @@ use std::alloc::Global;
 /// - a fault of a term, from left to right: of the parameters' types, where a name that an earlier
 ///   parameter has is `Redeclared`, of the types, of the terminator or what joins (`UnknownSymbol`,
 ///   where it is no constant), of the body, and of the cases of a program, each of which is
-///   `BadArity` first where it has another number of patterns than the program has inputs.
+///   `BadArity` first where it has another number of patterns than the program has inputs; of a
+///   rule, of the parameters' types, the assumption, the premises, the arguments, the requirements
+///   and the conclusion.
 /// - `Tall`: the type is taller than the limit.
 /// - `BadPattern`: a constant without parameters has a type that holds what no declared type may,
-///   or a terminator that is no value.
+///   or a terminator that is no value; or the premises of a rule are joined by what is no constant
+///   with a terminator at the right.
 /// - `Memory`: want of memory.
 ///
 /// The terms that the signature holds are terms of the table. All of these stay; a refused call may
@@ -80,58 +84,81 @@ fn declared_by(
     ensures grows { GrowsUnder sig.now table.old table.new }
 {
     match command {
-        Command::DeclareConst {
-            name,
-            ty,
-            attribute,
-        } => {
-            let d = declared_const(alloc, name, ty, attribute, sig, table)?;
-            Ok(Declaration::Const(d))
-        }
-        Command::DeclareFun {
-            name,
-            inputs,
-            output,
-        } => {
-            let d = declared_fun(alloc, name, inputs, output, sig, table)?;
-            Ok(Declaration::Const(d))
-        }
-        Command::DeclareSort { name, arity } => {
-            let d = declared_sort(alloc, name, *arity, sig, table)?;
-            Ok(Declaration::Const(d))
-        }
-        Command::DeclareParameterized {
-            name,
-            params,
-            ty,
-            attribute,
-        } => {
-            let d = declared_parameterized(alloc, name, params, ty, attribute, sig, table)?;
-            Ok(Declaration::Const(d))
-        }
-        Command::DeclareLiterals { class, ty } => {
-            let id = declared_literals(alloc, *class, ty, sig, table)?;
-            Ok(Declaration::Literal {
-                class: *class,
-                ty: id,
-            })
+        Command::DeclareConst { .. } => declared_constant(alloc, command, sig, table),
+        Command::DeclareFun { .. } => declared_constant(alloc, command, sig, table),
+        Command::DeclareSort { .. } => declared_constant(alloc, command, sig, table),
+        Command::DeclareParameterized { .. } => declared_constant(alloc, command, sig, table),
+        Command::DeclareLiterals { class, ty: s } => {
+            let ty = declared_literals(alloc, *class, s, sig, table)?;
+            Ok(Declaration::Literal { class: *class, ty })
         }
         Command::Define { name, params, body } => {
             let d = defined(alloc, name, params, body, sig, table)?;
             Ok(Declaration::Macro(d))
         }
-        Command::Program {
-            name,
-            params,
-            inputs,
-            output,
-            cases,
-        } => {
-            let d = declared_program(alloc, name, params, inputs, output, cases, sig, table)?;
+        Command::Program(shape) => {
+            let d = declared_program(alloc, shape, sig, table)?;
             Ok(Declaration::Program(d))
         }
+        Command::DeclareRule(shape) => {
+            let d = declared_rule(alloc, shape, sig, table)?;
+            Ok(Declaration::Rule(d))
+        }
         Command::Assume { .. } => Err(ElabRefused::BadCommand),
+        Command::AssumePush { .. } => Err(ElabRefused::BadCommand),
+        Command::Step(_) => Err(ElabRefused::BadCommand),
+        Command::StepPop(_) => Err(ElabRefused::BadCommand),
         Command::Assert { .. } => Err(ElabRefused::BadCommand),
+    }
+}
+
+// The constant that a command declares, as what it declares.
+fn declared_constant(
+    alloc: Global,
+    command: &Command<'_>,
+    sig: &Signature,
+    table: &mut Table,
+) -> Result<Declaration, ElabRefused>
+    requires { IsBelow (length table.old.trees) sig.now }
+    ensures gives { GivesDeclaration table.new result (declared_constant (context_in table.old sig.now) command.now) }
+    ensures named { IfOk result (λ d. MayBeDeclared (context_in table.old sig.now) (read_declaration table.new.trees d)) }
+    ensures grows { GrowsUnder sig.now table.old table.new }
+{
+    let d = constant_by(alloc, command, sig, table)?;
+    Ok(Declaration::Const(d))
+}
+
+// The constant that a command declares; `BadCommand`, where it declares none.
+fn constant_by(
+    alloc: Global,
+    command: &Command<'_>,
+    sig: &Signature,
+    table: &mut Table,
+) -> Result<ConstDecl, ElabRefused>
+    requires { IsBelow (length table.old.trees) sig.now }
+    ensures gives { GivesConstant table.new result (constant_of (context_in table.old sig.now) command.now) }
+    ensures named { IfOk result (λ d. is_free_or_reference (context_in table.old sig.now) d.name ≡ true) }
+    ensures grows { GrowsUnder sig.now table.old table.new }
+{
+    match command {
+        Command::DeclareConst {
+            name,
+            ty,
+            attribute,
+        } => declared_const(alloc, name, ty, attribute, sig, table),
+        Command::DeclareFun {
+            name,
+            inputs,
+            output,
+        } => declared_fun(alloc, name, inputs, output, sig, table),
+        Command::DeclareSort { name, arity } => declared_sort(alloc, name, *arity, sig, table),
+        Command::DeclareParameterized {
+            name,
+            params,
+            ty,
+            attribute,
+        } => declared_parameterized(alloc, name, params, ty, attribute, sig, table),
+        _ => Err(ElabRefused::BadCommand),
     }
 }
 

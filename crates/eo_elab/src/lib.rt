@@ -5,9 +5,11 @@
 mod atoms;
 mod constants;
 mod declaring;
+mod laws;
 mod parameters;
 mod plan;
 mod programs;
+mod rules;
 mod shapes;
 mod terms;
 #[cfg(test)]
@@ -19,5 +21,7 @@ pub use declaring::{
     declared_sort, defined,
 };
 pub use eo_names::{ElabRefused, LocalName, Locals};
+pub use laws::ordering_law;
 pub use programs::declared_program;
+pub use rules::declared_rule;
 pub use terms::term;

@@ -2,7 +2,7 @@
 ghost use Rattle.std.specs.Prelude.{◌≡◌, ◌<◌, ◌≤◌, [], length, true, IfOk};
 ghost use Rattle.eo_base.specs.Limits.{parameters_limit};
 ghost use Rattle.eo_term.specs.Growth.{Grows};
-ghost use Rattle.eo_shape.specs.Reading.{read_case as read_shape};
+ghost use Rattle.eo_shape.specs.Reading.{read_case as read_shape, read_program};
 ghost use Rattle.eo_sig.specs.Growth.{GrowsUnder};
 ghost use Rattle.eo_sig.specs.Reading.{IsBelow, IsFree, ProgramBelow};
 ghost use Rattle.eo_elab.specs.Declarations.{is_free_name};
@@ -19,8 +19,7 @@ use crate::{ElabRefused, Locals, term};
 use eo_base::Name;
 use eo_base::limits::PARAMETERS;
 use eo_names::names_law;
-use eo_sexp::{Children, Sexp};
-use eo_shape::{CaseShape, CaseShapes, ParameterShapes};
+use eo_shape::{CaseShape, CaseShapes, ProgramShape};
 use eo_sig::{Case, Cases, ProgramDecl, Signature, SignatureView};
 use eo_term::Table;
 use std::alloc::Global;
@@ -39,64 +38,57 @@ use std::alloc::Global;
 /// - `Memory`: want of memory.
 pub fn declared_program(
     alloc: Global,
-    name: &[u8],
-    params: &ParameterShapes<'_>,
-    inputs: &Children<'_>,
-    output: &Sexp<'_>,
-    cases: &CaseShapes<'_>,
+    shape: &ProgramShape<'_>,
     sig: &Signature,
     table: &mut Table,
 ) -> Result<ProgramDecl, ElabRefused>
     requires { IsBelow (length table.old.trees) sig.now }
-    ensures gives { GivesProgram table.new result (program_in table.old sig.now name.now params.now inputs.now output.now cases.now) }
+    ensures gives { GivesProgram table.new result (program_in table.old sig.now (read_program shape.now)) }
     ensures free { IfOk result (λ d. IsFree sig.now d.name) }
     ensures named { IfOk result (λ d. is_free_name (context_in table.old sig.now) d.name ≡ true) }
     ensures grows { GrowsUnder sig.now table.old table.new }
 {
     sig.laws();
-    if !sig.is_free(name) {
+    if !sig.is_free(shape.name) {
         return Err(ElabRefused::Redeclared);
     }
-    if params.len() > PARAMETERS {
+    if shape.params.len() > PARAMETERS {
         return Err(ElabRefused::Parameters);
     }
-    if inputs.len() > PARAMETERS {
+    if shape.inputs.len() > PARAMETERS {
         return Err(ElabRefused::Parameters);
     }
-    let bound = bind(alloc, params, sig, table)?;
-    program_over(alloc, name, bound, inputs, output, cases, sig, table)
+    let bound = bind(alloc, &shape.params, sig, table)?;
+    program_over(alloc, shape, bound, sig, table)
 }
 
 // A program over parameters, with at most 64 inputs.
 fn program_over(
     alloc: Global,
-    name: &[u8],
+    shape: &ProgramShape<'_>,
     bound: Bound,
-    inputs: &Children<'_>,
-    output: &Sexp<'_>,
-    cases: &CaseShapes<'_>,
     sig: &Signature,
     table: &mut Table,
 ) -> Result<ProgramDecl, ElabRefused>
     requires below { IsBelow (length table.old.trees) sig.now }
     requires bound { BoundBelow (length table.old.trees) sig.now bound }
-    requires few { length inputs.now ≤ parameters_limit }
-    ensures gives { GivesProgram table.new result (program_over_in table.old sig.now name.now bound inputs.now output.now cases.now) }
-    ensures name { IfOk result (λ d. d.name ≡ name.now) }
+    requires few { length shape.now.inputs ≤ parameters_limit }
+    ensures gives { GivesProgram table.new result (program_over_in table.old sig.now bound (read_program shape.now)) }
+    ensures name { IfOk result (λ d. d.name ≡ shape.now.name.now) }
     ensures grows { Grows table.old table.new }
 {
     names_law();
-    let types = meanings(alloc, inputs, &bound.locals, sig, table)?;
-    let output = term(alloc, output, &bound.locals, sig, table)?;
+    let types = meanings(alloc, &shape.inputs, &bound.locals, sig, table)?;
+    let output = term(alloc, &shape.output, &bound.locals, sig, table)?;
     let Bound { params, locals } = bound;
     let head = ProgramDecl {
-        name: Name::new(alloc, name)?,
+        name: Name::new(alloc, shape.name)?,
         params,
         inputs: types,
         output,
         cases: Cases::new(alloc),
     };
-    with_cases(alloc, head, cases, &locals, sig, table)
+    with_cases(alloc, head, &shape.cases, &locals, sig, table)
 }
 
 // A program that has no cases yet, with these.

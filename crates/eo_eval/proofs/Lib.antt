@@ -1,5 +1,5 @@
 mod Memory
-mod OperatorValues
+pub mod OperatorValues
 mod Values
 mod Steps
 mod Pushed

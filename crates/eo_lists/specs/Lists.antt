@@ -15,6 +15,10 @@ abbrev pub spell : Tree → Tree → List Tree → Tree
 spell f n [] = n
 spell f n (a ∷ items) = link f a (spell f n items)
 
+-- what spells the items by the constant of this number, if it has a terminator
+abbrev pub list_by : Signature → ℕ → List Tree → Option Tree
+list_by S f items = option_map (λ n. spell (Con f) n items) (terminator S f)
+
 abbrev pub none_or_empty : Bool → Option (List Tree)
 none_or_empty is_terminator = if is_terminator then Some [] else None
 

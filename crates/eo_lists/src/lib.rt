@@ -10,6 +10,7 @@ ghost use Rattle.eo_lists.specs.Outcomes.{IsListOperator, GivesList, value_in};
 mod build;
 mod counts;
 mod items;
+mod joining;
 mod operators;
 mod spelling;
 #[cfg(test)]
@@ -19,6 +20,7 @@ use crate::operators::operate;
 use crate::spelling::{Spelling, terminator};
 use eo_sig::Signature;
 use eo_term::{Id, OpName, Table, TermRefused};
+pub use joining::spell_list;
 use std::alloc::Global;
 
 /// The value of an operator on lists, as the Ethos manual has them; `None`, where it is stuck: its

@@ -286,8 +286,8 @@ fn number(table: &mut Table, value: i128) -> Result<Option<Id>, TermRefused>
     Ok(Some(id))
 }
 
-// A term that was made is the value.
-fn answer(made: Result<Id, TermRefused>) -> Result<Option<Id>, TermRefused>
+/// A term that was made is the value.
+pub(crate) fn answer(made: Result<Id, TermRefused>) -> Result<Option<Id>, TermRefused>
     ensures { (t : Terms) (u : Tree) → Builds t made u → GivesList t result (Some u) }
 {
     Ok(Some(made?))

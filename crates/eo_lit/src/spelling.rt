@@ -12,7 +12,7 @@ use std::fmt::Write;
 
 /// A spelling of the literal: plain digits for a number, behind a `-` where it is below 0, and
 /// `#b` with a digit for each bit for a bit string, which has at least one bit. It reads back as
-/// the same literal.
+/// the same literal. Refused only where no memory is left.
 #[tactic(auto, unfolding(crate::specs::Spelling::literal_spelling))]
 pub fn write_literal(alloc: Global, l: LitRead) -> Result<Text, AllocError>
     requires { HasBits l }
@@ -69,7 +69,7 @@ fn binary_digit(value: u128, place: u8) -> char
 /// A spelling of the characters, as the bytes between the quotes of a string literal: a character
 /// from 32 to 126 is itself, but `"` is `""`, and a backslash and every other character is
 /// `\u{h}`, with the fewest hexadecimal digits, in lower case. It reads back as the same
-/// characters.
+/// characters. Refused only where no memory is left.
 #[tactic(auto, using(crate::proofs::StringSpellings::string_reads_back))]
 pub fn write_string(alloc: Global, c: &Chars) -> Result<Text, AllocError>
     ensures spelling { IfOk result (λ text. text ≡ string_spelling c.now) }

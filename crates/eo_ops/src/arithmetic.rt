@@ -1,5 +1,6 @@
 //! Numbers, and bit strings as numbers modulo two to the power of their width.
-ghost use Rattle.std.specs.Prelude.{◌≡◌, ◌≢◌, ◌≤◌, [], ◌∷◌, ◌+ℤ◌, ◌*ℤ◌, ◌+◌, ◌*◌, ◌/◌, ◌%◌, map, All};
+ghost use Rattle.std.specs.Prelude.{◌≡◌, ◌≢◌, ◌≤◌, [], ◌∷◌, ◌+ℤ◌, ◌*ℤ◌, ◌+◌, ◌*◌, ◌/◌, ◌%◌};
+ghost use Rattle.std.specs.Prelude.{map, All};
 ghost use Rattle.eo_ops.specs.Operators.{BitString, arithmetic, negative, division, quotient, remainder, below_zero, greater};
 ghost use Rattle.eo_ops.specs.Lit.{lit, IsWellFormed, FitsWidth};
 ghost use Rattle.eo_ops.specs.OpResult.{Answers};

@@ -288,7 +288,7 @@ fn match_par(table: &Table, i: u8, term: Id, subst: &mut Subst) -> bool
     ensures no { IsFalse result → UnmatchedTrees table.now subst.old (Par i ∷ []) (tree_in table.now term ∷ []) }
     ensures kept { Keeps (length table.now.trees) subst.old subst.new }
 {
-    match subst.get(i) {
+    match subst.get(i as usize) {
         Some(id) => table.is_same(id, term),
         None => {
             subst.put(i, term);

@@ -60,10 +60,10 @@ impl Subst {
     }
 
     /// What stands for the parameter, if anything does.
-    pub fn get(&self, i: u8) -> Option<Id>
+    pub fn get(&self, i: usize) -> Option<Id>
         ensures value { result ≡ option_flatten (slice_get self.now.values i) }
     {
-        self.values.get(usize::from(i)).copied().flatten()
+        self.values.get(i).copied().flatten()
     }
 
     /// The parameters below 64 for which something stands.

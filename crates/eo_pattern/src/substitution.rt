@@ -224,7 +224,7 @@ fn put_par(table: &Table, subst: &Subst, id: Id, i: u8) -> Id
     ensures low { is_tall (put_in table.now subst.now id) ≡ false }
 {
     table.laws();
-    match subst.get(i) {
+    match subst.get(i as usize) {
         Some(term) => term,
         None => id,
     }

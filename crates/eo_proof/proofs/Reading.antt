@@ -1,6 +1,6 @@
 -- Facts with numbers of terms, as facts in scopes.
 use Rattle.std.proofs.Common.{◌≡◌, refl, sym, ap, ◌∙◌, ℕ, zero, suc, ◌+◌, ◌<◌, ◌≤◌, Bool, true, false, not, cond, ◌||◌, List, [], ◌∷◌, ◌++◌, length, map, take, drop, subst, All, Option, Some, None, option_map, is_some, true≢false, arith}
-use Rattle.std.specs.Prelude.{bytes_eq, find, nat_eq, nat_lt, nat_le, position}
+use Rattle.std.specs.Prelude.{IfSome, bytes_eq, find, nat_eq, nat_lt, nat_le, position}
 use Rattle.std.specs.List.{position_or_len}
 use Rattle.std.specs.Map.{keys_of}
 use Rattle.std.proofs.lemmas.Option.{same_Some, none-some}
@@ -15,7 +15,7 @@ use Rattle.eo_term.specs.Tree.{Tree, tree_eq, truth}
 use Rattle.eo_term.specs.Growth.{IsTable}
 use Rattle.eo_term.specs.Terms.{Terms, tree_at, first_trees}
 use Rattle.eo_proof.specs.declared.facts.Begun.{Begun}
-use Rattle.eo_proof.specs.Kept.{NamedId, Kept, read_fact, outer_facts, opened, scopes, outer_count, AreBelow, AreBegun, IsKept, with_named, with_begun, holds_false}
+use Rattle.eo_proof.specs.Kept.{NamedId, Kept, read_fact, outer_facts, opened, scopes, outer_count, innermost, AreBelow, AreBegun, IsKept, with_named, with_begun, holds_false}
 use Rattle.eo_proof.specs.Scopes.{depth, opened_facts, live_facts, formula_named, fact_named, with_fact, with_scope, outside, innermost_hypothesis, is_live, is_free_outside, has_false, formulas, no_facts}
 
 -- ---- scopes that are open
@@ -224,6 +224,13 @@ module _ (ts : List Tree) where
   unfolding scopes innermost_hypothesis
   no_hypothesis fs = refl
 
+  pub innermost_is : (k : Kept) → option_map (tree_at ts) (innermost k) ≡ innermost_hypothesis (scopes ts k)
+  innermost_is k = by k.facts k.begun
+    where
+      by : (fs : List NamedId) (bs : List Begun) → option_map (tree_at ts) (innermost (record { facts = fs; begun = bs })) ≡ innermost_hypothesis (scopes ts (record { facts = fs; begun = bs }))
+      by fs [] = sym (no_hypothesis fs)
+      by fs (b ∷ bs) = sym (hypothesis_is fs b bs)
+
   pub none_outside : (fs : List NamedId) → outside (scopes ts (record { facts = fs; begun = [] })) ≡ scopes ts (record { facts = fs; begun = [] })
   unfolding scopes outside
   none_outside fs = refl
@@ -283,3 +290,12 @@ false_fact t is (f ∷ fs) a =
 pub false_is : (t : Terms) (k : Kept) → IsTable t → AreBelow (length t.trees) k → holds_false (outer_facts k.facts k.begun) ≡ has_false (scopes t.trees k)
 unfolding scopes
 false_is t k is h = sym (false_fact t is (outer_facts k.facts k.begun) (outer_below (length t.trees) k.facts k.begun h.facts))
+
+-- ---- the innermost scope
+
+pub innermost_below : (m : ℕ) (k : Kept) (o : Option ℕ) → o ≡ innermost k → AreBelow m k → IfSome o (λ i. i < m)
+innermost_below m k o e h = subst (λ (p : Option ℕ). IfSome p (λ i. i < m)) (sym e) (by k.begun h.hypotheses)
+  where
+    by : (bs : List Begun) → All (λ (b : Begun). b.hypothesis < m) bs → IfSome (innermost (record { facts = k.facts; begun = bs })) (λ i. i < m)
+    by [] a = tt
+    by (b ∷ bs) a = All-head (λ (b : Begun). b.hypothesis < m) b bs a

@@ -1,5 +1,5 @@
 -- How facts that are kept with numbers of terms stand for facts in scopes.
-use Rattle.std.specs.Prelude.{◌≡◌, ℕ, ◌<◌, Bool, List, [], ◌∷◌, ◌++◌, map, take, drop, reverse, length, All, nat_eq}
+use Rattle.std.specs.Prelude.{◌≡◌, ℕ, ◌<◌, Bool, Option, Some, None, List, [], ◌∷◌, ◌++◌, map, take, drop, reverse, length, All, nat_eq}
 use Rattle.std.specs.List.{list_any}
 use Rattle.eo_term.specs.Tree.{Tree}
 use Rattle.eo_term.specs.Terms.{tree_at}
@@ -39,6 +39,14 @@ outer_count k = by k.begun
     by : List Begun → ℕ
     by [] = length k.facts
     by (b ∷ bs) = b.first
+
+-- the assumption of the innermost scope
+abbrev pub innermost : Kept → Option ℕ
+innermost k = by k.begun
+  where
+    by : List Begun → Option ℕ
+    by [] = None
+    by (b ∷ bs) = Some b.hypothesis
 
 -- all terms are below n
 pub record AreBelow (n : ℕ) (k : Kept) : Type 0 where

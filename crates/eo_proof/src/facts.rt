@@ -1,11 +1,12 @@
 //! Facts in scopes.
-ghost use Rattle.std.specs.Prelude.{◌≡◌, ℕ, ◌<◌, List, ◌∷◌, ◌++◌, [], map, length, None, is_some, IfOk, OnOk, OnErr};
+ghost use Rattle.std.specs.Prelude.{◌≡◌, ℕ, ◌<◌, List, ◌∷◌, ◌++◌, [], map, length, None, is_some, option_map};
+ghost use Rattle.std.specs.Prelude.{IfOk, IfSome, OnOk, OnErr};
 ghost use Rattle.std.specs.Map.{lookup};
 ghost use Rattle.std.specs.Str.{bytes_eq};
 ghost use Rattle.eo_term.specs.Growth.{IsTable};
 ghost use Rattle.eo_term.specs.Terms.{Terms, tree_at};
 ghost use Rattle.eo_term.specs.Tree.{Tree};
-ghost use Rattle.eo_proof.specs.Kept.{scopes, outer_count, outer_facts, holds_false, with_named, with_begun, AreBelow};
+ghost use Rattle.eo_proof.specs.Kept.{scopes, outer_count, innermost, outer_facts, holds_false, with_named, with_begun, AreBelow};
 ghost use Rattle.eo_proof.specs.Outcomes.{Added, Found};
 ghost use Rattle.eo_proof.specs.Scopes as scope;
 ghost use Rattle.eo_proof.specs.Scopes.{no_facts};
@@ -134,6 +135,15 @@ impl Facts {
         }
     }
 
+    /// The assumption of the innermost scope, if one is open.
+    #[tactic(auto, using(crate::proofs::Reading::innermost_is))]
+    pub fn hypothesis(&self) -> Option<Id>
+        ensures innermost { (ts : List Tree) → option_map (tree_at ts) result ≡ scope.innermost_hypothesis (scopes ts self.now) }
+        ensures below { (m : ℕ) → AreBelow m self.now → IfSome result (λ i. i < m) }
+    {
+        self.innermost()
+    }
+
     /// How many scopes are open, without the outermost.
     #[tactic(auto, using(crate::proofs::Reading::depth_is))]
     pub fn depth(&self) -> usize
@@ -178,6 +188,16 @@ impl Facts {
         ensures { result ≡ length self.now.begun }
     {
         self.begun.as_slice().len()
+    }
+
+    // The assumption of the innermost scope.
+    fn innermost(&self) -> Option<Id>
+        ensures { result ≡ innermost self.now }
+    {
+        match self.begun.last() {
+            Some(scope) => Some(scope.hypothesis),
+            None => None,
+        }
     }
 
     // How many facts there are outside the innermost scope.

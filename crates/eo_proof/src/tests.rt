@@ -55,6 +55,7 @@ fn is_right_inside(facts: &mut Facts) -> bool {
     facts.depth() == 1
         && facts.find(b"a") == Ok(TRUE)
         && facts.find(b"h") == Ok(FALSE)
+        && facts.hypothesis() == Some(FALSE)
         && !facts.has_false()
         && facts.is_free_outside(b"b")
         && !facts.is_free_outside(b"a")
@@ -73,6 +74,7 @@ fn is_right_outside(facts: &mut Facts) -> bool {
     facts.depth() == 0
         && facts.find(b"a") == Ok(TRUE)
         && facts.find(b"b") == Err(UnknownPremise)
+        && facts.hypothesis().is_none()
         && facts.roots().count() == 1
         && facts.pop() == Err(NoScope)
 }

@@ -27,7 +27,7 @@ use Rattle.eo_run.specs.Held.{state_of}
 use Rattle.eo_run.specs.declared.refused.Refused.{Refused}
 use Rattle.eo_run.specs.Stepping.{of_elab, of_sig, Refuses, Does}
 use Rattle.eo_sexp.specs.Sexp.{Sexp}
-use Rattle.eo_shape.specs.Shapes.{ParameterShape, AttributeShape, CaseShape}
+use Rattle.eo_shape.specs.Shapes.{AttributeShape, ProgramShape}
 use Rattle.eo_run.specs.declared.Origin.{Origin}
 use Rattle.eo_run.specs.State.{State, context, with_entry, with_macro}
 use Rattle.eo_run.specs.Step.{is_plain, repeats_constant, repeats_macro, type_value, added_constant, checked_constant, typed_constant, added_macro, is_in_proof, added_program, define_program}
@@ -145,15 +145,23 @@ may_be_declared (Arr f x) h = let b = both (is_value f) (is_value x) h in (λ i.
 may_be_declared (Qar i t b) h = absurd (true≢false (sym h))
 may_be_declared (Op c ts) h = absurd (true≢false (sym h))
 
--- it stays sound with a value for its type
-pub sound-value : (d : Constant) (v : Tree) → d.parameters ≡ [] → is_value v ≡ true → constant_fault d ≡ None → constant_fault (record d { type = v }) ≡ None
-sound-value d v alone value sound =
-    let held = (both (may_be_type d.type) (may_type d.parameters && may_fold d.attribute) (holds (constant_may_hold d) (implicit_occur (argument_types d.type) 0 d.parameters) sound)).1 in
-    (λ i. first_wrong (may_be_declared v value i && held i) (implicit_occur (argument_types v) 0 (alone i)))
+-- what a sound constant may hold
+may_hold : (d : Constant) → constant_fault d ≡ None → (may_be_type d.type ≡ true) × ((may_type d.parameters && may_fold d.attribute) ≡ true)
+may_hold d sound = both (may_be_type d.type) (may_type d.parameters && may_fold d.attribute) (holds (constant_may_hold d) (implicit_occur (argument_types d.type) 0 d.parameters) sound)
   where
     holds : (a b : Bool) → first_wrong a b ≡ None → a ≡ true
     holds true b e = refl
     holds false b e = absurd cc
+
+-- its terminator is a value
+pub fold_of : (d : Constant) → constant_fault d ≡ None → may_fold d.attribute ≡ true
+fold_of d sound = (both (may_type d.parameters) (may_fold d.attribute) (may_hold d sound).1).1
+
+-- it stays sound with a value for its type
+pub sound-value : (d : Constant) (v : Tree) → d.parameters ≡ [] → is_value v ≡ true → constant_fault d ≡ None → constant_fault (record d { type = v }) ≡ None
+sound-value d v alone value sound =
+    let held = (may_hold d sound).1 in
+    (λ i. first_wrong (may_be_declared v value i && held i) (implicit_occur (argument_types v) 0 (alone i)))
 
 plain-alone : (c : Context) (name : List ℕ) (type : Tree) (a : Attribute) (d : Constant) → plain_constant c name type a ≡ Ok d → d.parameters ≡ []
 plain-alone c name type a d e =
@@ -262,14 +270,14 @@ module _ {A : Type 0} (m : Checked A) (f : State → A → Checked State) (st : 
 -- ---- programs
 
 -- whether a program may be declared here, and then what it is
-module _ (st : State) (from : Origin) (name : List ℕ) (shapes : List ParameterShape) (inputs : List Sexp) (output : Sexp) (cases : List CaseShape) where
+module _ (st : State) (from : Origin) (shape : ProgramShape) where
   abbrev by_origin : Bool → Checked State
-  by_origin b = require b ProofDeclares >>= λ _. added_program st name shapes inputs output cases
+  by_origin b = require b ProofDeclares >>= λ _. added_program st shape
 
-  pub program-closed : not (st.closed && is_in_proof from) ≡ false → define_program st from name shapes inputs output cases ≡ Err ProofDeclares
+  pub program-closed : not (st.closed && is_in_proof from) ≡ false → define_program st from shape ≡ Err ProofDeclares
   unfolding define_program require ◌>>=◌
   program-closed e = ap by_origin e
 
-  pub program-open : not (st.closed && is_in_proof from) ≡ true → define_program st from name shapes inputs output cases ≡ added_program st name shapes inputs output cases
+  pub program-open : not (st.closed && is_in_proof from) ≡ true → define_program st from shape ≡ added_program st shape
   unfolding define_program require ◌>>=◌
   program-open e = ap by_origin e

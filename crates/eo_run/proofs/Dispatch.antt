@@ -1,22 +1,22 @@
 -- What a command is by where it stands, and what is answered for it.
-use Rattle.std.proofs.Common.{◌≡◌, refl, Bool, true, false, sym, ap, subst, ◌∙◌, true≢false}
+use Rattle.std.proofs.Common.{◌≡◌, refl, Bool, true, false, not, ◌||◌, sym, ap, subst, ◌∙◌, true≢false}
 use Rattle.std.specs.Prelude.{Result, Ok, Err, IfErr}
 use Rattle.std.specs.Result.{IsErrAnd}
 use Rattle.eo_base.specs.declared.FaultName.{FaultName}
-use Rattle.eo_base.specs.declared.FaultName.TheVariants.{FileAbsent}
+use Rattle.eo_base.specs.declared.FaultName.TheVariants.{FileAbsent, InScope}
 use Rattle.eo_base.specs.Checks.{Checked}
 use Rattle.eo_sexp.specs.Sexp.{Sexp}
 use Rattle.eo_shape.specs.Shapes.{Command, command_of}
 use Rattle.eo_shape.specs.Reading as shapes
 use Rattle.eo_shape.specs.declared.ShapeRefused.{ShapeRefused}
 use Rattle.eo_shape.specs.declared.ShapeRefused.TheVariants as shape
-use Rattle.eo_run.specs.State.{State, first_state, begin_reference}
-use Rattle.eo_run.specs.Step.{is_in_reference, by_command, uncounted}
+use Rattle.eo_run.specs.State.{State, first_state, begin_reference, is_in_scope}
+use Rattle.eo_run.specs.Step.{is_in_reference, by_command, may_be_in_scope, scoped_command, uncounted}
 use Rattle.eo_run.specs.Stepping.{IsMemory, Refuses, Does, Standing, Steps}
 use Rattle.eo_run.specs.declared.held.Held.{Held}
 use Rattle.eo_run.specs.declared.refused.Refused.{Refused}
 use Rattle.eo_run.specs.declared.refused.Refused.TheVariants as refused
-use Rattle.eo_run.proofs.Sessions.{shape-fault, shape-ok, does-fault, begin-ok}
+use Rattle.eo_run.proofs.Sessions.{shape-fault, shape-ok, scope-fault, scope-ok, does-fault, begin-ok}
 use Rattle.eo_run.specs.declared.Origin.{Origin}
 
 -- ---- each command
@@ -29,8 +29,15 @@ module _ (st : State) (from : Origin) (s : Sexp) (b : Bool) (e : b ≡ is_in_ref
       present shape.UnknownCommand q = absurd cc
       present shape.BadCommand q = absurd cc
 
-  pub does-command : (k : Command) → command_of b s ≡ Ok k → Does r (by_command st from k) new → Does r (uncounted st from s) new
+  pub does-command : (k : Command) → command_of b s ≡ Ok k → Does r (scoped_command st from k) new → Does r (uncounted st from s) new
   does-command k h d = subst (λ (m : Checked State). Does r m new) (sym (shape-ok st from s b e k h)) d
+
+pub does-in_scope : (st : State) (from : Origin) (k : Command) (b : Bool) → b ≡ (not (is_in_scope st) || may_be_in_scope k) → b ≡ false → Refuses (scoped_command st from k) (refused.Fault InScope)
+does-in_scope st from k b e h = (scope-fault st from k (sym e ∙ h), λ q. absurd cc)
+
+module _ (st : State) (from : Origin) (k : Command) (r : Result (Unit {0}) Refused) (new : Held) where
+  pub does-placed : (b : Bool) → b ≡ (not (is_in_scope st) || may_be_in_scope k) → b ≡ true → Does r (by_command st from k) new → Does r (scoped_command st from k) new
+  does-placed b e h d = subst (λ (m : Checked State). Does r m new) (sym (scope-ok st from k (sym e ∙ h))) d
 
 -- ---- what ends a session
 

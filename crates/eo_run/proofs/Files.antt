@@ -3,14 +3,15 @@ use Rattle.std.proofs.Common.{◌≡◌, refl, ℕ, ◌≤◌, Bool, true, false
 use Rattle.std.specs.Prelude.{Result, Ok, Err, Option, Some, None, IfSome, if◌then◌else◌}
 use Rattle.std.specs.Option.{option_map_or}
 use Rattle.eo_base.specs.declared.FaultName.{FaultName}
-use Rattle.eo_base.specs.declared.FaultName.TheVariants.{FileAbsent, NoReference, NoRefutation}
+use Rattle.eo_base.specs.declared.FaultName.TheVariants.{FileAbsent, NoReference, NoRefutation, ScopeOpen}
 use Rattle.eo_base.specs.Causes.{Rose}
 use Rattle.eo_base.specs.Checks.{Checked}
 use Rattle.eo_io.specs.Library.{Files, Rest, file_at, Opens, OpenHasCause}
 use Rattle.eo_io.specs.declared.Opened.TheVariants as opened
 use Rattle.eo_sexp.specs.Spot.{Spot}
 use Rattle.eo_sexp.specs.Texts.{first_spot, spot_after}
-use Rattle.eo_run.specs.State.{State, first_state, begin_reference, end_fault, has_false}
+use Rattle.eo_proof.specs.Scopes.{has_false}
+use Rattle.eo_run.specs.State.{State, first_state, begin_reference, end_fault, is_in_scope}
 use Rattle.eo_run.specs.Step.{is_in_proof}
 use Rattle.eo_run.specs.Run.{Ran, ◌>>=◌, placed, or_fault, refusal_at, commands_of, run_commands, run_file, run_reference, run_check}
 use Rattle.eo_run.specs.Check.{verdict, checked, ended, file_end}
@@ -79,12 +80,20 @@ module _ (files : Files) (reference proof : List ℕ) where
 -- ---- answers
 
 module _ (told : Option Files) (path : List ℕ) (old new : State) (paths : List (List ℕ)) (place : Place) where
-  pub ends-correct : IfSome told (λ f. EndsRun f path origin.Proof old new paths place) → None ≡ end_fault new → IfSome told (λ f. Answers paths answer.Correct (checked f path (run_file f path origin.Proof old)))
-  ends-correct h e = by told h
-    where
-      by : (o : Option Files) → IfSome o (λ f. EndsRun f path origin.Proof old new paths place) → IfSome o (λ f. Answers paths answer.Correct (checked f path (run_file f path origin.Proof old)))
-      by None h = tt
-      by (Some f) h = ap (checked f path) h.runs ∙ ap (ended f path) (sym e)
+  module _ (none : end_fault new ≡ None) where
+    pub ends-correct : new.sorry ≡ false → IfSome told (λ f. EndsRun f path origin.Proof old new paths place) → IfSome told (λ f. Answers paths answer.Correct (checked f path (run_file f path origin.Proof old)))
+    ends-correct s h = by told h
+      where
+        by : (o : Option Files) → IfSome o (λ f. EndsRun f path origin.Proof old new paths place) → IfSome o (λ f. Answers paths answer.Correct (checked f path (run_file f path origin.Proof old)))
+        by None h = tt
+        by (Some f) h = ap (checked f path) h.runs ∙ (λ i. ended f path (s i) (none i))
+
+    pub ends-incomplete : new.sorry ≡ true → IfSome told (λ f. EndsRun f path origin.Proof old new paths place) → IfSome told (λ f. Answers paths answer.Incomplete (checked f path (run_file f path origin.Proof old)))
+    ends-incomplete s h = by told h
+      where
+        by : (o : Option Files) → IfSome o (λ f. EndsRun f path origin.Proof old new paths place) → IfSome o (λ f. Answers paths answer.Incomplete (checked f path (run_file f path origin.Proof old)))
+        by None h = tt
+        by (Some f) h = ap (checked f path) h.runs ∙ (λ i. ended f path (s i) (none i))
 
   pub ends-refused : (name : FaultName) → IfSome told (λ f. EndsRun f path origin.Proof old new paths place) → Some name ≡ end_fault new → IfSome told (λ f. Answers paths (answer.Refused (record { name = name; place = place })) (checked f path (run_file f path origin.Proof old)))
   ends-refused name h e = by told h
@@ -92,17 +101,18 @@ module _ (told : Option Files) (path : List ℕ) (old new : State) (paths : List
       by : (o : Option Files) → IfSome o (λ f. EndsRun f path origin.Proof old new paths place) → IfSome o (λ f. Answers paths (answer.Refused (record { name = name; place = place })) (checked f path (run_file f path origin.Proof old)))
       by None h = tt
       by (Some f) h =
-          (refusal_at path (file_end f path) name, ap (checked f path) h.runs ∙ ap (ended f path) (sym e), record { name = refl; file = h.file; line = h.line; offset = h.offset })
+          (refusal_at path (file_end f path) name, ap (checked f path) h.runs ∙ ap (ended f path new.sorry) (sym e), record { name = refl; file = h.file; line = h.line; offset = h.offset })
 
 -- the end of a proof is no absent file
 pub end-present : (st : State) (name : FaultName) → Some name ≡ end_fault st → name ≡ FileAbsent → ⊥
 unfolding end_fault
-end-present st name e a = by st.has_reference (has_false st.facts) e
+end-present st name e a = by (is_in_scope st) st.has_reference (has_false st.scopes) e
   where
-    by : (r b : Bool) → Some name ≡ (if not r then Some NoReference else (if not b then Some NoRefutation else None)) → ⊥
-    by true true h = absurd cc
-    by true false h = absurd cc
-    by false b h = absurd cc
+    by : (o r b : Bool) → Some name ≡ (if o then Some ScopeOpen else (if not r then Some NoReference else (if not b then Some NoRefutation else None))) → ⊥
+    by true r b h = absurd cc
+    by false true true h = absurd cc
+    by false true false h = absurd cc
+    by false false b h = absurd cc
 
 pub end-cause : (told : Option Files) (st : State) (name : FaultName) (place : Place) (b n : ℕ) → Some name ≡ end_fault st → AnswerHasCause (answer.Refused (record { name = name; place = place })) told b n
 end-cause None st name place b n e = λ a. absurd (end-present st name e a)

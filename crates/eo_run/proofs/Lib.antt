@@ -1,15 +1,20 @@
 pub mod Adding
 pub mod Computed
+pub mod Concluding
 pub mod Dispatch
 pub mod Ending
 pub mod Exits
+pub mod Faults
 pub mod Feeding
 pub mod Files
+pub mod Fitting
 pub mod Holding
-pub mod Naming
 pub mod Pieces
 pub mod Running
+pub mod Scoping
 pub mod Sessions
+pub mod Used
 mod ClosedVectors
+mod ScopeVectors
 mod Vectors
 mod PrintLemmas

@@ -1,19 +1,21 @@
 -- What each command does to a state.
-use Rattle.std.proofs.Common.{◌≡◌, refl, ℕ, Bool, true, false, not, List, [], sym, ap, subst, ◌∙◌, true≢false}
-use Rattle.std.specs.Prelude.{◌≢◌, Option, Some, None, option_and_then, Result, Ok, Err, bytes_eq, codes, if◌then◌else◌, ◌&&◌}
+use Rattle.std.proofs.Common.{◌≡◌, refl, ℕ, ◌<◌, Bool, true, false, not, List, [], sym, ap, subst, ◌∙◌, true≢false, arith}
+use Rattle.std.specs.Prelude.{◌≢◌, Option, Some, None, option_and_then, Result, Ok, Err, bytes_eq, nat_lt, codes, if◌then◌else◌, ◌&&◌, ◌||◌}
 use Rattle.std.specs.Result.{IsErrAnd}
 use Rattle.eo_base.specs.declared.FaultName.{FaultName}
-use Rattle.eo_base.specs.declared.FaultName.TheVariants.{Redeclared, IllTyped, NotBool, UnknownSymbol, NotAsserted, NoReference, NoRefutation, SecondReference, NumberRange, TermHeight, FileAbsent}
+use Rattle.eo_base.specs.declared.FaultName.TheVariants.{Redeclared, IllTyped, NotBool, UnknownSymbol, NotAsserted, NoReference, NoRefutation, SecondReference, NumberRange, TermHeight, FileAbsent, InScope, ScopeOpen, ScopeDepth}
 use Rattle.eo_base.specs.Answers.{Tells}
 use Rattle.eo_base.specs.Checks.{Checked, ◌>>=◌, require, value_or}
 use Rattle.eo_sexp.specs.Sexp.{Sexp}
 use Rattle.eo_shape.specs.Words.{symbol_of}
 use Rattle.eo_shape.specs.Shapes.{Command, command_of}
-use Rattle.eo_term.specs.Tree.{Tree, type_tree, bool_tree, truth, is_value, tree_eq}
+use Rattle.eo_term.specs.Tree.{Tree, type_tree, bool_tree, truth, is_value, is_tall, tree_eq}
+use Rattle.eo_term.specs.Growth.{Grows}
 use Rattle.eo_type.specs.Types.{TypeOutcome, Typed, Untyped, TypeRange, TypeTall, on_typed, typed_if, type_of}
 use Rattle.eo_term.specs.Terms.{Terms, tree_at}
 use Rattle.eo_eval.specs.Evaluation.{Outcome, eval0}
 use Rattle.eo_eval.specs.Faults.{value_or_fault}
+use Rattle.eo_eval.specs.Outcomes.{IsValueOf}
 use Rattle.eo_eval.specs.declared.evaluator.EvalRefused.{EvalRefused}
 use Rattle.eo_eval.specs.declared.evaluator.EvalRefused.TheVariants as eval
 use Rattle.eo_elab.specs.Meaning.{meaning}
@@ -28,10 +30,15 @@ use Rattle.eo_run.specs.declared.refused.Refused.TheVariants as refused
 use Rattle.eo_type.specs.Outcomes.{Answers}
 use Rattle.eo_type.specs.declared.refused.TypeRefused.{TypeRefused}
 use Rattle.eo_type.specs.declared.refused.TypeRefused.TheVariants as kind
-use Rattle.eo_run.specs.Stepping.{of_elab, of_eval, of_type, Refuses, GivesTerm, Does}
+use Rattle.eo_run.specs.Stepping.{of_elab, of_eval, of_type, of_fact, Refuses, GivesTerm, Does}
+use Rattle.std.proofs.lemmas.Bool.Decides.{nat_tests}
 use Rattle.eo_run.proofs.Exits.{at_exit}
-use Rattle.eo_run.specs.State.{State, context, with_assertion, with_fact, with_command, is_asserted, has_false, begin_reference, end_fault}
-use Rattle.eo_run.specs.Step.{is_in_reference, is_free_fact, truth_of, asserted_truth, evaluated, value, typed_or, typed, type_value, formula, assume, assert, by_command, uncounted, step}
+use Rattle.eo_proof.specs.Scopes.{Scopes, depth, has_false, is_live, scope_limit}
+use Rattle.eo_proof.specs.Outcomes.{Added, Pushed}
+use Rattle.eo_proof.specs.declared.facts.FactRefused.{FactRefused}
+use Rattle.eo_proof.specs.declared.facts.FactRefused.TheVariants as fact
+use Rattle.eo_run.specs.State.{State, context, with_assertion, with_fact, with_scope, with_command, is_asserted, is_in_scope, begin_reference, end_fault}
+use Rattle.eo_run.specs.Step.{is_in_reference, is_free_fact, truth_of, asserted_truth, evaluated, value, typed_or, typed, type_value, formula, assume, assume_push, assert, by_command, may_be_in_scope, scoped_command, uncounted, step}
 use Rattle.eo_run.specs.declared.Origin.{Origin}
 
 -- ---- the formulas of a reference file
@@ -89,6 +96,16 @@ module _ (st : State) (s : Sexp) where
 pub evaluated-is : (st : State) (t : Tree) (o : Outcome Tree) → eval0 st.signature t ≡ o → evaluated st t ≡ value_or_fault o
 unfolding evaluated
 evaluated-is st t o e = ap value_or_fault e
+
+-- a value stays one where the table grows
+pub value_later : (t u : Terms) (i : ℕ) → Grows t u → IsValueOf t i → IsValueOf u i
+value_later t u i grows is =
+    let same = sym (grows.now.tree i is.live) in
+    record {
+      live = omega (arith, is.live, grows.now.more_trees);
+      value = subst (λ (x : Tree). is_value x ≡ true) same is.value;
+      low = subst (λ (x : Tree). is_tall x ≡ false) same is.low;
+    }
 
 -- ---- formulas
 
@@ -211,11 +228,44 @@ module _ (st : State) (name : List ℕ) (s : Sexp) where
     unfolding assume ◌>>=◌ require
     assume-ok v h r a = ap by_free free ∙ ap after_formula h ∙ ap (after_reference v) r ∙ ap (after_test v) a
 
+-- ---- pushed assumptions
+
+pub is_less : (n m : ℕ) → nat_lt n m ≡ true → n < m
+is_less n m e = grind (arith, nat_tests, e)
+
+module _ (st : State) (name : List ℕ) (s : Sexp) where
+  abbrev pushed : Checked Tree → Checked State
+  pushed m = m >>= λ v. Ok (with_scope st name v)
+
+  abbrev push_free : Bool → Checked State
+  push_free b = require b Redeclared >>= λ _. pushed (formula st s)
+
+  abbrev push_few : Bool → Checked State
+  push_few b = require b ScopeDepth >>= λ _. push_free (is_free_fact st name)
+
+  pub push-deep : nat_lt (depth st.scopes) scope_limit ≡ false → assume_push st name s ≡ Err ScopeDepth
+  unfolding assume_push ◌>>=◌ require
+  push-deep e = ap push_few e
+
+  module _ (few : nat_lt (depth st.scopes) scope_limit ≡ true) where
+    pub push-redeclared : is_free_fact st name ≡ false → assume_push st name s ≡ Err Redeclared
+    unfolding assume_push ◌>>=◌ require
+    push-redeclared e = ap push_few few ∙ ap push_free e
+
+    module _ (free : is_free_fact st name ≡ true) where
+      pub push-fault : (fault : FaultName) → formula st s ≡ Err fault → assume_push st name s ≡ Err fault
+      unfolding assume_push ◌>>=◌ require
+      push-fault fault h = ap push_few few ∙ ap push_free free ∙ ap pushed h
+
+      pub push-ok : (v : Tree) → formula st s ≡ Ok v → assume_push st name s ≡ Ok (with_scope st name v)
+      unfolding assume_push ◌>>=◌ require
+      push-ok v h = ap push_few few ∙ ap push_free free ∙ ap pushed h
+
 -- ---- each command
 
 module _ (st : State) (from : Origin) (s : Sexp) (b : Bool) (e : b ≡ is_in_reference from) where
   abbrev by_shape : Checked Command → Checked State
-  by_shape m = m >>= by_command st from
+  by_shape m = m >>= scoped_command st from
 
   shaped : (m : Checked Command) → command_of b s ≡ m → uncounted st from s ≡ by_shape m
   unfolding uncounted
@@ -225,9 +275,21 @@ module _ (st : State) (from : Origin) (s : Sexp) (b : Bool) (e : b ≡ is_in_ref
   unfolding ◌>>=◌
   shape-fault name h = shaped (Err name) h
 
-  pub shape-ok : (k : Command) → command_of b s ≡ Ok k → uncounted st from s ≡ by_command st from k
+  pub shape-ok : (k : Command) → command_of b s ≡ Ok k → uncounted st from s ≡ scoped_command st from k
   unfolding ◌>>=◌
   shape-ok k h = shaped (Ok k) h
+
+module _ (st : State) (from : Origin) (k : Command) where
+  abbrev by_place : Bool → Checked State
+  by_place b = require b InScope >>= λ _. by_command st from k
+
+  pub scope-fault : (not (is_in_scope st) || may_be_in_scope k) ≡ false → scoped_command st from k ≡ Err InScope
+  unfolding scoped_command require ◌>>=◌
+  scope-fault e = ap by_place e
+
+  pub scope-ok : (not (is_in_scope st) || may_be_in_scope k) ≡ true → scoped_command st from k ≡ by_command st from k
+  unfolding scoped_command require ◌>>=◌
+  scope-ok e = ap by_place e
 
 module _ (st : State) (from : Origin) (s : Sexp) where
   pub step-fault : (name : FaultName) → uncounted st from s ≡ Err name → step st from s ≡ Err name
@@ -255,6 +317,18 @@ refuses_elab m (elab.Memory e) h = (tt, tt)
 -- want of memory to evaluate a term
 pub refuses_eval : {B : Type 0} (m : Checked B) (x : EvalRefused) → Refuses m (of_eval x)
 refuses_eval m (eval.Memory e) = (tt, tt)
+
+-- a fact is not refused where its name is free
+pub refuses_added : {B : Type 0} (m : Checked B) (x : FactRefused) (old new : Scopes) (name : List ℕ) (t : Tree) → is_live old name ≡ false → Added (Err x) old name t new → Refuses m (of_fact x)
+refuses_added m fact.Redeclared old new name t free h = absurd (true≢false (sym h ∙ free))
+refuses_added m fact.ScopeDepth old new name t free h = absurd h
+refuses_added m (fact.Memory e) old new name t free h = (tt, tt)
+
+-- nor is a scope where there are few
+pub refuses_pushed : {B : Type 0} (m : Checked B) (x : FactRefused) (old new : Scopes) (name : List ℕ) (t : Tree) → depth old < scope_limit → is_live old name ≡ false → Pushed (Err x) old name t new → Refuses m (of_fact x)
+refuses_pushed m fact.Redeclared old new name t few free h = absurd (true≢false (sym h.1 ∙ free))
+refuses_pushed m fact.ScopeDepth old new name t few free h = absurd (omega (arith, few, h))
+refuses_pushed m (fact.Memory e) old new name t few free h = (tt, tt)
 
 -- an answer for a term is one for what is the same
 pub gives-same : (h : Held) (r : Result ℕ Refused) (m n : Checked Tree) → m ≡ n → GivesTerm h r n → GivesTerm h r m
@@ -284,20 +358,25 @@ module _ (st : State) where
   unfolding begin_reference
   begin-ok e = ap by_reference e
 
-  abbrev by_end : Bool → Bool → Option FaultName
-  by_end r f = if not r then Some NoReference else (if not f then Some NoRefutation else None)
+  abbrev by_end : Bool → Bool → Bool → Option FaultName
+  by_end o r f = if o then Some ScopeOpen else (if not r then Some NoReference else (if not f then Some NoRefutation else None))
 
-  pub end-no_reference : st.has_reference ≡ false → end_fault st ≡ Some NoReference
+  pub end-in_scope : is_in_scope st ≡ true → end_fault st ≡ Some ScopeOpen
   unfolding end_fault
-  end-no_reference e = ap (λ r. by_end r (has_false st.facts)) e
+  end-in_scope o = ap (λ o. by_end o st.has_reference (has_false st.scopes)) o
 
-  pub end-no_refutation : st.has_reference ≡ true → has_false st.facts ≡ false → end_fault st ≡ Some NoRefutation
-  unfolding end_fault
-  end-no_refutation e f = ap (λ r. by_end r (has_false st.facts)) e ∙ ap (by_end true) f
+  module _ (o : is_in_scope st ≡ false) where
+    pub end-no_reference : st.has_reference ≡ false → end_fault st ≡ Some NoReference
+    unfolding end_fault
+    end-no_reference e = (λ i. by_end (o i) (e i) (has_false st.scopes))
 
-  pub end-correct : st.has_reference ≡ true → has_false st.facts ≡ true → end_fault st ≡ None
-  unfolding end_fault
-  end-correct e f = ap (λ r. by_end r (has_false st.facts)) e ∙ ap (by_end true) f
+    pub end-no_refutation : st.has_reference ≡ true → has_false st.scopes ≡ false → end_fault st ≡ Some NoRefutation
+    unfolding end_fault
+    end-no_refutation e f = (λ i. by_end (o i) (e i) (f i))
+
+    pub end-correct : st.has_reference ≡ true → has_false st.scopes ≡ true → end_fault st ≡ None
+    unfolding end_fault
+    end-correct e f = (λ i. by_end (o i) (e i) (f i))
 
 -- a type that is not found
 pub refuses_type : (st : State) (v : Tree) (t : Terms) (x : TypeRefused) → Answers t (Err x) (type_of st.signature v) → Refuses (typed st v) (of_type x)

@@ -37,7 +37,7 @@ pub record IsPlainJob (job : CheckJob) : Type 0 where
 -- An answer that this check may give. The file of a refusal is one of the paths.
 abbrev pub IsCheckAnswer : List (List ℕ) → Verdict → Type 0
 IsCheckAnswer paths answer.Correct = ⊤
-IsCheckAnswer paths answer.Incomplete = ⊥
+IsCheckAnswer paths answer.Incomplete = ⊤
 IsCheckAnswer paths (answer.Loaded commands) = ⊥
 IsCheckAnswer paths (answer.Refused fault) = IsSome (slice_get paths fault.place.file)
 IsCheckAnswer paths answer.ReadFault = ⊤

@@ -11,4 +11,6 @@ pub mod Judging
 pub mod Pieces
 pub mod Ids
 pub mod Held
+pub mod Beginning
 pub mod StateCode
+pub mod Using

@@ -1,26 +1,27 @@
 -- What a run holds between two commands.
-use Rattle.std.specs.Prelude.{ℕ, ◌+◌, ◌-◌, ◌^◌, Bool, true, false, not, if◌then◌else◌, List, [], ◌∷◌, ◌++◌, Option, Some, None, bytes_eq, min, Ok, Err}
+use Rattle.std.specs.Prelude.{ℕ, ◌+◌, ◌-◌, ◌^◌, Bool, true, false, not, nat_eq, if◌then◌else◌, List, [], ◌∷◌, ◌++◌, length, take, drop, Option, Some, None, min, Ok, Err}
 use Rattle.std.specs.List.{list_any}
 use Rattle.eo_base.specs.declared.FaultName.{FaultName}
-use Rattle.eo_base.specs.declared.FaultName.TheVariants.{NoReference, NoRefutation, SecondReference}
+use Rattle.eo_base.specs.declared.FaultName.TheVariants.{ScopeOpen, NoReference, NoRefutation, SecondReference}
 use Rattle.eo_base.specs.Checks.{Checked}
 use Rattle.eo_sig.specs.Signature.{Signature, SignatureEntry, Macro, first_signature}
-use Rattle.eo_term.specs.Tree.{Tree, tree_eq, truth}
+use Rattle.eo_term.specs.Tree.{Tree, tree_eq}
 use Rattle.eo_names.specs.Contexts.{Context, InProof}
-
--- a formula that is assumed, with its name
-pub record Fact : Type 0 where
-  pub name : List ℕ
-  pub formula : Tree
+use Rattle.eo_proof.specs.Scopes as proof
+use Rattle.eo_proof.specs.Scopes.{Scopes, no_facts, depth, outside, has_false}
 
 pub record State : Type 0 where
   pub signature : Signature
   pub macros : List Macro
+  -- how many macros there were before each open scope, the innermost first
+  pub outer_macros : List ℕ
   -- the formulas that the reference file asserts, each once
   pub assertions : List Tree
   pub has_reference : Bool
-  -- in the order in which they were made
-  pub facts : List Fact
+  -- the facts, in scopes
+  pub scopes : Scopes
+  -- whether a step used a rule that is marked as unproved
+  pub sorry : Bool
   -- whether the proof may declare no rules and programs
   pub closed : Bool
   -- how many commands were accepted, as far as it is counted
@@ -28,7 +29,7 @@ pub record State : Type 0 where
 
 unfoldable pub first_state : (closed : Bool) → State
 first_state closed =
-    record { signature = first_signature; macros = []; assertions = []; has_reference = false; facts = []; closed = closed; commands = 0 }
+    record { signature = first_signature; macros = []; outer_macros = []; assertions = []; has_reference = false; scopes = no_facts; sorry = false; closed = closed; commands = 0 }
 
 -- what names stand for in a proof
 abbrev pub context : State → Context
@@ -41,7 +42,21 @@ abbrev pub with_macro : State → Macro → State
 with_macro st m = record st { macros = st.macros ++ m ∷ [] }
 
 abbrev pub with_fact : State → List ℕ → Tree → State
-with_fact st name t = record st { facts = st.facts ++ record { name = name; formula = t } ∷ [] }
+with_fact st name t = record st { scopes = proof.with_fact st.scopes name t }
+
+-- a scope is opened with its assumption
+abbrev pub with_scope : State → List ℕ → Tree → State
+with_scope st name t = record st { scopes = proof.with_scope st.scopes name t; outer_macros = length st.macros ∷ st.outer_macros }
+
+-- the macros before the innermost scope
+abbrev pub macros_before : List ℕ → List Macro → List Macro
+macros_before [] ms = ms
+macros_before (n ∷ ns) ms = take n ms
+
+-- the innermost scope is closed, with all facts and macros that were made in it
+abbrev pub without_scope : State → State
+without_scope st =
+    record st { scopes = outside st.scopes; macros = macros_before st.outer_macros st.macros; outer_macros = drop 1 st.outer_macros }
 
 -- commands are counted up to 2^64 - 1
 abbrev pub with_command : State → State
@@ -54,12 +69,8 @@ is_asserted st t = list_any (tree_eq t) st.assertions
 abbrev pub with_assertion : State → Tree → State
 with_assertion st t = if is_asserted st t then st else record st { assertions = st.assertions ++ t ∷ [] }
 
--- whether a fact has the name
-abbrev pub is_live : List Fact → List ℕ → Bool
-is_live facts name = list_any (λ f. bytes_eq f.name name) facts
-
-abbrev pub has_false : List Fact → Bool
-has_false facts = list_any (λ f. tree_eq f.formula (truth false)) facts
+abbrev pub is_in_scope : State → Bool
+is_in_scope st = not (nat_eq (depth st.scopes) 0)
 
 -- a reference file begins, unless there is one
 unfoldable pub begin_reference : State → Checked State
@@ -68,6 +79,7 @@ begin_reference st = if st.has_reference then Err SecondReference else Ok (recor
 -- What is wrong at the end of a proof, if anything.
 unfoldable pub end_fault : State → Option FaultName
 end_fault st =
-    if not st.has_reference then Some NoReference
-    else if not (has_false st.facts) then Some NoRefutation
+    if is_in_scope st then Some ScopeOpen
+    else if not st.has_reference then Some NoReference
+    else if not (has_false st.scopes) then Some NoRefutation
     else None

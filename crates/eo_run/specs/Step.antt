@@ -1,20 +1,22 @@
 -- What each command does: the state after it, or its first fault.
-use Rattle.std.specs.Prelude.{ℕ, Bool, true, false, not, ◌&&◌, nat_eq, if◌then◌else◌, List, [], length, Option, Some, None, slice_get, option_and_then, Ok, Err, bytes_eq, codes}
+use Rattle.std.specs.Prelude.{ℕ, Bool, true, false, not, ◌&&◌, ◌||◌, nat_eq, nat_lt, if◌then◌else◌, List, [], ◌∷◌, length, Option, Some, None, slice_get, option_and_then, Ok, Err, bytes_eq, codes}
 use Rattle.std.specs.Option.{option_map_or}
-use Rattle.eo_base.specs.declared.FaultName.TheVariants.{Redeclared, ProofDeclares, IllTyped, NumberRange, TermHeight, UnknownSymbol, NotBool, NotAsserted, NoReference}
+use Rattle.eo_base.specs.declared.FaultName.TheVariants.{Redeclared, ProofDeclares, IllTyped, NumberRange, TermHeight, UnknownSymbol, UnknownRule, UnknownPremise, NotBool, NotAsserted, NoReference, InScope, NoScope, ScopeDepth}
 use Rattle.eo_base.specs.Checks.{Checked, Passed, ◌>>=◌, require, no_fault, value_or}
 use Rattle.eo_sexp.specs.Sexp.{Sexp}
 use Rattle.eo_lit.specs.declared.LiteralClass.{LiteralClass}
-use Rattle.eo_sig.specs.Signature.{IsConstant, IsProgram, IsLiteralType, Attribute, Plain, Constant, Macro, Program, Named, NamesConstant, NamesMacro, lookup, constant_at, is_reserved, constant_fault, program_fault, literal_type_fault}
+use Rattle.eo_sig.specs.Signature.{IsConstant, IsProgram, IsRule, IsLiteralType, Attribute, Plain, Constant, Macro, Program, Rule, Named, NamesConstant, NamesMacro, lookup, constant_at, rule_at, rule_named, is_reserved, constant_fault, program_fault, rule_fault, literal_type_fault}
 use Rattle.eo_shape.specs.Words.{symbol_of}
-use Rattle.eo_shape.specs.Shapes.{ParameterShape, AttributeShape, CaseShape, Command, DeclareConst, DeclareFun, DeclareSort, DeclareParameterized, DeclareLiterals, Define, DefineProgram, Assume, Assert, command_of}
+use Rattle.eo_shape.specs.Shapes.{ParameterShape, AttributeShape, ProgramShape, RuleShape, StepShape, Command, DeclareConst, DeclareFun, DeclareSort, DeclareParameterized, DeclareLiterals, Define, DefineProgram, DeclareRule, Assume, AssumePush, Step, StepPop, Assert, command_of}
 use Rattle.eo_term.specs.Tree.{Tree, type_tree, bool_tree, truth, tree_eq}
 use Rattle.eo_type.specs.Types.{TypeOutcome, Typed, Untyped, TypeRange, TypeTall, value_type}
 use Rattle.eo_eval.specs.Evaluation.{eval0}
 use Rattle.eo_eval.specs.Faults.{value_or_fault}
 use Rattle.eo_elab.specs.Meaning.{meaning}
-use Rattle.eo_elab.specs.Declarations.{is_reference_name, declared_const, declared_fun, declared_sort, declared_parameterized, declared_literals, defined, declared_program}
-use Rattle.eo_run.specs.State.{State, context, with_entry, with_macro, with_assertion, with_fact, with_command, is_asserted, is_live}
+use Rattle.eo_elab.specs.Declarations.{is_reference_name, declared_const, declared_fun, declared_sort, declared_parameterized, declared_literals, defined, declared_program, declared_rule}
+use Rattle.eo_proof.specs.Scopes.{depth, scope_limit, is_live, is_free_outside, fact_named, innermost_hypothesis}
+use Rattle.eo_rule.specs.Uses.{Use, conclusion}
+use Rattle.eo_run.specs.State.{State, context, with_entry, with_macro, with_assertion, with_fact, with_scope, without_scope, with_command, is_asserted, is_in_scope}
 use Rattle.eo_run.specs.declared.Origin.{Origin}
 use Rattle.eo_run.specs.declared.Origin.TheVariants as origin
 
@@ -50,6 +52,20 @@ typed_or TypeTall = Err TermHeight
 unfoldable pub typed : State → Tree → Checked Tree
 typed st v = typed_or (value_type st.signature v)
 
+-- the values of terms in order
+unfoldable pub values : State → List Sexp → Checked (List Tree)
+values st [] = Ok []
+values st (s ∷ ss) = do
+  v ← value st s
+  vs ← values st ss
+  Ok (v ∷ vs)
+
+abbrev pub optional_value : State → Option Sexp → Checked (Option Tree)
+optional_value st None = Ok None
+optional_value st (Some s) = do
+  v ← value st s
+  Ok (Some v)
+
 -- the value of a term, which is a formula
 unfoldable pub formula : State → Sexp → Checked Tree
 formula st s = do
@@ -59,7 +75,7 @@ formula st s = do
   Ok v
 
 abbrev pub is_free_fact : State → List ℕ → Bool
-is_free_fact st name = not (is_reserved name) && not (is_live st.facts name)
+is_free_fact st name = not (is_reserved name) && not (is_live st.scopes name)
 
 -- ---- constants
 
@@ -152,7 +168,7 @@ define st name shapes body = do
   m ← defined (context st) name shapes body
   added_macro st m
 
--- ---- programs
+-- ---- programs and rules
 
 -- a closed proof declares no rules and programs
 abbrev pub may_declare : State → Origin → Checked Passed
@@ -164,15 +180,31 @@ checked_program st p = do
   _ ← no_fault (program_fault p)
   Ok (with_entry st (IsProgram p))
 
-abbrev pub added_program : State → List ℕ → List ParameterShape → List Sexp → Sexp → List CaseShape → Checked State
-added_program st name shapes inputs output cases = do
-  p ← declared_program (context st) name shapes inputs output cases
+abbrev pub added_program : State → ProgramShape → Checked State
+added_program st shape = do
+  p ← declared_program (context st) shape
   checked_program st p
 
-unfoldable pub define_program : State → Origin → List ℕ → List ParameterShape → List Sexp → Sexp → List CaseShape → Checked State
-define_program st from name shapes inputs output cases = do
+unfoldable pub define_program : State → Origin → ProgramShape → Checked State
+define_program st from shape = do
   _ ← may_declare st from
-  added_program st name shapes inputs output cases
+  added_program st shape
+
+-- the rule is added, unless its declaration has a fault
+abbrev pub checked_rule : State → Rule → Checked State
+checked_rule st r = do
+  _ ← no_fault (rule_fault st.signature r)
+  Ok (with_entry st (IsRule r))
+
+abbrev pub added_rule : State → RuleShape → Checked State
+added_rule st shape = do
+  r ← declared_rule (context st) shape
+  checked_rule st r
+
+unfoldable pub declare_rule : State → Origin → RuleShape → Checked State
+declare_rule st from shape = do
+  _ ← may_declare st from
+  added_rule st shape
 
 -- ---- assumptions and assertions
 
@@ -184,6 +216,14 @@ assume st name s = do
   _ ← require st.has_reference NoReference
   _ ← require (is_asserted st v) NotAsserted
   Ok (with_fact st name v)
+
+-- a scope is opened, whose first fact is its assumption
+unfoldable pub assume_push : State → List ℕ → Sexp → Checked State
+assume_push st name s = do
+  _ ← require (nat_lt (depth st.scopes) scope_limit) ScopeDepth
+  _ ← require (is_free_fact st name) Redeclared
+  v ← formula st s
+  Ok (with_scope st name v)
 
 -- what a word says as a formula
 abbrev pub truth_of : List ℕ → Option Bool
@@ -198,6 +238,65 @@ assert st s = do
   b ← asserted_truth s
   Ok (with_assertion st (truth b))
 
+-- ---- steps
+
+-- the facts of these names
+unfoldable pub premises : State → List (List ℕ) → Checked (List Tree)
+premises st [] = Ok []
+premises st (name ∷ names) = do
+  t ← value_or UnknownPremise (fact_named st.scopes name)
+  ts ← premises st names
+  Ok (t ∷ ts)
+
+-- what a rule is used on, with an assumption or without one
+unfoldable pub use_of : State → Option Tree → StepShape → Checked Use
+use_of st assumed s = do
+  ps ← premises st s.premises
+  stated ← optional_value st s.stated
+  arguments ← values st s.arguments
+  Ok (record { assumed = assumed; premises = ps; arguments = arguments; stated = stated })
+
+-- what a rule concludes, and whether the rule is marked as unproved
+pub record Concluded : Type 0 where
+  pub formula : Tree
+  pub sorry : Bool
+
+-- whether the rule of this number is marked as unproved
+abbrev pub is_sorry : State → ℕ → Bool
+is_sorry st number = option_map_or (λ r. r.sorry) (rule_at st.signature number) false
+
+-- what the rule of this number concludes
+unfoldable pub concluded_by : State → ℕ → Option Tree → StepShape → Checked Concluded
+concluded_by st number assumed s = do
+  given ← use_of st assumed s
+  f ← conclusion st.signature number given
+  Ok (record { formula = f; sorry = is_sorry st number })
+
+unfoldable pub concluded : State → Option Tree → StepShape → Checked Concluded
+concluded st assumed s = do
+  number ← value_or UnknownRule (rule_named st.signature s.rule)
+  concluded_by st number assumed s
+
+abbrev pub with_conclusion : State → List ℕ → Concluded → State
+with_conclusion st name k = record (with_fact st name k.formula) { sorry = st.sorry || k.sorry }
+
+unfoldable pub step_plain : State → StepShape → Checked State
+step_plain st s = do
+  _ ← require (is_free_fact st s.name) Redeclared
+  k ← concluded st None s
+  Ok (with_conclusion st s.name k)
+
+abbrev pub is_free_outer_fact : State → List ℕ → Bool
+is_free_outer_fact st name = not (is_reserved name) && is_free_outside st.scopes name
+
+-- the innermost scope is closed; the name is free outside it, and the fact is one of the scope around it
+unfoldable pub step_pop : State → StepShape → Checked State
+step_pop st s = do
+  a ← value_or NoScope (innermost_hypothesis st.scopes)
+  _ ← require (is_free_outer_fact st s.name) Redeclared
+  k ← concluded st (Some a) s
+  Ok (with_conclusion (without_scope st) s.name k)
+
 -- ---- each command
 
 abbrev pub by_command : State → Origin → Command → Checked State
@@ -207,15 +306,33 @@ by_command st from (DeclareSort name arity) = declare_sort st name arity
 by_command st from (DeclareParameterized name shapes type shape) = declare_parameterized st name shapes type shape
 by_command st from (DeclareLiterals class type) = declare_literals st class type
 by_command st from (Define name shapes body) = define st name shapes body
-by_command st from (DefineProgram name shapes inputs output cases) = define_program st from name shapes inputs output cases
+by_command st from (DefineProgram shape) = define_program st from shape
+by_command st from (DeclareRule shape) = declare_rule st from shape
 by_command st from (Assume name s) = assume st name s
+by_command st from (AssumePush name s) = assume_push st name s
+by_command st from (Step shape) = step_plain st shape
+by_command st from (StepPop shape) = step_pop st shape
 by_command st from (Assert s) = assert st s
 
--- its shape, and then the checks of its own
+-- commands that may stand in a scope
+abbrev pub may_be_in_scope : Command → Bool
+may_be_in_scope (Define name shapes body) = true
+may_be_in_scope (AssumePush name s) = true
+may_be_in_scope (Step shape) = true
+may_be_in_scope (StepPop shape) = true
+may_be_in_scope command = false
+
+-- the rule on scopes, and then the checks of its own
+unfoldable pub scoped_command : State → Origin → Command → Checked State
+scoped_command st from command = do
+  _ ← require (not (is_in_scope st) || may_be_in_scope command) InScope
+  by_command st from command
+
+-- its shape, the rule on scopes, and then the checks of its own
 unfoldable pub uncounted : State → Origin → Sexp → Checked State
 uncounted st from s = do
   command ← command_of (is_in_reference from) s
-  by_command st from command
+  scoped_command st from command
 
 -- One command, which is counted where it is accepted.
 unfoldable pub step : State → Origin → Sexp → Checked State

@@ -8,11 +8,15 @@ use Rattle.eo_names.specs.declared.refused.ElabRefused.{ElabRefused}
 use Rattle.eo_names.specs.declared.refused.ElabRefused.TheVariants as elab
 use Rattle.eo_sig.specs.declared.refused.SigRefused.{SigRefused}
 use Rattle.eo_sig.specs.declared.refused.SigRefused.TheVariants as sig
+use Rattle.eo_proof.specs.declared.facts.FactRefused.{FactRefused}
+use Rattle.eo_proof.specs.declared.facts.FactRefused.TheVariants as fact
 use Rattle.eo_type.specs.declared.refused.TypeRefused.{TypeRefused}
 use Rattle.eo_type.specs.declared.refused.TypeRefused.TheVariants as kind
 use Rattle.eo_eval.specs.declared.evaluator.EvalRefused.{EvalRefused}
 use Rattle.eo_eval.specs.declared.evaluator.EvalRefused.TheVariants as eval
 use Rattle.eo_eval.specs.declared.evaluator.Outcome as code_outcome
+use Rattle.eo_rule.specs.declared.refused.RuleRefused.{RuleRefused}
+use Rattle.eo_rule.specs.declared.refused.RuleRefused.TheVariants as rule
 use Rattle.eo_eval.specs.Faults.{value_or_fault}
 use Rattle.eo_eval.specs.Outcomes.{MayBeValue}
 use Rattle.eo_eval.specs.Reading.{outcome_in}
@@ -59,6 +63,17 @@ of_type (kind.Memory e) = refused.Memory e
 -- want of memory to evaluate a term
 abbrev pub of_eval : EvalRefused → Refused
 of_eval (eval.Memory e) = refused.Memory e
+
+-- the refusal of a fact or a scope
+abbrev pub of_fact : FactRefused → Refused
+of_fact fact.Redeclared = refused.Fault fault.Redeclared
+of_fact fact.ScopeDepth = refused.Fault fault.ScopeDepth
+of_fact (fact.Memory e) = refused.Memory e
+
+-- the refusal of a use of a rule
+abbrev pub of_rule : RuleRefused → Refused
+of_rule (rule.Fault name) = refused.Fault name
+of_rule (rule.Memory e) = refused.Memory e
 
 -- the fault that a refusal tells; want of memory tells none, nor does an ended session
 abbrev pub told : Refused → Option FaultName
@@ -107,7 +122,8 @@ Steps (Err (refused.Fault name)) m old new = (old.ended ≡ false) × (m ≡ Err
 Steps (Err refused.Ended) m old new = (old.ended ≡ true) × (new.ended ≡ true)
 Steps (Err (refused.Memory e)) m old new = (old.ended ≡ false) × (new.ended ≡ true)
 
--- what is wrong at the end, if anything
-abbrev pub EndsWith : Option FaultName → EndAnswer → Type 0
-EndsWith fault end.Correct = fault ≡ None
-EndsWith fault (end.Fault name) = fault ≡ Some name
+-- what is wrong at the end, if anything, or whether a step used a rule that is marked as unproved
+abbrev pub EndsWith : Option FaultName → (sorry : Bool) → EndAnswer → Type 0
+EndsWith fault sorry end.Correct = (fault ≡ None) × (sorry ≡ false)
+EndsWith fault sorry end.Incomplete = (fault ≡ None) × (sorry ≡ true)
+EndsWith fault sorry (end.Fault name) = fault ≡ Some name

@@ -19,16 +19,18 @@ const PIECE: usize = 65_536;
 /// Checks the job's proof against its reference file.
 ///
 /// The reference file holds `(assert S)` alone, S being `true` or `false`, and the proof declares
-/// constants, types of literals, macros and programs, and assumes terms. Each file is read in
-/// pieces, and each command is checked as it comes: first those of the reference file, and then
-/// those of the proof.
+/// constants, types of literals, macros, programs and rules, assumes terms, and derives others by
+/// rules. Each file is read in pieces, and each command is checked as it comes: first those of the
+/// reference file, and then those of the proof.
 ///
 /// - `Refused` with `FileAbsent`, at a file's first byte: it is not there.
 /// - `Refused` with a fault of the text, at its place: `BadByte`, `Unclosed`, `ExtraClose`,
 ///   `TokenLong`, `CommandLong`, `Nesting`, `Width` or `FileLong`, once each command before it is
 ///   accepted.
 /// - `Refused` at a command's first byte, with the fault that [`Session::command`] answers.
-/// - `Refused` with `NoRefutation`, behind the last byte of the proof: `false` is no fact.
+/// - `Refused` behind the last byte of the proof, with `ScopeOpen`: a scope is open, or
+///   `NoRefutation`: `false` is no fact.
+/// - `Incomplete`: none of these, but a step used a rule that is marked as unproved.
 /// - `Correct`: none of these.
 /// - `ReadFault`: a call of the library failed.
 /// - `OutOfMemory`: there was no memory left.
@@ -156,6 +158,7 @@ fn check_proof<L: Library>(
         Err(verdict) => verdict,
         Ok(place) => match session.end() {
             EndAnswer::Correct => Verdict::Correct,
+            EndAnswer::Incomplete => Verdict::Incomplete,
             EndAnswer::Fault(name) => Verdict::Refused(Fault { name, place }),
         },
     }

@@ -1,11 +1,12 @@
 //! Commands that declare.
-ghost use Rattle.std.specs.Prelude.{◌≡◌, ◌<◌, Some, List, [], length, not, ◌&&◌};
+ghost use Rattle.std.specs.Prelude.{◌≡◌, ◌<◌, Some, List, [], length, true, not, ◌&&◌};
 ghost use Rattle.eo_sig.specs.Reading.{read_attribute, read_constant, read_macro, read_program, read_named};
 ghost use Rattle.eo_sig.specs.Reading.{ConstBelow, MacroBelow, ProgramBelow, IsFree, IsWithin};
-ghost use Rattle.eo_shape.specs.Reading.{read_attribute as shape_of};
+ghost use Rattle.eo_shape.specs.Reading.{read_attribute as shape_of, read_program as program_of};
 ghost use Rattle.eo_term.specs.Tree.{Tree};
 ghost use Rattle.eo_term.specs.Growth.{tree_in};
 ghost use Rattle.eo_elab.specs.Declaring.{MayRepeat, MayBeMacro};
+ghost use Rattle.eo_elab.specs.Fitting.{macro_is_bound};
 ghost use Rattle.eo_elab.specs.Worlds.{context_in};
 ghost use Rattle.eo_run.specs.Held.{state_of, IsWhole};
 ghost use Rattle.eo_run.specs.Step as step;
@@ -17,10 +18,10 @@ use crate::{Origin, Refused};
 use eo_base::FaultName;
 use eo_elab::{
     declared_const, declared_fun, declared_literals, declared_parameterized, declared_program,
-    declared_sort, defined,
+    declared_sort, defined, ordering_law,
 };
 use eo_sexp::{Children, Sexp};
-use eo_shape::{AttributeShape, CaseShapes, ParameterShapes};
+use eo_shape::{AttributeShape, ParameterShapes, ProgramShape};
 use eo_sig::{Attribute, ConstDecl, Entry, LiteralClass, MacroDecl, ProgramDecl};
 use eo_term::Id;
 
@@ -131,6 +132,7 @@ impl Held {
         ensures whole { IsWhole self.new }
         ensures does { Does result (step.define (state_of self.old) name.now params.now body.now) self.new }
     {
+        ordering_law();
         let d = defined(
             self.alloc,
             name,
@@ -146,52 +148,32 @@ impl Held {
     pub(crate) fn define_program(
         &mut self,
         from: Origin,
-        name: &[u8],
-        params: &ParameterShapes<'_>,
-        inputs: &Children<'_>,
-        output: &Sexp<'_>,
-        cases: &CaseShapes<'_>,
+        shape: &ProgramShape<'_>,
     ) -> Result<(), Refused>
         requires { IsWhole self.old }
         ensures whole { IsWhole self.new }
-        ensures does { Does result (define_program (state_of self.old) from name.now params.now inputs.now output.now cases.now) self.new }
+        ensures does { Does result (define_program (state_of self.old) from (program_of shape.now)) self.new }
     {
         if !self.may_declare(from) {
             return Err(Refused::Fault(FaultName::ProofDeclares));
         }
-        self.declare_program(name, params, inputs, output, cases)
+        self.declare_program(shape)
     }
 
-    // Whether rules and programs may be declared there.
-    fn may_declare(&self, from: Origin) -> bool
+    /// Whether rules and programs may be declared there.
+    pub(crate) fn may_declare(&self, from: Origin) -> bool
         ensures { result ≡ not ((state_of self.now).closed && is_in_proof from) }
     {
         !(self.closed && from.is_proof())
     }
 
     // Defines a program, which may be declared here.
-    fn declare_program(
-        &mut self,
-        name: &[u8],
-        params: &ParameterShapes<'_>,
-        inputs: &Children<'_>,
-        output: &Sexp<'_>,
-        cases: &CaseShapes<'_>,
-    ) -> Result<(), Refused>
+    fn declare_program(&mut self, shape: &ProgramShape<'_>) -> Result<(), Refused>
         requires { IsWhole self.old }
         ensures whole { IsWhole self.new }
-        ensures does { Does result (added_program (state_of self.old) name.now params.now inputs.now output.now cases.now) self.new }
+        ensures does { Does result (added_program (state_of self.old) (program_of shape.now)) self.new }
     {
-        let d = declared_program(
-            self.alloc,
-            name,
-            params,
-            inputs,
-            output,
-            cases,
-            &self.signature,
-            &mut self.table,
-        )?;
+        let d = declared_program(self.alloc, shape, &self.signature, &mut self.table)?;
         self.add_program(d)
     }
 
@@ -268,6 +250,7 @@ impl Held {
         requires whole { IsWhole self.old }
         requires below { MacroBelow (length self.old.table.trees) d }
         requires may { MayBeMacro (context_in self.old.table self.old.signature) (read_macro self.old.table.trees d) }
+        requires bound { macro_is_bound (read_macro self.old.table.trees d) ≡ true }
         ensures whole { IsWhole self.new }
         ensures does { Does result (step.added_macro (state_of self.old) (read_macro self.old.table.trees d)) self.new }
     {

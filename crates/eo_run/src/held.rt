@@ -1,27 +1,31 @@
 //! What a session holds between two commands.
-ghost use Rattle.std.specs.Prelude.{◌≡◌, ◌<◌, [], Ok, not, if◌then◌else◌, length, IfOk, IfErr};
+ghost use Rattle.std.specs.Prelude.{◌≡◌, ◌<◌, [], false, Ok, not, if◌then◌else◌, length, IfOk, IfErr};
 ghost use Rattle.eo_term.specs.Tree.{truth as tree_of_truth};
 ghost use Rattle.eo_term.specs.Growth.{tree_in};
 ghost use Rattle.eo_elab.specs.Meaning.{meaning};
 ghost use Rattle.eo_type.specs.Known.{type_at};
 ghost use Rattle.eo_type.specs.Outcomes.{Answers};
+ghost use Rattle.eo_eval.specs.Outcomes.{IsValueOf};
+ghost use Rattle.eo_proof.specs.Scopes as proof;
 ghost use Rattle.eo_run.specs.Held.{state_of, IsWhole, Keeps};
-ghost use Rattle.eo_run.specs.State.{first_state, context, is_asserted, has_false, with_assertion};
+ghost use Rattle.eo_run.specs.State.{context, is_asserted, is_in_scope, with_assertion, with_fact};
 ghost use Rattle.eo_run.specs.Step.{is_free_fact, value, typed, formula, assume as assumed, assert as asserted, asserted_truth};
 ghost use Rattle.eo_run.specs.Stepping.{GivesTerm, GivesKind, Does};
 
 use crate::Refused;
 use crate::assertions::Assertions;
-use crate::facts::Facts;
+use crate::marks::Marks;
 use eo_base::FaultName;
 use eo_elab::{Locals, term};
 use eo_eval::Evaluator;
+use eo_pattern::Subst;
+use eo_proof::Facts;
 use eo_sexp::Sexp;
 use eo_shape::symbol;
 use eo_sig::{Signature, is_reserved};
 use eo_term::{FALSE, Id, TRUE, Table};
 use eo_type::{TypeRefused, Types, is_constant};
-use std::alloc::{AllocError, Global};
+use std::alloc::Global;
 
 /// The number of the constant `Type`.
 pub(crate) const TYPE_CONSTANT: usize = 0;
@@ -38,11 +42,18 @@ pub(crate) struct Held {
     /// The types that were found.
     pub(crate) types: Types,
     pub(crate) evaluator: Evaluator,
+    /// The assignment by which rules are used.
+    pub(crate) subst: Subst,
     /// What the reference file asserts.
     pub(crate) assertions: Assertions,
     /// Whether there is a reference file.
     pub(crate) has_reference: bool,
+    /// The facts, in scopes.
     pub(crate) facts: Facts,
+    /// Which macros were there before each open scope.
+    pub(crate) marks: Marks,
+    /// Whether a step used a rule that is marked as unproved.
+    pub(crate) sorry: bool,
     /// Whether the proof may declare no rules and programs.
     pub(crate) closed: bool,
     /// How many commands were accepted, as far as it is counted.
@@ -50,30 +61,6 @@ pub(crate) struct Held {
 }
 
 impl Held {
-    /// What is held before the first command.
-    pub(crate) fn new(alloc: Global, closed: bool) -> Result<Held, AllocError>
-        ensures whole { IfOk result IsWhole }
-        ensures state { IfOk result (λ h. state_of h ≡ first_state closed) }
-    {
-        let table = Table::new(alloc)?;
-        let signature = Signature::new(alloc)?;
-        let types = Types::new(alloc)?;
-        let evaluator = Evaluator::new(alloc)?;
-        types.laws();
-        Ok(Held {
-            alloc,
-            table,
-            signature,
-            types,
-            evaluator,
-            assertions: Assertions::new(alloc),
-            has_reference: false,
-            facts: Facts::new(alloc),
-            closed,
-            commands: 0,
-        })
-    }
-
     /// Adds a formula that is asserted to the facts, by a name that is free.
     pub(crate) fn assume(&mut self, name: &[u8], formula: &Sexp<'_>) -> Result<(), Refused>
         requires { IsWhole self.old }
@@ -90,7 +77,18 @@ impl Held {
         if !self.is_asserted(value) {
             return Err(Refused::Fault(FaultName::NotAsserted));
         }
-        self.facts.add(name, value)?;
+        self.add_fact(name, value)
+    }
+
+    /// Adds a value to the facts of the innermost scope, by a name that no fact has.
+    pub(crate) fn add_fact(&mut self, name: &[u8], formula: Id) -> Result<(), Refused>
+        requires whole { IsWhole self.old }
+        requires value { IsValueOf self.old.table formula }
+        requires free { proof.is_live (state_of self.old).scopes name.now ≡ false }
+        ensures whole { IsWhole self.new }
+        ensures does { Does result (Ok (with_fact (state_of self.old) name.now (tree_in self.old.table formula))) self.new }
+    {
+        self.facts.add(name, formula)?;
         Ok(())
     }
 
@@ -115,20 +113,37 @@ impl Held {
         Ok(())
     }
 
-    /// Whether `false` is a fact.
+    /// Whether `false` is a fact outside all scopes.
     pub(crate) fn refutes(&self) -> bool
         requires { IsWhole self.now }
-        ensures { result ≡ has_false (state_of self.now).facts }
+        ensures { result ≡ proof.has_false (state_of self.now).scopes }
     {
         self.table.laws();
-        self.facts.refutes()
+        self.facts.has_false()
     }
 
-    // Whether no fact may get the name: it is reserved, or a fact has it.
-    fn is_taken(&self, name: &[u8]) -> bool
+    /// Whether a scope is open.
+    pub(crate) fn is_in_scope(&self) -> bool
+        ensures { result ≡ is_in_scope (state_of self.now) }
+    {
+        self.facts.depth() != 0
+    }
+
+    /// Whether no fact may get the name: it is reserved, or a fact has it.
+    pub(crate) fn is_taken(&self, name: &[u8]) -> bool
         ensures { not result ≡ is_free_fact (state_of self.now) name.now }
     {
-        is_reserved(name) || self.facts.has(name)
+        is_reserved(name) || self.has_fact(name)
+    }
+
+    // Whether a fact has the name.
+    fn has_fact(&self, name: &[u8]) -> bool
+        ensures { result ≡ proof.is_live (state_of self.now).scopes name.now }
+    {
+        match self.facts.find(name) {
+            Ok(_) => true,
+            Err(_) => false,
+        }
     }
 
     // Whether the reference file asserts the formula.
@@ -141,10 +156,11 @@ impl Held {
         self.assertions.has(formula)
     }
 
-    // The value of a term, which is a formula.
-    fn formula(&mut self, s: &Sexp<'_>) -> Result<Id, Refused>
+    /// The value of a term, which is a formula.
+    pub(crate) fn formula(&mut self, s: &Sexp<'_>) -> Result<Id, Refused>
         requires { IsWhole self.old }
         ensures gives { GivesTerm self.new result (formula (state_of self.old) s.now) }
+        ensures value { IfOk result (IsValueOf self.new.table) }
         ensures keeps { Keeps self.old self.new }
     {
         let value = self.value(s)?;
@@ -183,10 +199,11 @@ impl Held {
         ty
     }
 
-    // The value of what a term means.
-    fn value(&mut self, s: &Sexp<'_>) -> Result<Id, Refused>
+    /// The value of what a term means.
+    pub(crate) fn value(&mut self, s: &Sexp<'_>) -> Result<Id, Refused>
         requires { IsWhole self.old }
         ensures gives { GivesTerm self.new result (value (state_of self.old) s.now) }
+        ensures value { IfOk result (IsValueOf self.new.table) }
         ensures keeps { Keeps self.old self.new }
     {
         let id = self.meant(s)?;

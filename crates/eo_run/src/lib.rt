@@ -1,19 +1,25 @@
 //! One check, from the files to the verdict and the line that is printed of it.
 //!
 //! A check has a reference file of assertions of `true` or `false`, and a proof that declares
-//! constants, macros and programs and assumes terms, which are evaluated.
+//! constants, macros, programs and rules, assumes terms, which are evaluated, and derives others by
+//! rules, in scopes.
 #![tactic(auto)]
 
 mod assertions;
+mod beginning;
 mod checking;
 mod declaring;
 mod evaluating;
-mod facts;
 mod held;
+mod marks;
+mod premises;
 mod printing;
 mod reading;
 mod refused;
+mod rules;
+mod scopes;
 mod session;
+mod steps;
 
 pub use checking::check_files;
 use eo_base::{Fault, Text};

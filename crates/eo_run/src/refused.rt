@@ -2,6 +2,8 @@
 use eo_base::FaultName;
 use eo_elab::ElabRefused;
 use eo_eval::EvalRefused;
+use eo_proof::FactRefused;
+use eo_rule::RuleRefused;
 use eo_shape::ShapeRefused;
 use eo_sig::SigRefused;
 use eo_type::TypeRefused;
@@ -105,6 +107,21 @@ impl From<EvalRefused> for Refused {
     }
 }
 
+impl From<FactRefused> for Refused {
+    ghost use Rattle.std.specs.Prelude.{◌≡◌};
+    ghost use Rattle.eo_run.specs.Stepping.{of_fact};
+
+    ghost from_gives = { λ e r. r ≡ of_fact e };
+
+    fn from(e: FactRefused) -> Refused {
+        match e {
+            FactRefused::Redeclared => Refused::Fault(FaultName::Redeclared),
+            FactRefused::ScopeDepth => Refused::Fault(FaultName::ScopeDepth),
+            FactRefused::Memory(e) => Refused::Memory(e),
+        }
+    }
+}
+
 impl From<TypeRefused> for Refused {
     ghost use Rattle.std.specs.Prelude.{◌≡◌};
     ghost use Rattle.eo_run.specs.Stepping.{of_type};
@@ -116,6 +133,20 @@ impl From<TypeRefused> for Refused {
             TypeRefused::NumberRange => Refused::Fault(FaultName::NumberRange),
             TypeRefused::Tall => Refused::Fault(FaultName::TermHeight),
             TypeRefused::Memory(e) => Refused::Memory(e),
+        }
+    }
+}
+
+impl From<RuleRefused> for Refused {
+    ghost use Rattle.std.specs.Prelude.{◌≡◌};
+    ghost use Rattle.eo_run.specs.Stepping.{of_rule};
+
+    ghost from_gives = { λ e r. r ≡ of_rule e };
+
+    fn from(e: RuleRefused) -> Refused {
+        match e {
+            RuleRefused::Fault(name) => Refused::Fault(name),
+            RuleRefused::Memory(e) => Refused::Memory(e),
         }
     }
 }

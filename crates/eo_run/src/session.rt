@@ -1,10 +1,11 @@
 //! A run between two commands.
-ghost use Rattle.std.specs.Prelude.{◌≡◌, ◌≢◌, false, true, IfOk, Err};
+ghost use Rattle.std.specs.Prelude.{◌≡◌, ◌≢◌, false, true, not, ◌||◌, IfOk, Err};
 ghost use Rattle.eo_base.specs.declared.FaultName.TheVariants.{FileAbsent};
 ghost use Rattle.eo_run.specs.declared.refused.Refused.TheVariants.{Fault};
 ghost use Rattle.eo_run.specs.Held.{state_of, IsWhole};
-ghost use Rattle.eo_run.specs.State.{first_state, begin_reference, end_fault};
-ghost use Rattle.eo_run.specs.Step.{is_in_proof, is_in_reference, by_command, uncounted, step};
+ghost use Rattle.eo_run.specs.State.{first_state, begin_reference, end_fault, is_in_scope};
+ghost use Rattle.eo_run.specs.Step.{is_in_proof, is_in_reference, by_command, scoped_command, uncounted, step};
+ghost use Rattle.eo_run.specs.Step as definition;
 ghost use Rattle.eo_shape.specs.Reading.{read_command};
 ghost use Rattle.eo_run.specs.Stepping.{Does, Steps, EndsWith};
 
@@ -41,8 +42,10 @@ impl Origin {
 /// What the check at the end of a proof answers.
 #[derive(Clone, Copy, Debug, PartialEq, Eq)]
 pub enum EndAnswer {
-    /// `false` is a fact.
+    /// `false` is a fact, and every step used a proved rule.
     Correct,
+    /// `false` is a fact, and a step used a rule that is marked as unproved.
+    Incomplete,
     /// What is wrong.
     Fault(FaultName),
 }
@@ -99,7 +102,9 @@ impl Session {
     }
 
     /// Checks a command, and does what it says. A fault is that of the command's shape
-    /// (`BadCommand`, `UnknownCommand`), and then the first of its own checks, in this order:
+    /// (`BadCommand`, `UnknownCommand`), then `InScope`: a scope is open, and the command is none
+    /// of `define`, `assume-push`, `step` and `step-pop`; and then the first of its own checks, in
+    /// this order:
     ///
     /// - `declare-const`, `declare-fun`, `declare-sort`: `Redeclared`; the terms; `BadPattern`; the
     ///   evaluation of the type, whose value is what is declared; `IllTyped`: the type of the value
@@ -113,9 +118,20 @@ impl Session {
     /// - `program`: `ProofDeclares`: the session is closed, and the command stands in the proof;
     ///   `Redeclared`; `Parameters`; the terms; `BadPattern`: a pattern holds an operator;
     ///   `UnboundParam`: a body uses a parameter that the patterns of its case lack.
+    /// - `declare-rule`: `ProofDeclares`, as of `program`; `Redeclared`: a rule has the name, or it
+    ///   is reserved; `Parameters`; the terms; `BadPattern`: a pattern holds an operator, or nothing
+    ///   joins the premises; `UnboundParam`: the requirements or the conclusion use a parameter that
+    ///   gets no value.
     /// - `assume`: `Redeclared`: a fact has the name, or it is reserved; the term; its evaluation,
     ///   whose value is the formula; `IllTyped`, `NumberRange`, `TermHeight`: it has no type that is
     ///   a value; `NotBool`: its type is not `Bool`; `NoReference`; `NotAsserted`.
+    /// - `assume-push`: `ScopeDepth`: 1,000 scopes are open; `Redeclared` and the formula, as of
+    ///   `assume`.
+    /// - `step`: `Redeclared`, as of `assume`; `UnknownRule`: no rule has the name;
+    ///   `UnknownPremise`: no fact has the name of a premise; the value of the formula that is
+    ///   stated; those of the arguments; a fault of the rule's use ([`eo_rule::conclude`]).
+    /// - `step-pop`: `NoScope`: no scope is open; `Redeclared`: a fact outside the innermost scope
+    ///   has the name, or it is reserved; then as of `step`.
     /// - `assert`: `UnknownSymbol`: it is neither `true` nor `false`.
     ///
     /// The faults of a term are those that [`eo_elab::term`] answers. An evaluation has one fault,
@@ -147,17 +163,24 @@ impl Session {
         }
     }
 
-    /// The check at the end of a proof, in a session that is not ended: `NoReference` where there
-    /// is no reference file, and then `NoRefutation` where `false` is no fact.
+    /// The check at the end of a proof, in a session that is not ended: `ScopeOpen` where a scope
+    /// is open, then `NoReference` where there is no reference file, and then `NoRefutation` where
+    /// `false` is no fact.
     pub fn end(&self) -> EndAnswer
         requires { self.now.ended ≡ false }
-        ensures { EndsWith (end_fault self.now.state) result }
+        ensures { EndsWith (end_fault self.now.state) self.now.state.sorry result }
     {
+        if self.held.is_in_scope() {
+            return EndAnswer::Fault(FaultName::ScopeOpen);
+        }
         if !self.held.has_reference {
             return EndAnswer::Fault(FaultName::NoReference);
         }
         if !self.held.refutes() {
             return EndAnswer::Fault(FaultName::NoRefutation);
+        }
+        if self.held.sorry {
+            return EndAnswer::Incomplete;
         }
         EndAnswer::Correct
     }
@@ -177,7 +200,39 @@ fn run_command(held: &mut Held, s: &Sexp<'_>, from: Origin) -> Result<(), Refuse
     ensures does { Does result (uncounted (state_of held.old) from s.now) held.new }
 {
     let command = command_of(s, from.is_reference())?;
-    run_shape(held, &command, from)
+    run_scoped(held, &command, from)
+}
+
+// Does what a command says, where it may stand.
+fn run_scoped(held: &mut Held, command: &Command<'_>, from: Origin) -> Result<(), Refused>
+    requires { IsWhole held.old }
+    ensures whole { IsWhole held.new }
+    ensures does { Does result (scoped_command (state_of held.old) from (read_command command.now)) held.new }
+{
+    if !may_stand(held, command) {
+        return Err(Refused::Fault(FaultName::InScope));
+    }
+    run_shape(held, command, from)
+}
+
+// Whether a command may stand here: no scope is open, or it may stand in one.
+fn may_stand(held: &Held, command: &Command<'_>) -> bool
+    ensures { result ≡ (not (is_in_scope (state_of held.now)) || definition.may_be_in_scope (read_command command.now)) }
+{
+    !held.is_in_scope() || may_be_in_scope(command)
+}
+
+// Whether a command may stand in a scope.
+fn may_be_in_scope(command: &Command<'_>) -> bool
+    ensures { result ≡ definition.may_be_in_scope (read_command command.now) }
+{
+    match command {
+        Command::Define { .. } => true,
+        Command::AssumePush { .. } => true,
+        Command::Step(_) => true,
+        Command::StepPop(_) => true,
+        _ => false,
+    }
 }
 
 // Does what a command says.
@@ -206,14 +261,12 @@ fn run_shape(held: &mut Held, command: &Command<'_>, from: Origin) -> Result<(),
         } => held.declare_parameterized(name, params, ty, attribute),
         Command::DeclareLiterals { class, ty } => held.declare_literals(*class, ty),
         Command::Define { name, params, body } => held.define(name, params, body),
-        Command::Program {
-            name,
-            params,
-            inputs,
-            output,
-            cases,
-        } => held.define_program(from, name, params, inputs, output, cases),
+        Command::Program(shape) => held.define_program(from, shape),
+        Command::DeclareRule(shape) => held.declare_rule(from, shape),
         Command::Assume { name, formula } => held.assume(name, formula),
+        Command::AssumePush { name, formula } => held.assume_push(name, formula),
+        Command::Step(shape) => held.step(shape),
+        Command::StepPop(shape) => held.step_pop(shape),
         Command::Assert { formula } => held.assert(formula),
     }
 }

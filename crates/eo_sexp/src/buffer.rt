@@ -1,5 +1,6 @@
 //! The bytes of a command that is begun, and its parts.
-ghost use Rattle.std.specs.Prelude.{◌≡◌, ◌<◌, ◌≤◌, ◌+◌, ◌^◌, ℕ, ◌∷◌, [], ◌++◌, length, take, reverse, OnOk, IfOk};
+ghost use Rattle.std.specs.Prelude.{◌≡◌, ◌<◌, ◌≤◌, ◌+◌, ◌^◌, ℕ, ◌∷◌, [], ◌++◌, length, take, reverse};
+ghost use Rattle.std.specs.Prelude.{OnOk, IfOk};
 ghost use Rattle.eo_sexp.specs.Nodes.{token_atom, HasText, first_of};
 ghost use Rattle.eo_sexp.specs.Parts.{IsPart};
 ghost use Rattle.eo_sexp.specs.Built.{nothing, with_child, closed, opened, width_of, parts_of};

@@ -32,6 +32,36 @@ pub record CaseShape : Type 0 where
   pub patterns : List Sexp
   pub body : Sexp
 
+pub record ProgramShape : Type 0 where
+  pub name : List ℕ
+  pub parameters : List ParameterShape
+  pub inputs : List Sexp
+  pub output : Sexp
+  pub cases : List CaseShape
+
+-- a pattern for each premise, or one for all, with what joins them
+pub data PremisesShape : Type 0 where
+  EachShape : (patterns : List Sexp) → PremisesShape
+  JoinedShape : (pattern joiner : Sexp) → PremisesShape
+
+pub record RuleShape : Type 0 where
+  pub name : List ℕ
+  pub parameters : List ParameterShape
+  pub assumed : Option Sexp
+  pub premises : PremisesShape
+  pub arguments : List Sexp
+  pub requirements : List (Sexp × Sexp)
+  pub conclusion : Sexp
+  pub sorry : Bool
+
+-- (S [t] :rule R [:premises (S ..)] [:args (t ..)])
+pub record StepShape : Type 0 where
+  pub name : List ℕ
+  pub stated : Option Sexp
+  pub rule : List ℕ
+  pub premises : List (List ℕ)
+  pub arguments : List Sexp
+
 pub data Command : Type 0 where
   DeclareConst : (name : List ℕ) (type : Sexp) (attribute : AttributeShape) → Command
   DeclareFun : (name : List ℕ) (inputs : List Sexp) (output : Sexp) → Command
@@ -39,8 +69,12 @@ pub data Command : Type 0 where
   DeclareParameterized : (name : List ℕ) (parameters : List ParameterShape) (type : Sexp) (attribute : AttributeShape) → Command
   DeclareLiterals : (class : LiteralClass) (type : Sexp) → Command
   Define : (name : List ℕ) (parameters : List ParameterShape) (body : Sexp) → Command
-  DefineProgram : (name : List ℕ) (parameters : List ParameterShape) (inputs : List Sexp) (output : Sexp) (cases : List CaseShape) → Command
+  DefineProgram : (program : ProgramShape) → Command
+  DeclareRule : (rule : RuleShape) → Command
   Assume : (name : List ℕ) (formula : Sexp) → Command
+  AssumePush : (name : List ℕ) (formula : Sexp) → Command
+  Step : (step : StepShape) → Command
+  StepPop : (step : StepShape) → Command
   -- in reference files alone
   Assert : (formula : Sexp) → Command
 
@@ -60,6 +94,27 @@ list_of_each f s = option_and_then (every f) (list_of s)
 
 abbrev pub is_keyword : List ℕ → Sexp → Bool
 is_keyword word s = is_some_word word (keyword_of s)
+
+-- a keyword's thing, where the keyword stands first with something behind it; and what follows
+abbrev pub optional : List ℕ → List Sexp → Option Sexp × List Sexp
+optional word (k ∷ v ∷ rest) = if is_keyword word k then (Some v, rest) else (None, k ∷ v ∷ rest)
+optional word ss = (None, ss)
+
+-- what a keyword's thing lists, or nothing where there is no such keyword; and what follows
+abbrev pub optional_list : {B : Type 0} → (Sexp → Option (List B)) → List ℕ → List Sexp → Option (List B × List Sexp)
+optional_list f word (k ∷ v ∷ rest) = if is_keyword word k then option_map (λ xs. (xs, rest)) (f v) else Some ([], k ∷ v ∷ rest)
+optional_list f word ss = Some ([], ss)
+
+-- (t t)
+abbrev pub pair_of : List Sexp → Option (Sexp × Sexp)
+pair_of (a ∷ b ∷ []) = Some (a, b)
+pair_of ss = None
+
+abbrev pub pairs_of : Sexp → Option (List (Sexp × Sexp))
+pairs_of s = list_of_each (λ q. option_and_then pair_of (list_of q)) s
+
+abbrev pub symbols_of : Sexp → Option (List (List ℕ))
+symbols_of s = list_of_each symbol_of s
 
 -- ---- parameters and attributes
 
@@ -159,7 +214,7 @@ inputs_of s = option_and_then not_empty (list_of s)
 -- a program by what follows `:signature`: the types of its inputs and its output, and its cases
 abbrev pub program_with : List ℕ → List ParameterShape → List Sexp → Option Command
 program_with name parameters (inputs ∷ output ∷ cases ∷ []) =
-    option_and_then (λ ts. option_map (DefineProgram name parameters ts output) (cases_of name cases)) (inputs_of inputs)
+    option_and_then (λ ts. option_map (λ cs. DefineProgram (record { name = name; parameters = parameters; inputs = ts; output = output; cases = cs })) (cases_of name cases)) (inputs_of inputs)
 program_with name parameters ss = None
 
 abbrev pub signed_program : List ℕ → List ParameterShape → Sexp → List Sexp → Option Command
@@ -171,9 +226,91 @@ define_program (s ∷ ps ∷ k ∷ rest) =
     option_and_then (λ name. option_and_then (λ parameters. signed_program name parameters k rest) (parameters_of ps)) (symbol_of s)
 define_program ss = None
 
+-- ---- rules, by the parts in the order in which they stand
+
+abbrev pub premises_of : List Sexp → Option (PremisesShape × List Sexp)
+premises_of (k ∷ p ∷ f ∷ rest) =
+    if is_keyword (codes ":premise-list") k then Some (JoinedShape p f, rest)
+    else if is_keyword (codes ":premises") k then option_map (λ ps. (EachShape ps, f ∷ rest)) (list_of p)
+    else Some (EachShape [], k ∷ p ∷ f ∷ rest)
+premises_of ss = Some (EachShape [], ss)
+
+abbrev pub sorry_of : List Sexp → Option Bool
+sorry_of [] = Some false
+sorry_of (k ∷ []) = if is_keyword (codes ":sorry") k then Some true else None
+sorry_of ss = None
+
+-- :conclusion t [:sorry]
+abbrev pub conclusion_of : List Sexp → Option (Sexp × Bool)
+conclusion_of (k ∷ t ∷ rest) = if is_keyword (codes ":conclusion") k then option_map (λ sorry. (t, sorry)) (sorry_of rest) else None
+conclusion_of ss = None
+
+-- a rule by what follows its premises
+abbrev pub rule_with : List ℕ → List ParameterShape → Option Sexp → PremisesShape → List Sexp → Option RuleShape
+rule_with name parameters assumed premises parts =
+    option_and_then (λ a. option_and_then (λ q. option_map (λ c. record {
+      name = name;
+      parameters = parameters;
+      assumed = assumed;
+      premises = premises;
+      arguments = a.0;
+      requirements = q.0;
+      conclusion = c.0;
+      sorry = c.1;
+    }) (conclusion_of q.1)) (optional_list pairs_of (codes ":requires") a.1)) (optional_list list_of (codes ":args") parts)
+
+abbrev pub rule_of : List ℕ → List ParameterShape → List Sexp → Option RuleShape
+rule_of name parameters parts =
+    let a = optional (codes ":assumption") parts in
+    option_and_then (λ p. rule_with name parameters a.0 p.0 p.1) (premises_of a.1)
+
+abbrev pub declare_rule : List Sexp → Option Command
+declare_rule (s ∷ ps ∷ parts) =
+    option_and_then (λ name. option_and_then (λ parameters. option_map DeclareRule (rule_of name parameters parts)) (parameters_of ps)) (symbol_of s)
+declare_rule ss = None
+
+-- ---- assumptions and steps
+
 abbrev pub named_formula : (List ℕ → Sexp → Command) → List Sexp → Option Command
 named_formula command (s ∷ t ∷ []) = option_map (λ name. command name t) (symbol_of s)
 named_formula command ss = None
+
+-- the arguments, behind which nothing stands
+abbrev pub last_arguments : List Sexp → Option (List Sexp)
+last_arguments [] = Some []
+last_arguments (k ∷ v ∷ []) = if is_keyword (codes ":args") k then list_of v else None
+last_arguments ss = None
+
+abbrev pub premise_names : List Sexp → Option (List (List ℕ) × List Sexp)
+premise_names parts = optional_list symbols_of (codes ":premises") parts
+
+-- a step by what follows its rule
+abbrev pub step_with : List ℕ → Option Sexp → List ℕ → List Sexp → Option StepShape
+step_with name stated rule parts =
+    option_and_then (λ p. option_map (λ ts. record {
+      name = name;
+      stated = stated;
+      rule = rule;
+      premises = p.0;
+      arguments = ts;
+    }) (last_arguments p.1)) (premise_names parts)
+
+abbrev pub step_by_rule : List ℕ → Option Sexp → List Sexp → Option StepShape
+step_by_rule name stated (k ∷ r ∷ parts) =
+    if is_keyword (codes ":rule") k then option_and_then (λ rule. step_with name stated rule parts) (symbol_of r) else None
+step_by_rule name stated ss = None
+
+-- a formula may be stated before the rule; and what follows it
+abbrev pub stated_of : List Sexp → Option Sexp × List Sexp
+stated_of (t ∷ parts) = if is_keyword (codes ":rule") t then (None, t ∷ parts) else (Some t, parts)
+stated_of [] = (None, [])
+
+abbrev pub step_of : List Sexp → Option StepShape
+step_of (s ∷ parts) = option_and_then (λ name. step_by_rule name (stated_of parts).0 (stated_of parts).1) (symbol_of s)
+step_of [] = None
+
+abbrev pub step : (StepShape → Command) → List Sexp → Option Command
+step command parts = option_map command (step_of parts)
 
 abbrev pub assert : List Sexp → Option Command
 assert (t ∷ []) = Some (Assert t)
@@ -184,12 +321,18 @@ assert ss = None
 abbrev pub Form : Type 0
 Form = List ℕ × (List Sexp → Option Command)
 
+-- what assumes and what proves
+abbrev pub proving_forms : List Form
+proving_forms =
+    (codes "assume", named_formula Assume) ∷ (codes "assume-push", named_formula AssumePush)
+    ∷ (codes "step", step Step) ∷ (codes "step-pop", step StepPop) ∷ []
+
 -- in signatures and proofs (Ethos manual, full syntax of the commands)
 abbrev pub forms : List Form
 forms =
     (codes "declare-const", declare_const) ∷ (codes "declare-fun", declare_fun) ∷ (codes "declare-sort", declare_sort)
     ∷ (codes "declare-parameterized-const", declare_parameterized) ∷ (codes "declare-consts", declare_literals)
-    ∷ (codes "define", define) ∷ (codes "program", define_program) ∷ (codes "assume", named_formula Assume) ∷ []
+    ∷ (codes "define", define) ∷ (codes "program", define_program) ∷ (codes "declare-rule", declare_rule) ∷ proving_forms
 
 -- in reference files (SMT-LIB 2.6, section 4.2 "Commands")
 abbrev pub reference_forms : List Form

@@ -7,7 +7,7 @@ use crate::attributes::attribute;
 use crate::cases::cases;
 use crate::parameters::parameters;
 use crate::words::{arity, class, is_keyword, symbol};
-use crate::{Command, ParameterShapes};
+use crate::{Command, ParameterShapes, ProgramShape};
 use eo_sexp::{Children, Sexp};
 
 pub(crate) fn declare_const<'b>(parts: &Children<'b>) -> Option<Command<'b>>
@@ -106,13 +106,13 @@ fn program_with<'b>(
     ensures { option_map read_command result ≡ shapes.program_with name.now params.entry rest.now }
 {
     let (inputs, output, list) = rest.only_three()?;
-    Some(Command::Program {
+    Some(Command::Program(ProgramShape {
         name,
         params,
         inputs: some_terms(&inputs)?,
         output,
         cases: cases(name, &list)?,
-    })
+    }))
 }
 
 /// The parts of a list, where there is one or more.
@@ -131,6 +131,16 @@ pub(crate) fn assume<'b>(parts: &Children<'b>) -> Option<Command<'b>>
 {
     let (name, formula) = parts.only_two()?;
     Some(Command::Assume {
+        name: symbol(&name)?,
+        formula,
+    })
+}
+
+pub(crate) fn assume_push<'b>(parts: &Children<'b>) -> Option<Command<'b>>
+    ensures { option_map read_command result ≡ shapes.named_formula shapes.AssumePush parts.now }
+{
+    let (name, formula) = parts.only_two()?;
+    Some(Command::AssumePush {
         name: symbol(&name)?,
         formula,
     })

@@ -5,13 +5,17 @@ mod attributes;
 mod cases;
 mod commands;
 mod parameters;
+mod rules;
+mod sequences;
 mod shaping;
+mod steps;
 mod words;
 
 pub use cases::CaseShapes;
 use eo_lit::LiteralClass;
 use eo_sexp::{Children, Sexp};
 pub use parameters::ParameterShapes;
+pub use sequences::{PairShapes, Symbols};
 pub use shaping::command_of;
 pub use words::symbol;
 
@@ -58,6 +62,80 @@ pub struct CaseShape<'a> {
     pub body: Sexp<'a>,
 }
 
+/// A program by its parts.
+#[derive(Debug, Drop)]
+pub struct ProgramShape<'a> {
+    /// The name.
+    pub name: &'a [u8],
+    /// The parameters.
+    pub params: ParameterShapes<'a>,
+    /// The types of the inputs, of which there is one or more.
+    pub inputs: Children<'a>,
+    /// The type of the output.
+    pub output: Sexp<'a>,
+    /// The cases.
+    pub cases: CaseShapes<'a>,
+}
+
+/// Two terms that are to have the same value.
+#[derive(Debug, Drop)]
+pub struct PairShape<'a> {
+    /// The first.
+    pub left: Sexp<'a>,
+    /// The second.
+    pub right: Sexp<'a>,
+}
+
+/// What the premises of a rule are matched with.
+#[derive(Debug, Drop)]
+pub enum PremisesShape<'a> {
+    /// A pattern for each.
+    Each(Children<'a>),
+    /// One pattern for all, and what joins them.
+    Joined {
+        /// The pattern.
+        pattern: Sexp<'a>,
+        /// What joins the premises.
+        joiner: Sexp<'a>,
+    },
+}
+
+/// A rule by its parts.
+#[derive(Debug, Drop)]
+pub struct RuleShape<'a> {
+    /// The name.
+    pub name: &'a [u8],
+    /// The parameters.
+    pub params: ParameterShapes<'a>,
+    /// The pattern of the assumption that the rule discharges, if it does.
+    pub assumption: Option<Sexp<'a>>,
+    /// What the premises are matched with.
+    pub premises: PremisesShape<'a>,
+    /// The patterns of the arguments.
+    pub args: Children<'a>,
+    /// The pairs of terms that are to have the same value.
+    pub requirements: PairShapes<'a>,
+    /// The conclusion.
+    pub conclusion: Sexp<'a>,
+    /// Whether it is marked `:sorry`, as unproved.
+    pub sorry: bool,
+}
+
+/// A step by its parts.
+#[derive(Debug, Drop)]
+pub struct StepShape<'a> {
+    /// The name of the fact.
+    pub name: &'a [u8],
+    /// The formula that is stated, if one is.
+    pub stated: Option<Sexp<'a>>,
+    /// The name of the rule.
+    pub rule: &'a [u8],
+    /// The names of the premises.
+    pub premises: Symbols<'a>,
+    /// The arguments.
+    pub args: Children<'a>,
+}
+
 /// A command by its parts.
 #[derive(Debug, Drop)]
 pub enum Command<'a> {
@@ -98,18 +176,25 @@ pub enum Command<'a> {
     },
     /// `(program NAME (PARAMETER ..) :signature (INPUT ..) OUTPUT (CASE ..))`, with one input or
     /// more. A case is `((NAME PATTERN ..) BODY)`.
-    Program {
-        name: &'a [u8],
-        params: ParameterShapes<'a>,
-        inputs: Children<'a>,
-        output: Sexp<'a>,
-        cases: CaseShapes<'a>,
-    },
+    Program(ProgramShape<'a>),
+    /// `(declare-rule NAME (PARAMETER ..) [:assumption PATTERN]
+    /// [:premises (PATTERN ..) | :premise-list PATTERN JOINER] [:args (PATTERN ..)]
+    /// [:requires ((TERM TERM) ..)] :conclusion TERM [:sorry])`
+    DeclareRule(RuleShape<'a>),
     /// `(assume NAME FORMULA)`
     Assume {
         name: &'a [u8],
         formula: Sexp<'a>,
     },
+    /// `(assume-push NAME FORMULA)`
+    AssumePush {
+        name: &'a [u8],
+        formula: Sexp<'a>,
+    },
+    /// `(step NAME [FORMULA] :rule RULE [:premises (NAME ..)] [:args (TERM ..)])`
+    Step(StepShape<'a>),
+    /// `(step-pop NAME [FORMULA] :rule RULE [:premises (NAME ..)] [:args (TERM ..)])`
+    StepPop(StepShape<'a>),
     /// `(assert FORMULA)`, in a reference file alone.
     Assert {
         formula: Sexp<'a>,

@@ -2,12 +2,14 @@
 ghost use Rattle.std.specs.Prelude.{◌≡◌, Ok, Err, IfOk, IfErr, option_map, if◌then◌else◌};
 ghost use Rattle.eo_shape.specs.Forms.{shape_by};
 ghost use Rattle.eo_shape.specs.Reading.{read_command, fault_of};
-ghost use Rattle.eo_shape.specs.Shapes.{command_of, form_of, forms, reference_forms};
+ghost use Rattle.eo_shape.specs.Shapes.{command_of, form_of, forms, proving_forms, reference_forms};
 
 use crate::commands::{
-    assert, assume, declare_const, declare_fun, declare_literals, declare_parameterized,
-    declare_sort, define, program,
+    assert, assume, assume_push, declare_const, declare_fun, declare_literals,
+    declare_parameterized, declare_sort, define, program,
 };
+use crate::rules::declare_rule;
+use crate::steps::{step, step_pop};
 use crate::words::symbol;
 use crate::{Command, ShapeRefused};
 use eo_sexp::{Children, Sexp};
@@ -22,7 +24,11 @@ pub(crate) enum Form {
     DeclareLiterals,
     Define,
     Program,
+    DeclareRule,
     Assume,
+    AssumePush,
+    Step,
+    StepPop,
     Assert,
 }
 
@@ -97,8 +103,27 @@ fn proof_form(word: &[u8]) -> Option<Form>
     if word == b"program".as_slice() {
         return Some(Form::Program);
     }
+    if word == b"declare-rule".as_slice() {
+        return Some(Form::DeclareRule);
+    }
+    proving_form(word)
+}
+
+/// The command of this word, where it assumes or proves.
+fn proving_form(word: &[u8]) -> Option<Form>
+    ensures { option_map shape_by result ≡ form_of proving_forms word.now }
+{
     if word == b"assume".as_slice() {
         return Some(Form::Assume);
+    }
+    if word == b"assume-push".as_slice() {
+        return Some(Form::AssumePush);
+    }
+    if word == b"step".as_slice() {
+        return Some(Form::Step);
+    }
+    if word == b"step-pop".as_slice() {
+        return Some(Form::StepPop);
     }
     None
 }
@@ -115,7 +140,11 @@ fn shaped<'b>(form: Form, parts: &Children<'b>) -> Option<Command<'b>>
         Form::DeclareLiterals => declare_literals(parts),
         Form::Define => define(parts),
         Form::Program => program(parts),
+        Form::DeclareRule => declare_rule(parts),
         Form::Assume => assume(parts),
+        Form::AssumePush => assume_push(parts),
+        Form::Step => step(parts),
+        Form::StepPop => step_pop(parts),
         Form::Assert => assert(parts),
     }
 }

@@ -1,11 +1,15 @@
 //! Shapes of commands, by hand.
+mod proofs;
 mod text;
 
-use crate::{AttributeShape, CaseShapes, Command, ParameterShapes, ShapeRefused, command_of};
-use eo_sexp::Children;
+use crate::{
+    AttributeShape, CaseShapes, Command, ParameterShapes, ProgramShape, ShapeRefused, command_of,
+};
+use eo_sexp::{Children, Sexp};
+use std::alloc::Global;
 use std::fmt::Write;
 use std::test::Fail;
-use text::Text;
+use text::read;
 
 fn write_bytes(out: &mut String, bytes: &[u8]) -> Result<(), Fail> {
     for b in bytes {
@@ -63,6 +67,14 @@ fn write_cases(out: &mut String, cases: &CaseShapes<'_>) -> Result<(), Fail> {
     Ok(())
 }
 
+fn write_program(out: &mut String, program: &ProgramShape<'_>) -> Result<(), Fail> {
+    write_bytes(out, program.name)?;
+    write_parameters(out, &program.params)?;
+    write_terms(out, &program.inputs)?;
+    write_bytes(out, program.output.text())?;
+    write_cases(out, &program.cases)
+}
+
 // The parts of a command in order, with the bytes of each atom.
 fn write_command(out: &mut String, command: Command<'_>) -> Result<(), Fail> {
     match command {
@@ -108,197 +120,165 @@ fn write_command(out: &mut String, command: Command<'_>) -> Result<(), Fail> {
             write_parameters(out, &params)?;
             write_bytes(out, body.text())
         }
-        Command::Program {
-            name,
-            params,
-            inputs,
-            output,
-            cases,
-        } => {
-            write_bytes(out, name)?;
-            write_parameters(out, &params)?;
-            write_terms(out, &inputs)?;
-            write_bytes(out, output.text())?;
-            write_cases(out, &cases)
-        }
+        Command::Program(program) => write_program(out, &program),
+        Command::DeclareRule(rule) => proofs::write_rule(out, &rule),
         Command::Assume { name, formula } => {
             write_bytes(out, name)?;
             write_bytes(out, formula.text())
+        }
+        Command::AssumePush { name, formula } => {
+            out.push_str("push ")?;
+            write_bytes(out, name)?;
+            write_bytes(out, formula.text())
+        }
+        Command::Step(step) => proofs::write_step(out, &step),
+        Command::StepPop(step) => {
+            out.push_str("pop ")?;
+            proofs::write_step(out, &step)
         }
         Command::Assert { formula } => write_bytes(out, formula.text()),
     }
 }
 
+// The parts of the command, each of which ends with a space, or why it is none.
+fn write_told(out: &mut String, s: &Sexp<'_>, in_reference: bool) -> Result<(), Fail> {
+    match command_of(s, in_reference) {
+        Ok(command) => write_command(out, command),
+        Err(ShapeRefused::UnknownCommand) => Ok(out.push_str("unknown")?),
+        Err(ShapeRefused::BadCommand) => Ok(out.push_str("bad")?),
+    }
+}
+
+// The same of a text; nothing, where it is no list.
+fn told(alloc: Global, text: &str, in_reference: bool) -> Result<String, Fail> {
+    let mut out = String::new(alloc);
+    if let Some(text) = read(alloc, text.as_bytes())? {
+        write_told(&mut out, &text.sexp(), in_reference)?;
+    }
+    Ok(out)
+}
+
+// The first text of which something else is told than what stands beside it.
+fn other(alloc: Global, rows: &[(&str, bool, &str)]) -> Result<Option<usize>, Fail> {
+    for (i, (text, in_reference, want)) in rows.iter().enumerate() {
+        if !is_told(alloc, text, *in_reference, want)? {
+            return Ok(Some(i));
+        }
+    }
+    Ok(None)
+}
+
+fn is_told(alloc: Global, text: &str, in_reference: bool, want: &str) -> Result<bool, Fail> {
+    let out = told(alloc, text, in_reference)?;
+    Ok(out.as_str() == want)
+}
+
+fn right(alloc: Global) -> Result<Option<usize>, Fail> {
+    other(
+        alloc,
+        &[
+            ("(declare-const c T)", false, "c T none "),
+            ("(declare-const |c d| T :left-assoc)", false, "c d T left "),
+            ("(declare-const c T :right-assoc)", false, "c T right "),
+            (
+                "(declare-const c T :right-assoc-nil n)",
+                false,
+                "c T right-nil n ",
+            ),
+            (
+                "(declare-const c T :left-assoc-nil n)",
+                false,
+                "c T left-nil n ",
+            ),
+            (
+                "(declare-const c T :chainable and)",
+                false,
+                "c T chain and ",
+            ),
+            ("(declare-const c T :pairwise and)", false, "c T pairs and "),
+            ("(declare-const c T :binder @l)", false, "c T binder @l "),
+            ("(declare-fun f (A B) C)", false, "f A B C "),
+            ("(declare-fun f () C)", false, "f C "),
+            ("(declare-sort S 64)", false, "S 64 "),
+            (
+                "(declare-parameterized-const c ((x A :implicit) (y B :list :implicit) (z C)) T)",
+                false,
+                "c x A implicit y B implicit list z C T none ",
+            ),
+            ("(declare-consts <numeral> Int)", false, "Numeral Int "),
+            ("(declare-consts <binary> B)", false, "Binary B "),
+            ("(declare-consts <string> S)", false, "String S "),
+            ("(define m ((x T :list)) x)", false, "m x T list x "),
+            (
+                "(program p ((x A) (y B :list)) :signature (A B) C (((p x y) t) ((p) x)))",
+                false,
+                "p x A y B list A B C case x y t case x ",
+            ),
+            ("(program p () :signature (A) B ())", false, "p A B "),
+            ("(assume a f)", false, "a f "),
+            ("(assert f)", true, "f "),
+        ],
+    )
+}
+
+fn wrong(alloc: Global) -> Result<Option<usize>, Fail> {
+    other(
+        alloc,
+        &[
+            ("()", false, "bad"),
+            ("((assume) a f)", false, "bad"),
+            ("(\"assume\" a f)", false, "bad"),
+            ("(assumed a f)", false, "unknown"),
+            ("(assume a f)", true, "unknown"),
+            ("(assert f)", false, "unknown"),
+            ("(assert)", true, "bad"),
+            ("(assume a)", false, "bad"),
+            ("(assume (a) f)", false, "bad"),
+            ("(declare-const c)", false, "bad"),
+            ("(declare-const c T :chainable)", false, "bad"),
+            ("(declare-const c T :left-assoc n)", false, "bad"),
+            ("(declare-const c T left-assoc)", false, "bad"),
+            ("(declare-fun f A C)", false, "bad"),
+            ("(declare-sort S 65)", false, "bad"),
+            ("(declare-sort S 01)", false, "bad"),
+            ("(declare-sort S -1)", false, "bad"),
+            ("(declare-consts <decimal> R)", false, "bad"),
+            ("(define m ((x T :list :list)) x)", false, "bad"),
+            ("(define m ((x)) x)", false, "bad"),
+            ("(define m (x) x)", false, "bad"),
+            ("(program p () :signature (A) B ())", true, "unknown"),
+            ("(program (p) () :signature (A) B ())", false, "bad"),
+            ("(program p (x) :signature (A) B ())", false, "bad"),
+            ("(program p () (A) B (((p x) x)))", false, "bad"),
+            ("(program p () :sig (A) B (((p x) x)))", false, "bad"),
+            ("(program p () :signature () B ((p x)))", false, "bad"),
+            ("(program p () :signature (A) B)", false, "bad"),
+            ("(program p () :signature (A) B p)", false, "bad"),
+            ("(program p () :signature (A) B () ())", false, "bad"),
+            ("(program p () :signature (A) B (((q x) x)))", false, "bad"),
+            (
+                "(program p () :signature (A) B (((p x) x) (p x)))",
+                false,
+                "bad",
+            ),
+            (
+                "(program p () :signature (A) B (((p x) x x)))",
+                false,
+                "bad",
+            ),
+            ("(program p () :signature (A) B ((() x)))", false, "bad"),
+        ],
+    )
+}
+
 #[test]
 fn shapes(rt: HostRuntime) -> Result<(), Fail> {
-    for (text, in_reference, want) in [
-        ("(declare-const c T)", false, "c T none "),
-        ("(declare-const |c d| T :left-assoc)", false, "c d T left "),
-        ("(declare-const c T :right-assoc)", false, "c T right "),
-        (
-            "(declare-const c T :right-assoc-nil n)",
-            false,
-            "c T right-nil n ",
-        ),
-        (
-            "(declare-const c T :left-assoc-nil n)",
-            false,
-            "c T left-nil n ",
-        ),
-        (
-            "(declare-const c T :chainable and)",
-            false,
-            "c T chain and ",
-        ),
-        ("(declare-const c T :pairwise and)", false, "c T pairs and "),
-        ("(declare-const c T :binder @l)", false, "c T binder @l "),
-        ("(declare-fun f (A B) C)", false, "f A B C "),
-        ("(declare-fun f () C)", false, "f C "),
-        ("(declare-sort S 64)", false, "S 64 "),
-        (
-            "(declare-parameterized-const c ((x A :implicit) (y B :list :implicit) (z C)) T)",
-            false,
-            "c x A implicit y B implicit list z C T none ",
-        ),
-        ("(declare-consts <numeral> Int)", false, "Numeral Int "),
-        ("(declare-consts <binary> B)", false, "Binary B "),
-        ("(declare-consts <string> S)", false, "String S "),
-        ("(define m ((x T :list)) x)", false, "m x T list x "),
-        (
-            "(program p ((x A) (y B :list)) :signature (A B) C (((p x y) t) ((p) x)))",
-            false,
-            "p x A y B list A B C case x y t case x ",
-        ),
-        ("(program p () :signature (A) B ())", false, "p A B "),
-        ("(assume a f)", false, "a f "),
-        ("(assert f)", true, "f "),
-    ] {
-        let read = Text::new(&rt, rt.alloc(), text)?;
-        let mut out = String::new(rt.alloc());
-        match command_of(&read.sexp(), in_reference) {
-            Ok(command) => write_command(&mut out, command)?,
-            Err(_) => out.push_str("refused")?,
-        }
-        assert_eq!(rt; out.as_str(), want, "at {text}");
-    }
+    assert_eq!(rt; right(rt.alloc())?, None);
     Ok(())
 }
 
 #[test]
 fn wrong_shapes(rt: HostRuntime) -> Result<(), Fail> {
-    for (text, in_reference, want) in [
-        ("()", false, ShapeRefused::BadCommand),
-        ("((assume) a f)", false, ShapeRefused::BadCommand),
-        ("(\"assume\" a f)", false, ShapeRefused::BadCommand),
-        ("(assumed a f)", false, ShapeRefused::UnknownCommand),
-        ("(assume a f)", true, ShapeRefused::UnknownCommand),
-        ("(assert f)", false, ShapeRefused::UnknownCommand),
-        ("(assert)", true, ShapeRefused::BadCommand),
-        ("(assume a)", false, ShapeRefused::BadCommand),
-        ("(assume (a) f)", false, ShapeRefused::BadCommand),
-        ("(declare-const c)", false, ShapeRefused::BadCommand),
-        (
-            "(declare-const c T :chainable)",
-            false,
-            ShapeRefused::BadCommand,
-        ),
-        (
-            "(declare-const c T :left-assoc n)",
-            false,
-            ShapeRefused::BadCommand,
-        ),
-        (
-            "(declare-const c T left-assoc)",
-            false,
-            ShapeRefused::BadCommand,
-        ),
-        ("(declare-fun f A C)", false, ShapeRefused::BadCommand),
-        ("(declare-sort S 65)", false, ShapeRefused::BadCommand),
-        ("(declare-sort S 01)", false, ShapeRefused::BadCommand),
-        ("(declare-sort S -1)", false, ShapeRefused::BadCommand),
-        (
-            "(declare-consts <decimal> R)",
-            false,
-            ShapeRefused::BadCommand,
-        ),
-        (
-            "(define m ((x T :list :list)) x)",
-            false,
-            ShapeRefused::BadCommand,
-        ),
-        ("(define m ((x)) x)", false, ShapeRefused::BadCommand),
-        ("(define m (x) x)", false, ShapeRefused::BadCommand),
-        (
-            "(program p () :signature (A) B ())",
-            true,
-            ShapeRefused::UnknownCommand,
-        ),
-        (
-            "(program (p) () :signature (A) B ())",
-            false,
-            ShapeRefused::BadCommand,
-        ),
-        (
-            "(program p (x) :signature (A) B ())",
-            false,
-            ShapeRefused::BadCommand,
-        ),
-        (
-            "(program p () (A) B (((p x) x)))",
-            false,
-            ShapeRefused::BadCommand,
-        ),
-        (
-            "(program p () :sig (A) B (((p x) x)))",
-            false,
-            ShapeRefused::BadCommand,
-        ),
-        (
-            "(program p () :signature () B ((p x)))",
-            false,
-            ShapeRefused::BadCommand,
-        ),
-        (
-            "(program p () :signature (A) B)",
-            false,
-            ShapeRefused::BadCommand,
-        ),
-        (
-            "(program p () :signature (A) B p)",
-            false,
-            ShapeRefused::BadCommand,
-        ),
-        (
-            "(program p () :signature (A) B () ())",
-            false,
-            ShapeRefused::BadCommand,
-        ),
-        (
-            "(program p () :signature (A) B (((q x) x)))",
-            false,
-            ShapeRefused::BadCommand,
-        ),
-        (
-            "(program p () :signature (A) B (((p x) x) (p x)))",
-            false,
-            ShapeRefused::BadCommand,
-        ),
-        (
-            "(program p () :signature (A) B (((p x) x x)))",
-            false,
-            ShapeRefused::BadCommand,
-        ),
-        (
-            "(program p () :signature (A) B ((() x)))",
-            false,
-            ShapeRefused::BadCommand,
-        ),
-    ] {
-        let read = Text::new(&rt, rt.alloc(), text)?;
-        match command_of(&read.sexp(), in_reference) {
-            Ok(_) => panic!(rt; "a command at {text}"),
-            Err(e) => assert_eq!(rt; e, want, "at {text}"),
-        }
-    }
+    assert_eq!(rt; wrong(rt.alloc())?, None);
     Ok(())
 }

@@ -1,6 +1,6 @@
 //! The table of terms.
-ghost use Rattle.std.specs.Prelude.{◌≡◌, ℕ, ◌+◌, ◌<◌, ◌≤◌, ◌↔◌, ◌&&◌, ◌||◌, nat_eq, [], ◌∷◌, length, take, true, false};
-ghost use Rattle.std.specs.Prelude.{IsTrue, All, IfOk, OnOk, OnErr, slice_index_or};
+ghost use Rattle.std.specs.Prelude.{◌≡◌, ℕ, ◌+◌, ◌<◌, ◌≤◌, ◌↔◌, ◌&&◌, ◌||◌, nat_eq, [], ◌∷◌};
+ghost use Rattle.std.specs.Prelude.{length, take, true, false, IsTrue, All, IfOk, OnOk, OnErr, slice_index_or};
 ghost use Rattle.eo_base.specs.Characters.{AreCharacters};
 ghost use Rattle.eo_term.specs.ParamSet.{has};
 ghost use Rattle.eo_term.specs.Tree.{height, height_all, is_tall, is_value, is_closed, all_closed, is_plain};

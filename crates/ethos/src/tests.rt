@@ -3,7 +3,10 @@ ghost use Rattle.std.specs.Prelude.{◌≤◌};
 mod declarations;
 mod evaluation;
 mod programs;
+mod rules;
+mod scopes;
 mod shared;
+mod suite;
 
 use crate::{ethos_main, run_in_memory};
 use eo_base::{Status, Text};

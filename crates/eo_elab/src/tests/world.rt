@@ -1,6 +1,6 @@
 //! Texts, and what they mean over a signature.
 ghost use Rattle.std.specs.Prelude.{◌≡◌, ◌<◌, ◌≤◌, true, length, IsTrue, IfOk};
-ghost use Rattle.eo_sig.specs.Reading.{IsBelow, ConstBelow, MacroBelow, ProgramBelow};
+ghost use Rattle.eo_sig.specs.Reading.{IsBelow, ConstBelow, MacroBelow, ProgramBelow, RuleBelow};
 ghost use Rattle.eo_term.specs.Growth.{Grows};
 ghost use Rattle.eo_elab.specs.Declaring.{IsCommand, DeclarationBelow};
 ghost use Rattle.eo_names.specs.Names.{AreBelow};
@@ -10,7 +10,8 @@ use crate::{ElabRefused, Locals, declaration, term};
 use eo_sexp::{Collector, Fed, Sexp};
 use eo_shape::{ShapeRefused, command_of};
 use eo_sig::{
-    ConstDecl, Declaration, Entry, LiteralClass, MacroDecl, ProgramDecl, SigRefused, Signature,
+    ConstDecl, Declaration, Entry, LiteralClass, MacroDecl, PremiseShape, ProgramDecl, RuleDecl,
+    SigRefused, Signature,
 };
 use eo_term::{Id, Table};
 use std::alloc::{AllocError, Global};
@@ -37,6 +38,24 @@ pub(super) enum Answer {
     Memory,
     /// It is no s-expression, or one that declares nothing.
     Unread,
+}
+
+/// The parts of a rule that are terms, what joins its premises, and how many there are of the
+/// others.
+#[derive(Clone, Copy)]
+pub(super) struct RuleIds {
+    pub(super) params: usize,
+    pub(super) assumption: Option<Id>,
+    pub(super) pattern: Option<Id>,
+    pub(super) joiner: Option<usize>,
+    pub(super) args: usize,
+    pub(super) first: Option<Id>,
+    pub(super) second: Option<Id>,
+    pub(super) requirements: usize,
+    pub(super) left: Option<Id>,
+    pub(super) right: Option<Id>,
+    pub(super) conclusion: Id,
+    pub(super) sorry: bool,
 }
 
 /// A table and a signature over it.
@@ -164,6 +183,29 @@ impl World {
         }
     }
 
+    /// The rule of the name.
+    pub(super) fn rule(&self, name: &str) -> Option<RuleIds> {
+        match self.sig.rule(name.as_bytes()) {
+            Some(n) => Some(ids_of(self.sig.rule_of(n))),
+            None => None,
+        }
+    }
+
+    /// Whether each text has a meaning, and the one that stands beside it.
+    pub(super) fn all_mean(&mut self, rows: &[(&str, Option<Id>)]) -> Result<bool, Fail> {
+        for (text, id) in rows.iter() {
+            if !self.is_meant(text, *id)? {
+                return Ok(false);
+            }
+        }
+        Ok(true)
+    }
+
+    fn is_meant(&mut self, text: &str, id: Option<Id>) -> Result<bool, Fail> {
+        let x = self.meant(text)?;
+        Ok(x.is_some() && x == id)
+    }
+
     // Whether the name is that of a constant whose type is what the text means.
     fn has_type(&mut self, name: &str, text: &str) -> Result<bool, Fail> {
         let x = self.declared_type(name);
@@ -217,6 +259,56 @@ fn parameters(alloc: Global, table: &mut Table) -> Result<Locals, AllocError>
     Ok(locals)
 }
 
+fn ids_of(rule: &RuleDecl) -> RuleIds {
+    let args = rule.args.as_slice();
+    let requirements = rule.requirements.as_slice();
+    RuleIds {
+        params: rule.params.as_slice().len(),
+        assumption: rule.assumption,
+        pattern: pattern_of(&rule.premises),
+        joiner: joiner_of(&rule.premises),
+        args: args.len(),
+        first: args.first().copied(),
+        second: args.last().copied(),
+        requirements: requirements.len(),
+        left: left_of(requirements),
+        right: right_of(requirements),
+        conclusion: rule.conclusion,
+        sorry: rule.sorry,
+    }
+}
+
+// What all premises are matched with.
+fn pattern_of(premises: &PremiseShape) -> Option<Id> {
+    match premises {
+        PremiseShape::Joined { pattern, .. } => Some(*pattern),
+        PremiseShape::Each(_) => None,
+    }
+}
+
+// What joins the premises.
+fn joiner_of(premises: &PremiseShape) -> Option<usize> {
+    match premises {
+        PremiseShape::Joined { with, .. } => Some(*with),
+        PremiseShape::Each(_) => None,
+    }
+}
+
+// The two terms of the first requirement.
+fn left_of(requirements: &[(Id, Id)]) -> Option<Id> {
+    match requirements.first() {
+        Some((left, _)) => Some(*left),
+        None => None,
+    }
+}
+
+fn right_of(requirements: &[(Id, Id)]) -> Option<Id> {
+    match requirements.first() {
+        Some((_, right)) => Some(*right),
+        None => None,
+    }
+}
+
 // Adds what was declared.
 fn add(sig: &mut Signature, table: &Table, d: Declaration) -> Answer
     requires ready { IsBelow (length table.now.trees) sig.old }
@@ -228,7 +320,7 @@ fn add(sig: &mut Signature, table: &Table, d: Declaration) -> Answer
         Declaration::Macro(d) => add_macro(sig, table, d),
         Declaration::Literal { class, ty } => add_literals(sig, table, class, ty),
         Declaration::Program(d) => add_program(sig, table, d),
-        _ => Answer::Unread,
+        Declaration::Rule(d) => add_rule(sig, table, d),
     }
 }
 
@@ -269,6 +361,20 @@ fn add_program(sig: &mut Signature, table: &Table, d: ProgramDecl) -> Answer
         return Answer::Unread;
     }
     match sig.add_program(table, d) {
+        Ok(_) => Answer::Done,
+        Err(e) => unfit(&e),
+    }
+}
+
+fn add_rule(sig: &mut Signature, table: &Table, d: RuleDecl) -> Answer
+    requires ready { IsBelow (length table.now.trees) sig.old }
+    requires below { RuleBelow (length table.now.trees) d }
+    ensures ready { IsBelow (length table.now.trees) sig.new }
+{
+    if !sig.is_free_rule(d.name.as_bytes()) {
+        return Answer::Unread;
+    }
+    match sig.add_rule(table, d) {
         Ok(_) => Answer::Done,
         Err(e) => unfit(&e),
     }

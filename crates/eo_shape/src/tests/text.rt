@@ -2,7 +2,6 @@
 use eo_sexp::{Collector, Fed, Sexp};
 use std::alloc::Global;
 use std::marker::Model;
-use std::process::Abort;
 use std::test::Fail;
 
 /// A text that is one list, read.
@@ -23,19 +22,21 @@ impl Model for Text {
 }
 
 impl Text {
-    /// Reads a text of less than a thousand bytes.
-    pub(super) fn new(rt: &impl Abort, alloc: Global, text: &str) -> Result<Text, Fail> {
-        let mut collector = Collector::new(alloc, false)?;
-        let here = collector.here();
-        assert!(rt; here.offset < 1000 && text.len() < 1000);
-        match collector.feed(text.as_bytes()) {
-            Fed::Command { .. } => Ok(Text { collector }),
-            _ => panic!(rt; "no list"),
-        }
-    }
-
     /// Its s-expression.
     pub(super) fn sexp(&self) -> Sexp<'_> {
         self.collector.command()
+    }
+}
+
+/// A text that is one list of less than a thousand bytes; nothing, where it is none.
+pub(super) fn read(alloc: Global, text: &[u8]) -> Result<Option<Text>, Fail> {
+    let mut collector = Collector::new(alloc, false)?;
+    let here = collector.here();
+    if here.offset > 1000 || text.len() > 1000 {
+        return Ok(None);
+    }
+    match collector.feed(text) {
+        Fed::Command { used: _ } => Ok(Some(Text { collector })),
+        _ => Ok(None),
     }
 }

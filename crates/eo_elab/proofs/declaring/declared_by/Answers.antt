@@ -1,71 +1,52 @@
-use Rattle.std.proofs.Common.{ap, ◌∙◌}
+use Rattle.std.proofs.Common.{ap, sym, subst, ◌∙◌}
 use Rattle.std.specs.Prelude.{Ok}
 use Rattle.eo_base.proofs.Answering.{fails}
 use Rattle.eo_shape.specs.Reading as shapes
-use Rattle.eo_elab.specs.Declarations.{declaration, as_constant, as_macro, as_program, ALiteralType}
-use Rattle.eo_elab.specs.Declaring.{or_bad}
+use Rattle.eo_elab.specs.Declarations.{declaration, as_macro, as_program, as_rule, ALiteralType}
+use Rattle.eo_elab.specs.Declaring.{or_bad, declared_constant}
+use Rattle.eo_elab.specs.Gives.{GivesDeclaration}
 use Rattle.eo_elab.specs.Worlds.{context_in}
 use Rattle.eo_elab.proofs.CheckedLemmas.{then-ok, then-err}
 use Rattle.eo_elab.proofs.declaring.declared_by.Goals as goal
 
-pub returns-in_err-d-in-DeclareConst-clause-gives : goal.returns-in_err-d-in-DeclareConst-clause-gives
+pub returns-in-DeclareConst-clause-gives : goal.returns-in-DeclareConst-clause-gives
 unfolding declaration
-returns-in_err-d-in-DeclareConst-clause-gives c =
-    fails _ _ _ _ _ _ _ c.from_residual.ensures.1 (λ f e. ap (λ k. or_bad (declaration (context_in c.args.table.now c.args.sig.now) (shapes.read_command k))) c.in-DeclareConst.is ∙ then-err as_constant _ f e) c.in_err-d-in-DeclareConst.ensures.gives
+returns-in-DeclareConst-clause-gives c =
+    let x = context_in c.args.table.now c.args.sig.now in
+    let is = ap (λ k. declared_constant x k) c.in-DeclareConst.is ∙ sym (ap (λ k. or_bad (declaration x (shapes.read_command k))) c.in-DeclareConst.is) in
+    subst (GivesDeclaration c.declared_constant.new.table c.declared_constant.result) is c.declared_constant.ensures.gives
 
-pub returns-in_ok-d-in-DeclareConst-clause-gives : goal.returns-in_ok-d-in-DeclareConst-clause-gives
+pub returns-in-DeclareFun-clause-gives : goal.returns-in-DeclareFun-clause-gives
 unfolding declaration
-returns-in_ok-d-in-DeclareConst-clause-gives c = record {
-  live = c.in_ok-d-in-DeclareConst.ensures.gives.live;
-  is = ap (λ k. or_bad (declaration (context_in c.args.table.now c.args.sig.now) (shapes.read_command k))) c.in-DeclareConst.is ∙ then-ok as_constant _ _ c.in_ok-d-in-DeclareConst.ensures.gives.is;
-}
+returns-in-DeclareFun-clause-gives c =
+    let x = context_in c.args.table.now c.args.sig.now in
+    let is = ap (λ k. declared_constant x k) c.in-DeclareFun.is ∙ sym (ap (λ k. or_bad (declaration x (shapes.read_command k))) c.in-DeclareFun.is) in
+    subst (GivesDeclaration c.declared_constant-in-DeclareFun.new.table c.declared_constant-in-DeclareFun.result) is c.declared_constant-in-DeclareFun.ensures.gives
 
-pub returns-in_err-d-in-DeclareFun-clause-gives : goal.returns-in_err-d-in-DeclareFun-clause-gives
+pub returns-in-DeclareSort-clause-gives : goal.returns-in-DeclareSort-clause-gives
 unfolding declaration
-returns-in_err-d-in-DeclareFun-clause-gives c =
-    fails _ _ _ _ _ _ _ c.from_residual-in_err-d-in-DeclareFun.ensures.1 (λ f e. ap (λ k. or_bad (declaration (context_in c.args.table.now c.args.sig.now) (shapes.read_command k))) c.in-DeclareFun.is ∙ then-err as_constant _ f e) c.in_err-d-in-DeclareFun.ensures.gives
+returns-in-DeclareSort-clause-gives c =
+    let x = context_in c.args.table.now c.args.sig.now in
+    let is = ap (λ k. declared_constant x k) c.in-DeclareSort.is ∙ sym (ap (λ k. or_bad (declaration x (shapes.read_command k))) c.in-DeclareSort.is) in
+    subst (GivesDeclaration c.declared_constant-in-DeclareSort.new.table c.declared_constant-in-DeclareSort.result) is c.declared_constant-in-DeclareSort.ensures.gives
 
-pub returns-in_ok-d-in-DeclareFun-clause-gives : goal.returns-in_ok-d-in-DeclareFun-clause-gives
+pub returns-in-DeclareParameterized-clause-gives : goal.returns-in-DeclareParameterized-clause-gives
 unfolding declaration
-returns-in_ok-d-in-DeclareFun-clause-gives c = record {
-  live = c.in_ok-d-in-DeclareFun.ensures.gives.live;
-  is = ap (λ k. or_bad (declaration (context_in c.args.table.now c.args.sig.now) (shapes.read_command k))) c.in-DeclareFun.is ∙ then-ok as_constant _ _ c.in_ok-d-in-DeclareFun.ensures.gives.is;
-}
+returns-in-DeclareParameterized-clause-gives c =
+    let x = context_in c.args.table.now c.args.sig.now in
+    let is = ap (λ k. declared_constant x k) c.in-DeclareParameterized.is ∙ sym (ap (λ k. or_bad (declaration x (shapes.read_command k))) c.in-DeclareParameterized.is) in
+    subst (GivesDeclaration c.declared_constant-in-DeclareParameterized.new.table c.declared_constant-in-DeclareParameterized.result) is c.declared_constant-in-DeclareParameterized.ensures.gives
 
-pub returns-in_err-d-in-DeclareSort-clause-gives : goal.returns-in_err-d-in-DeclareSort-clause-gives
+pub returns-in_err-ty-in-DeclareLiterals-clause-gives : goal.returns-in_err-ty-in-DeclareLiterals-clause-gives
 unfolding declaration
-returns-in_err-d-in-DeclareSort-clause-gives c =
-    fails _ _ _ _ _ _ _ c.from_residual-in_err-d-in-DeclareSort.ensures.1 (λ f e. ap (λ k. or_bad (declaration (context_in c.args.table.now c.args.sig.now) (shapes.read_command k))) c.in-DeclareSort.is ∙ then-err as_constant _ f e) c.in_err-d-in-DeclareSort.ensures.gives
+returns-in_err-ty-in-DeclareLiterals-clause-gives c =
+    fails _ _ _ _ _ _ _ c.from_residual.ensures.1 (λ f e. ap (λ k. or_bad (declaration (context_in c.args.table.now c.args.sig.now) (shapes.read_command k))) c.in-DeclareLiterals.is ∙ then-err (λ t. Ok (ALiteralType c.in-DeclareLiterals.class t)) _ f e) c.in_err-ty-in-DeclareLiterals.ensures.gives
 
-pub returns-in_ok-d-in-DeclareSort-clause-gives : goal.returns-in_ok-d-in-DeclareSort-clause-gives
+pub returns-in_ok-ty-in-DeclareLiterals-clause-gives : goal.returns-in_ok-ty-in-DeclareLiterals-clause-gives
 unfolding declaration
-returns-in_ok-d-in-DeclareSort-clause-gives c = record {
-  live = c.in_ok-d-in-DeclareSort.ensures.gives.live;
-  is = ap (λ k. or_bad (declaration (context_in c.args.table.now c.args.sig.now) (shapes.read_command k))) c.in-DeclareSort.is ∙ then-ok as_constant _ _ c.in_ok-d-in-DeclareSort.ensures.gives.is;
-}
-
-pub returns-in_err-d-in-DeclareParameterized-clause-gives : goal.returns-in_err-d-in-DeclareParameterized-clause-gives
-unfolding declaration
-returns-in_err-d-in-DeclareParameterized-clause-gives c =
-    fails _ _ _ _ _ _ _ c.from_residual-in_err-d-in-DeclareParameterized.ensures.1 (λ f e. ap (λ k. or_bad (declaration (context_in c.args.table.now c.args.sig.now) (shapes.read_command k))) c.in-DeclareParameterized.is ∙ then-err as_constant _ f e) c.in_err-d-in-DeclareParameterized.ensures.gives
-
-pub returns-in_ok-d-in-DeclareParameterized-clause-gives : goal.returns-in_ok-d-in-DeclareParameterized-clause-gives
-unfolding declaration
-returns-in_ok-d-in-DeclareParameterized-clause-gives c = record {
-  live = c.in_ok-d-in-DeclareParameterized.ensures.gives.live;
-  is = ap (λ k. or_bad (declaration (context_in c.args.table.now c.args.sig.now) (shapes.read_command k))) c.in-DeclareParameterized.is ∙ then-ok as_constant _ _ c.in_ok-d-in-DeclareParameterized.ensures.gives.is;
-}
-
-pub returns-in_err-id-in-DeclareLiterals-clause-gives : goal.returns-in_err-id-in-DeclareLiterals-clause-gives
-unfolding declaration
-returns-in_err-id-in-DeclareLiterals-clause-gives c =
-    fails _ _ _ _ _ _ _ c.from_residual-in_err-id-in-DeclareLiterals.ensures.1 (λ f e. ap (λ k. or_bad (declaration (context_in c.args.table.now c.args.sig.now) (shapes.read_command k))) c.in-DeclareLiterals.is ∙ then-err (λ t. Ok (ALiteralType c.in-DeclareLiterals.class t)) _ f e) c.in_err-id-in-DeclareLiterals.ensures.gives
-
-pub returns-in_ok-id-in-DeclareLiterals-clause-gives : goal.returns-in_ok-id-in-DeclareLiterals-clause-gives
-unfolding declaration
-returns-in_ok-id-in-DeclareLiterals-clause-gives c = record {
-  live = c.in_ok-id-in-DeclareLiterals.ensures.gives.live;
-  is = ap (λ k. or_bad (declaration (context_in c.args.table.now c.args.sig.now) (shapes.read_command k))) c.in-DeclareLiterals.is ∙ then-ok (λ t. Ok (ALiteralType c.in-DeclareLiterals.class t)) _ _ c.in_ok-id-in-DeclareLiterals.ensures.gives.is;
+returns-in_ok-ty-in-DeclareLiterals-clause-gives c = record {
+  live = c.in_ok-ty-in-DeclareLiterals.ensures.gives.live;
+  is = ap (λ k. or_bad (declaration (context_in c.args.table.now c.args.sig.now) (shapes.read_command k))) c.in-DeclareLiterals.is ∙ then-ok (λ t. Ok (ALiteralType c.in-DeclareLiterals.class t)) _ _ c.in_ok-ty-in-DeclareLiterals.ensures.gives.is;
 }
 
 pub returns-in_err-d-in-Define-clause-gives : goal.returns-in_err-d-in-Define-clause-gives
@@ -92,9 +73,33 @@ returns-in_ok-d-in-Program-clause-gives c = record {
   is = ap (λ k. or_bad (declaration (context_in c.args.table.now c.args.sig.now) (shapes.read_command k))) c.in-Program.is ∙ then-ok as_program _ _ c.in_ok-d-in-Program.ensures.gives.is;
 }
 
+pub returns-in_err-d-in-DeclareRule-clause-gives : goal.returns-in_err-d-in-DeclareRule-clause-gives
+unfolding declaration
+returns-in_err-d-in-DeclareRule-clause-gives c =
+    fails _ _ _ _ _ _ _ c.from_residual-in_err-d-in-DeclareRule.ensures.1 (λ f e. ap (λ k. or_bad (declaration (context_in c.args.table.now c.args.sig.now) (shapes.read_command k))) c.in-DeclareRule.is ∙ then-err as_rule _ f e) c.in_err-d-in-DeclareRule.ensures.gives
+
+pub returns-in_ok-d-in-DeclareRule-clause-gives : goal.returns-in_ok-d-in-DeclareRule-clause-gives
+unfolding declaration
+returns-in_ok-d-in-DeclareRule-clause-gives c = record {
+  live = c.in_ok-d-in-DeclareRule.ensures.gives.live;
+  is = ap (λ k. or_bad (declaration (context_in c.args.table.now c.args.sig.now) (shapes.read_command k))) c.in-DeclareRule.is ∙ then-ok as_rule _ _ c.in_ok-d-in-DeclareRule.ensures.gives.is;
+}
+
 pub returns-in-Assume-clause-gives : goal.returns-in-Assume-clause-gives
 unfolding declaration
 returns-in-Assume-clause-gives c = ap (λ k. or_bad (declaration (context_in c.args.table.now c.args.sig.now) (shapes.read_command k))) c.in-Assume.is
+
+pub returns-in-AssumePush-clause-gives : goal.returns-in-AssumePush-clause-gives
+unfolding declaration
+returns-in-AssumePush-clause-gives c = ap (λ k. or_bad (declaration (context_in c.args.table.now c.args.sig.now) (shapes.read_command k))) c.in-AssumePush.is
+
+pub returns-in-Step-clause-gives : goal.returns-in-Step-clause-gives
+unfolding declaration
+returns-in-Step-clause-gives c = ap (λ k. or_bad (declaration (context_in c.args.table.now c.args.sig.now) (shapes.read_command k))) c.in-Step.is
+
+pub returns-in-StepPop-clause-gives : goal.returns-in-StepPop-clause-gives
+unfolding declaration
+returns-in-StepPop-clause-gives c = ap (λ k. or_bad (declaration (context_in c.args.table.now c.args.sig.now) (shapes.read_command k))) c.in-StepPop.is
 
 pub returns-in-Assert-clause-gives : goal.returns-in-Assert-clause-gives
 unfolding declaration

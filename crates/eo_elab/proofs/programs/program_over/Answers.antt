@@ -1,6 +1,7 @@
 use Rattle.std.proofs.Common.{length, map, All, arith, rules, ap, sym, subst, ◌∙◌}
 use Rattle.std.proofs.lemmas.List.Elements.{All-nil}
 use Rattle.eo_base.proofs.Answering.{fails}
+use Rattle.eo_shape.specs.Reading.{read_program}
 use Rattle.eo_sig.specs.Reading.{read_case, CaseBelow}
 use Rattle.eo_term.specs.Growth.{tree_in, trees_in, Grows}
 use Rattle.eo_names.specs.Worlds.{World}
@@ -16,7 +17,7 @@ use Rattle.eo_elab.proofs.programs.program_over.Goals as goal
 pub returns-in_err-types-clause-gives : goal.returns-in_err-types-clause-gives
 returns-in_err-types-clause-gives c =
     let t = c.args.table.now in
-    fails _ _ _ _ _ _ _ c.from_residual.ensures.1 (over-no-inputs (context_in t c.args.sig.now) c.args.name.now (read_bound t.trees c.args.bound) c.args.inputs.now c.args.output.now c.args.cases.now) c.in_err-types.ensures.gives
+    fails _ _ _ _ _ _ _ c.from_residual.ensures.1 (over-no-inputs (context_in t c.args.sig.now) (read_bound t.trees c.args.bound) (read_program c.args.shape.now)) c.in_err-types.ensures.gives
 
 pub returns-in_err-output-clause-gives : goal.returns-in_err-output-clause-gives
 returns-in_err-output-clause-gives c =
@@ -24,7 +25,7 @@ returns-in_err-output-clause-gives c =
     let us = c.meanings.new.table in
     let same = (c.names_law.ensures.stays c.args.sig.now c.args.bound.locals t us c.requires.bound.ready c.in_ok-types.ensures.grows).world in
     fails _ _ _ _ _ _ _ c.from_residual-in_err-output.ensures.1
-    (λ f e. over-no-output (context_in t c.args.sig.now) c.args.name.now (read_bound t.trees c.args.bound) c.args.inputs.now c.args.output.now c.args.cases.now (trees_in us c.in_ok-types.types) c.in_ok-types.ensures.gives.is f (ap (λ (u : World). meaning_in u c.args.output.now) (sym same) ∙ e)) c.in_err-output.ensures.gives
+    (λ f e. over-no-output (context_in t c.args.sig.now) (read_bound t.trees c.args.bound) (read_program c.args.shape.now) (trees_in us c.in_ok-types.types) c.in_ok-types.ensures.gives.is f (ap (λ (u : World). meaning_in u c.args.shape.now.output) (sym same) ∙ e)) c.in_err-output.ensures.gives
 
 pub term-requires : goal.term-requires
 term-requires c = record { ready = (c.names_law.ensures.stays c.args.sig.now c.args.bound.locals c.args.table.now c.meanings.new.table c.requires.bound.ready c.in_ok-types.ensures.grows).ready }
@@ -59,9 +60,9 @@ returns-clause-gives c =
     let last = (c.names_law.ensures.stays k c.args.bound.locals t vs c.requires.bound.ready all).world in
     let ts = trees_in us c.in_ok-types.types in
     let o = tree_in vs c.in_ok-output.output in
-    let parts = over-cases x c.args.name.now b c.args.inputs.now c.args.output.now c.args.cases.now ts c.in_ok-types.ensures.gives.is o (ap (λ (u : World). meaning_in u c.args.output.now) (sym first) ∙ c.in_ok-output.ensures.gives.is) in
+    let parts = over-cases x b (read_program c.args.shape.now) ts c.in_ok-types.ensures.gives.is o (ap (λ (u : World). meaning_in u c.args.shape.now.output) (sym first) ∙ c.in_ok-output.ensures.gives.is) in
     let params = parameters-grown (length t.trees) t.trees vs.trees c.args.bound.params all.now.tree c.requires.bound.params in
     let inputs = trees-grown (length us.trees) us.trees vs.trees c.in_ok-types.types c.in_ok-output.ensures.grows.now.tree c.in_ok-types.ensures.gives.live in
     subst (GivesProgram c.with_cases.new.table c.with_cases.result)
-    (sym (parts ∙ (λ i. with_cases (sym last i).names (sym last i).locals (record { name = sym c.in_ok-new.ensures i; parameters = sym params i; inputs = sym inputs i; output = o; cases = map (read_case vs.trees) (sym c.new-2.ensures i) }) c.args.cases.now)))
+    (sym (parts ∙ (λ i. with_cases (sym last i).names (sym last i).locals (record { name = sym c.in_ok-new.ensures i; parameters = sym params i; inputs = sym inputs i; output = o; cases = map (read_case vs.trees) (sym c.new-2.ensures i) }) c.args.shape.now.cases)))
     c.with_cases.ensures.gives

@@ -9,4 +9,4 @@ returns-in_err-command-clause-does c =
 
 pub returns-clause-does : goal.returns-clause-does
 returns-clause-does c =
-    does-command (state_of c.args.held.now) c.args.from c.args.s.now c.is_reference.result c.is_reference.ensures c.run_shape.result c.run_shape.new.held (read_command c.in_ok-command.command) c.in_ok-command.ensures.shape c.run_shape.ensures.does
+    does-command (state_of c.args.held.now) c.args.from c.args.s.now c.is_reference.result c.is_reference.ensures c.run_scoped.result c.run_scoped.new.held (read_command c.in_ok-command.command) c.in_ok-command.ensures.shape c.run_scoped.ensures.does

@@ -1,4 +1,4 @@
-use Rattle.std.proofs.Common.{refl, ap, ◌∙◌}
+use Rattle.std.proofs.Common.{ap, ◌∙◌}
 use Rattle.std.specs.Prelude.{codes, bytes_eq}
 use Rattle.eo_shape.proofs.Texts.{differs}
 use Rattle.eo_shape.proofs.shaping.proof_form.Goals as goal
@@ -13,5 +13,5 @@ returns c =
     let fifth = differs w (codes "declare-consts") c.eq-5.result (c.eq-5.ensures ∙ ap (bytes_eq w) c.as_slice-5.ensures) c.if-eq-5.false in
     let sixth = differs w (codes "define") c.eq-6.result (c.eq-6.ensures ∙ ap (bytes_eq w) c.as_slice-6.ensures) c.if-eq-6.false in
     let seventh = differs w (codes "program") c.eq-7.result (c.eq-7.ensures ∙ ap (bytes_eq w) c.as_slice-7.ensures) c.if-eq-7.false in
-    let eighth = differs w (codes "assume") c.eq-8.result (c.eq-8.ensures ∙ ap (bytes_eq w) c.as_slice-8.ensures) c.if-eq-8.false in
-    rw (first, second, third, fourth, fifth, sixth, seventh, eighth) refl
+    let eighth = differs w (codes "declare-rule") c.eq-8.result (c.eq-8.ensures ∙ ap (bytes_eq w) c.as_slice-8.ensures) c.if-eq-8.false in
+    rw (first, second, third, fourth, fifth, sixth, seventh, eighth) c.proving_form.ensures

@@ -4,7 +4,7 @@ use Rattle.eo_sig.specs.Reading.{read_constant}
 use Rattle.eo_sig.specs.Signature.{IsConstant, constant_fault}
 use Rattle.eo_run.specs.Held.{state_of}
 use Rattle.eo_run.specs.State.{with_entry}
-use Rattle.eo_run.proofs.Adding.{no_fault-fails, no_fault-passes, does-sig}
+use Rattle.eo_run.proofs.Adding.{fold_of, no_fault-fails, no_fault-passes, does-sig}
 use Rattle.eo_run.proofs.Holding.{state_entry, whole_entry}
 use Rattle.eo_run.proofs.held.Held.add_constant.Goals as goal
 
@@ -17,7 +17,7 @@ returns-in_err-declare-clause-does c =
 pub returns-clause-whole : goal.returns-clause-whole
 returns-clause-whole c =
     let h = c.args.self.now in
-    whole_entry h c.requires.whole c.declare.new.self (c.in_ok-declare.ensures.below (length h.table.trees) c.requires.whole.signature c.requires.below) (IsConstant (read_constant h.table.trees c.args.d)) (c.in_ok-declare.ensures.adds.adds h.table.trees) c.in_ok-declare.ensures.usable
+    whole_entry h c.requires.whole c.declare.new.self (c.in_ok-declare.ensures.below (length h.table.trees) c.requires.whole.signature c.requires.below) (IsConstant (read_constant h.table.trees c.args.d)) (c.in_ok-declare.ensures.adds.adds h.table.trees) c.in_ok-declare.ensures.usable (fold_of (read_constant h.table.trees c.args.d) c.in_ok-declare.ensures.tells)
 
 pub returns-clause-does : goal.returns-clause-does
 returns-clause-does c =

@@ -28,4 +28,4 @@ pub returns-clause-whole : goal.returns-clause-whole
 returns-clause-whole c =
     let h = c.args.self.now in
     let e = IsLiteralType c.args.class (tree_at h.table.trees c.args.ty) in
-    whole_entry h c.requires.whole c.set_literal_type.new.self (c.in_ok-set_literal_type.ensures.below (length h.table.trees) c.requires.whole.signature c.requires.below) e (c.in_ok-set_literal_type.ensures.adds h.table.trees) (c.in_ok-set_literal_type.ensures.usable h.table.trees)
+    whole_entry h c.requires.whole c.set_literal_type.new.self (c.in_ok-set_literal_type.ensures.below (length h.table.trees) c.requires.whole.signature c.requires.below) e (c.in_ok-set_literal_type.ensures.adds h.table.trees) (c.in_ok-set_literal_type.ensures.usable h.table.trees) tt

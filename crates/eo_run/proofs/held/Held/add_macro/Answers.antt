@@ -14,7 +14,7 @@ returns-then-repeats_macro-clause-does c =
 pub returns-in_ok-define-in-None-clause-whole : goal.returns-in_ok-define-in-None-clause-whole
 returns-in_ok-define-in-None-clause-whole c =
     let h = c.args.self.now in
-    whole_macro h c.requires.whole c.define.new.self (c.in_ok-define-in-None.ensures.below (length h.table.trees) c.requires.whole.signature c.requires.below) (read_macro h.table.trees c.args.d) (c.in_ok-define-in-None.ensures.adds h.table.trees)
+    whole_macro h c.requires.whole c.define.new.self (c.in_ok-define-in-None.ensures.below (length h.table.trees) c.requires.whole.signature c.requires.below) (read_macro h.table.trees c.args.d) (c.in_ok-define-in-None.ensures.adds h.table.trees) c.requires.bound
 
 pub returns-in_ok-define-in-None-clause-does : goal.returns-in_ok-define-in-None-clause-does
 returns-in_ok-define-in-None-clause-does c =

@@ -17,7 +17,7 @@ returns-in_err-add_program-clause-does c =
 pub returns-clause-whole : goal.returns-clause-whole
 returns-clause-whole c =
     let h = c.args.self.now in
-    whole_entry h c.requires.whole c.add_program.new.self (c.in_ok-add_program.ensures.below (length h.table.trees) c.requires.whole.signature c.requires.below) (IsProgram (read_program h.table.trees c.args.d)) (c.in_ok-add_program.ensures.adds.adds h.table.trees) (c.in_ok-add_program.ensures.usable h.table.trees)
+    whole_entry h c.requires.whole c.add_program.new.self (c.in_ok-add_program.ensures.below (length h.table.trees) c.requires.whole.signature c.requires.below) (IsProgram (read_program h.table.trees c.args.d)) (c.in_ok-add_program.ensures.adds.adds h.table.trees) (c.in_ok-add_program.ensures.usable h.table.trees) tt
 
 pub returns-clause-does : goal.returns-clause-does
 returns-clause-does c =

@@ -3,11 +3,12 @@ use Rattle.std.specs.Prelude.{Ok, Result}
 use Rattle.eo_sig.specs.Signature.{is_reserved}
 use Rattle.eo_term.specs.Terms.{tree_at}
 use Rattle.eo_run.specs.Held.{state_of}
-use Rattle.eo_run.specs.State.{State, is_asserted, is_live, with_fact}
+use Rattle.eo_proof.specs.Scopes.{is_live}
+use Rattle.eo_run.specs.State.{State, is_asserted, with_fact}
 use Rattle.eo_run.specs.Step.{is_free_fact, assume}
 use Rattle.eo_run.specs.Stepping.{Does}
 use Rattle.eo_run.specs.declared.refused.Refused.{Refused}
-use Rattle.eo_run.proofs.Holding.{live_named, state_fact}
+use Rattle.eo_run.proofs.Adding.{does-same}
 use Rattle.eo_run.proofs.Exits.{at_exit}
 use Rattle.eo_run.proofs.Sessions.{not_taken, assume-redeclared, assume-fault, assume-no_reference, assume-not_asserted, assume-ok, refuses_on}
 use Rattle.eo_run.proofs.held.Held.assume.Goals as goal
@@ -46,13 +47,12 @@ returns-then-not-is_asserted-clause-does c =
       λ e. absurd cc,
     )
 
-pub add-requires : goal.add-requires
-add-requires c =
+pub add_fact-requires-clause-free : goal.add_fact-requires-clause-free
+add_fact-requires-clause-free c =
     let st = state_of c.args.self.now in
     let name = c.args.name.now in
     let free : is_free_fact st name ≡ true = sym c.is_taken.ensures ∙ ap not c.if-is_taken.false in
-    let h = c.formula.new.self in
-    sym (live_named h.table.trees h.facts name) ∙ ap (λ (x : State). is_live x.facts name) c.in_ok-value.ensures.keeps.same ∙ (not_taken (is_reserved name) (is_live st.facts name) free).1
+    ap (λ (x : State). is_live x.scopes name) c.in_ok-value.ensures.keeps.same ∙ (not_taken (is_reserved name) (is_live st.scopes name) free).1
 
 pub returns-clause-does : goal.returns-clause-does
 returns-clause-does c =
@@ -60,9 +60,9 @@ returns-clause-does c =
     let name = c.args.name.now in
     let free : is_free_fact st name ≡ true = sym c.is_taken.ensures ∙ ap not c.if-is_taken.false in
     let same = c.in_ok-value.ensures.keeps.same in
-    let h = c.formula.new.self in
-    let v = tree_at h.table.trees c.in_ok-value.value in
-    let last = state_fact h c.in_ok-value.ensures.keeps.whole name c.in_ok-value.value c.in_ok-value.ensures.gives.live c.add.new.self c.in_ok-add.ensures.added ∙ ap (λ (x : State). with_fact x name v) same in
-    assume-ok st name c.args.formula.now free v c.in_ok-value.ensures.gives.is (ap (λ (x : State). x.has_reference) (sym same) ∙ c.if-not-self.false)
+    let v = tree_at c.formula.new.self.table.trees c.in_ok-value.value in
+    does-same _ _ c.add_fact.result c.add_fact.new.self
+    (assume-ok st name c.args.formula.now free v c.in_ok-value.ensures.gives.is (ap (λ (x : State). x.has_reference) (sym same) ∙ c.if-not-self.false)
     (ap (λ (x : State). is_asserted x v) (sym same) ∙ sym c.is_asserted.ensures ∙ c.if-not-is_asserted.false)
-    ∙ ap (λ x. Ok x) (sym last)
+    ∙ ap (λ (x : State). Ok (with_fact x name v)) (sym same))
+    c.add_fact.ensures.does

@@ -23,6 +23,10 @@ add_macro-requires-clause-may c =
     let keeps = keeps_table c.args.self.now c.requires c.defined.new.table c.in_ok-d.ensures.grows.stays c.in_ok-d.ensures.grows.table in
     subst (λ (z : State). MayBeMacro (context z) (read_macro c.defined.new.table.trees c.in_ok-d.d)) (sym keeps.same) c.in_ok-d.ensures.may
 
+pub add_macro-requires-clause-bound : goal.add_macro-requires-clause-bound
+add_macro-requires-clause-bound c =
+    c.ordering_law.ensures.macros _ _ _ _ (read_macro c.defined.new.table.trees c.in_ok-d.d) c.requires.terms c.in_ok-d.ensures.gives.is
+
 pub returns-clause-does : goal.returns-clause-does
 returns-clause-does c =
     let keeps = keeps_table c.args.self.now c.requires c.defined.new.table c.in_ok-d.ensures.grows.stays c.in_ok-d.ensures.grows.table in

@@ -7,7 +7,7 @@ use Rattle.eo_run.specs.Step.{typed, formula}
 use Rattle.eo_run.specs.Stepping.{GivesTerm}
 use Rattle.eo_run.specs.declared.refused.Refused.{Refused}
 use Rattle.eo_run.proofs.Exits.{at_exit}
-use Rattle.eo_run.proofs.Sessions.{formula-value, formula-kind, formula-not_bool, formula-ok, refuses_on}
+use Rattle.eo_run.proofs.Sessions.{formula-value, formula-kind, formula-not_bool, formula-ok, refuses_on, value_later}
 use Rattle.eo_run.proofs.held.Held.formula.Goals as goal
 
 pub returns-in_err-value-clause-gives : goal.returns-in_err-value-clause-gives
@@ -46,3 +46,6 @@ returns-clause-gives c =
           formula-ok (state_of c.args.self.now) c.args.s.now v kind.0 c.in_ok-value.ensures.gives.is (same ∙ kind.1) (kind.2 ∙ c.if-not-branch.false)
           ∙ ap (λ t. Ok t) (sym (grows.tree c.in_ok-value.value c.in_ok-value.ensures.gives.live));
     }
+
+pub returns-clause-value : goal.returns-clause-value
+returns-clause-value c = value_later c.value.new.self.table c.has_kind.new.self.table c.in_ok-value.value c.in_ok-has_kind.ensures.keeps.grows c.in_ok-value.ensures.value

@@ -1,14 +1,13 @@
-use Rattle.std.proofs.Common.{Ok, arith, sym, ap, ◌∙◌, subst, false, true, ◌≡◌}
+use Rattle.std.proofs.Common.{Ok, arith, sym, ap, ◌∙◌}
 use Rattle.std.specs.Prelude.{Result, ℕ}
 use Rattle.eo_term.specs.Terms.{tree_at}
-use Rattle.eo_term.specs.Tree.{Tree, is_value, is_tall}
 use Rattle.eo_run.specs.Held.{state_of}
 use Rattle.eo_run.specs.State.{State}
 use Rattle.eo_run.specs.Step.{typed, type_value}
 use Rattle.eo_run.specs.Stepping.{GivesTerm}
 use Rattle.eo_run.specs.declared.refused.Refused.{Refused}
 use Rattle.eo_run.proofs.Exits.{at_exit}
-use Rattle.eo_run.proofs.Sessions.{type-fault, type-kind, type-other, type-ok, refuses_on}
+use Rattle.eo_run.proofs.Sessions.{type-fault, type-kind, type-other, type-ok, refuses_on, value_later}
 use Rattle.eo_run.proofs.held.Held.type_value.Goals as goal
 
 pub returns-in_err-value-clause-gives : goal.returns-in_err-value-clause-gives
@@ -53,12 +52,4 @@ returns-clause-gives c =
     }
 
 pub returns-clause-value : goal.returns-clause-value
-returns-clause-value c =
-    let is = c.in_ok-value.ensures.value in
-    let grows = c.in_ok-has_kind.ensures.keeps.grows.now in
-    let same = sym (grows.tree c.in_ok-value.value is.live) in
-    record {
-      live = omega (arith, is.live, grows.more_trees);
-      value = subst (λ (t : Tree). is_value t ≡ true) same is.value;
-      low = subst (λ (t : Tree). is_tall t ≡ false) same is.low;
-    }
+returns-clause-value c = value_later c.evaluate.new.self.table c.has_kind.new.self.table c.in_ok-value.value c.in_ok-has_kind.ensures.keeps.grows c.in_ok-value.ensures.value

@@ -1,0 +1,146 @@
+use Rattle.std.proofs.Common.{length, map, ap, sym, ◌∙◌, rules}
+use Rattle.std.specs.Prelude.{Ok, option_map}
+use Rattle.eo_base.proofs.Answering.{fails}
+use Rattle.eo_shape.specs.Reading.{read_rule}
+use Rattle.eo_sig.specs.Reading.{read_pair}
+use Rattle.eo_term.specs.Growth.{tree_in, trees_in, Grows}
+use Rattle.eo_term.specs.Terms.{tree_at}
+use Rattle.eo_names.specs.Worlds.{World, world_of}
+use Rattle.eo_elab.specs.Worlds.{meaning_in, meanings_in}
+use Rattle.eo_elab.specs.RuleParts.{read_premises_meant, premises_in, requirements_in}
+use Rattle.eo_elab.proofs.ConstantLemmas.{trees-grown, ids-more}
+use Rattle.eo_elab.proofs.RuleLemmas.{parts-no-assumed, parts-no-premises, parts-no-arguments, parts-no-requirements, parts-no-conclusion, parts-whole, some-grown, some-more, meant-grown, meant-more, pairs-grown, pairs-more}
+use Rattle.eo_elab.proofs.rules.rule_parts.Goals as goal
+
+pub premises-requires : goal.premises-requires
+premises-requires c = record { ready = (c.names_law.ensures.stays c.args.sig.now c.args.locals.now c.args.table.now c.optional.new.table c.requires.ready (search rules)).ready }
+
+pub meanings-requires : goal.meanings-requires
+meanings-requires c = record { ready = (c.names_law.ensures.stays c.args.sig.now c.args.locals.now c.args.table.now c.premises.new.table c.requires.ready (search rules)).ready }
+
+pub requirements-requires : goal.requirements-requires
+requirements-requires c = record { ready = (c.names_law.ensures.stays c.args.sig.now c.args.locals.now c.args.table.now c.meanings.new.table c.requires.ready (search rules)).ready }
+
+pub term-requires : goal.term-requires
+term-requires c = record { ready = (c.names_law.ensures.stays c.args.sig.now c.args.locals.now c.args.table.now c.requirements.new.table c.requires.ready (search rules)).ready }
+
+pub returns-in_err-assumption-clause-gives : goal.returns-in_err-assumption-clause-gives
+returns-in_err-assumption-clause-gives c =
+    let w = world_of c.args.table.now c.args.sig.now c.args.locals.now in
+    fails _ _ _ _ _ _ _ c.from_residual.ensures.1 (parts-no-assumed w.names w.locals (read_rule c.args.shape.now)) c.in_err-assumption.ensures.gives
+
+pub returns-in_err-premises-clause-gives : goal.returns-in_err-premises-clause-gives
+returns-in_err-premises-clause-gives c =
+    let t = c.args.table.now in
+    let w = world_of t c.args.sig.now c.args.locals.now in
+    let s = read_rule c.args.shape.now in
+    let t1 = c.optional.new.table in
+    let g1 : Grows t t1 = search rules in
+    let w1 = (c.names_law.ensures.stays c.args.sig.now c.args.locals.now t t1 c.requires.ready g1).world in
+    fails _ _ _ _ _ _ _ c.from_residual-in_err-premises.ensures.1
+    (λ f e. parts-no-premises w.names w.locals s _ c.in_ok-assumption.ensures.gives.is f (ap (λ (u : World). premises_in u s.premises) (sym w1) ∙ e)) c.in_err-premises.ensures.gives
+
+pub returns-in_err-args-clause-gives : goal.returns-in_err-args-clause-gives
+returns-in_err-args-clause-gives c =
+    let t = c.args.table.now in
+    let w = world_of t c.args.sig.now c.args.locals.now in
+    let s = read_rule c.args.shape.now in
+    let t1 = c.optional.new.table in
+    let t2 = c.premises.new.table in
+    let g1 : Grows t t1 = search rules in
+    let g2 : Grows t t2 = search rules in
+    let w1 = (c.names_law.ensures.stays c.args.sig.now c.args.locals.now t t1 c.requires.ready g1).world in
+    let w2 = (c.names_law.ensures.stays c.args.sig.now c.args.locals.now t t2 c.requires.ready g2).world in
+    fails _ _ _ _ _ _ _ c.from_residual-in_err-args.ensures.1
+    (λ f e. parts-no-arguments w.names w.locals s _ c.in_ok-assumption.ensures.gives.is _ (ap (λ (u : World). premises_in u s.premises) (sym w1) ∙ c.in_ok-premises.ensures.gives.is) f (ap (λ (u : World). meanings_in u s.arguments) (sym w2) ∙ e)) c.in_err-args.ensures.gives
+
+pub returns-in_err-requirements-clause-gives : goal.returns-in_err-requirements-clause-gives
+returns-in_err-requirements-clause-gives c =
+    let t = c.args.table.now in
+    let w = world_of t c.args.sig.now c.args.locals.now in
+    let s = read_rule c.args.shape.now in
+    let t1 = c.optional.new.table in
+    let t2 = c.premises.new.table in
+    let t3 = c.meanings.new.table in
+    let g1 : Grows t t1 = search rules in
+    let g2 : Grows t t2 = search rules in
+    let g3 : Grows t t3 = search rules in
+    let w1 = (c.names_law.ensures.stays c.args.sig.now c.args.locals.now t t1 c.requires.ready g1).world in
+    let w2 = (c.names_law.ensures.stays c.args.sig.now c.args.locals.now t t2 c.requires.ready g2).world in
+    let w3 = (c.names_law.ensures.stays c.args.sig.now c.args.locals.now t t3 c.requires.ready g3).world in
+    fails _ _ _ _ _ _ _ c.from_residual-in_err-requirements.ensures.1
+    (λ f e. parts-no-requirements w.names w.locals s _ c.in_ok-assumption.ensures.gives.is _ (ap (λ (u : World). premises_in u s.premises) (sym w1) ∙ c.in_ok-premises.ensures.gives.is)
+    _ (ap (λ (u : World). meanings_in u s.arguments) (sym w2) ∙ c.in_ok-args.ensures.gives.is) f (ap (λ (u : World). requirements_in u s.requirements) (sym w3) ∙ e)) c.in_err-requirements.ensures.gives
+
+pub returns-in_err-conclusion-clause-gives : goal.returns-in_err-conclusion-clause-gives
+returns-in_err-conclusion-clause-gives c =
+    let t = c.args.table.now in
+    let w = world_of t c.args.sig.now c.args.locals.now in
+    let s = read_rule c.args.shape.now in
+    let t1 = c.optional.new.table in
+    let t2 = c.premises.new.table in
+    let t3 = c.meanings.new.table in
+    let t4 = c.requirements.new.table in
+    let g1 : Grows t t1 = search rules in
+    let g2 : Grows t t2 = search rules in
+    let g3 : Grows t t3 = search rules in
+    let g4 : Grows t t4 = search rules in
+    let w1 = (c.names_law.ensures.stays c.args.sig.now c.args.locals.now t t1 c.requires.ready g1).world in
+    let w2 = (c.names_law.ensures.stays c.args.sig.now c.args.locals.now t t2 c.requires.ready g2).world in
+    let w3 = (c.names_law.ensures.stays c.args.sig.now c.args.locals.now t t3 c.requires.ready g3).world in
+    let w4 = (c.names_law.ensures.stays c.args.sig.now c.args.locals.now t t4 c.requires.ready g4).world in
+    fails _ _ _ _ _ _ _ c.from_residual-in_err-conclusion.ensures.1
+    (λ f e. parts-no-conclusion w.names w.locals s _ c.in_ok-assumption.ensures.gives.is _ (ap (λ (u : World). premises_in u s.premises) (sym w1) ∙ c.in_ok-premises.ensures.gives.is)
+    _ (ap (λ (u : World). meanings_in u s.arguments) (sym w2) ∙ c.in_ok-args.ensures.gives.is)
+    _ (ap (λ (u : World). requirements_in u s.requirements) (sym w3) ∙ c.in_ok-requirements.ensures.gives.is) f (ap (λ (u : World). meaning_in u s.conclusion) (sym w4) ∙ e)) c.in_err-conclusion.ensures.gives
+
+pub returns-clause-gives : goal.returns-clause-gives
+returns-clause-gives c =
+    let t = c.args.table.now in
+    let w = world_of t c.args.sig.now c.args.locals.now in
+    let s = read_rule c.args.shape.now in
+    let t1 = c.optional.new.table in
+    let t2 = c.premises.new.table in
+    let t3 = c.meanings.new.table in
+    let t4 = c.requirements.new.table in
+    let t5 = c.term.new.table in
+    let g1 : Grows t t1 = search rules in
+    let g2 : Grows t t2 = search rules in
+    let g3 : Grows t t3 = search rules in
+    let g4 : Grows t t4 = search rules in
+    let w1 = (c.names_law.ensures.stays c.args.sig.now c.args.locals.now t t1 c.requires.ready g1).world in
+    let w2 = (c.names_law.ensures.stays c.args.sig.now c.args.locals.now t t2 c.requires.ready g2).world in
+    let w3 = (c.names_law.ensures.stays c.args.sig.now c.args.locals.now t t3 c.requires.ready g3).world in
+    let w4 = (c.names_law.ensures.stays c.args.sig.now c.args.locals.now t t4 c.requires.ready g4).world in
+    let l1 : Grows t1 t5 = search rules in
+    let l2 : Grows t2 t5 = search rules in
+    let l3 : Grows t3 t5 = search rules in
+    let l4 : Grows t4 t5 = search rules in
+    let o = c.in_ok-assumption.assumption in
+    let p = c.in_ok-premises.premises in
+    let is = c.in_ok-args.args in
+    let qs = c.in_ok-requirements.requirements in
+    let m1 = l1.now.more_trees in
+    let m2 = l2.now.more_trees in
+    let m3 = l3.now.more_trees in
+    let m4 = l4.now.more_trees in
+    let assumed = some-grown (length t1.trees) (length t5.trees) t1.trees t5.trees m1 l1.now.tree o c.in_ok-assumption.ensures.gives.live in
+    let meant = meant-grown (length t2.trees) (length t5.trees) t2.trees t5.trees m2 l2.now.tree p c.in_ok-premises.ensures.gives.live in
+    let args = trees-grown (length t3.trees) t3.trees t5.trees is l3.now.tree c.in_ok-args.ensures.gives.live in
+    let pairs = pairs-grown (length t4.trees) (length t5.trees) t4.trees t5.trees m4 l4.now.tree qs c.in_ok-requirements.ensures.gives.live in
+    let last = tree_in t5 c.in_ok-conclusion.conclusion in
+    record {
+      live = record {
+        assumed = some-more (length t1.trees) (length t5.trees) t1.trees t5.trees m1 l1.now.tree o c.in_ok-assumption.ensures.gives.live;
+        premises = meant-more (length t2.trees) (length t5.trees) t2.trees t5.trees m2 l2.now.tree p c.in_ok-premises.ensures.gives.live;
+        args = ids-more (length t3.trees) (length t5.trees) is m3 c.in_ok-args.ensures.gives.live;
+        requirements = pairs-more (length t4.trees) (length t5.trees) t4.trees t5.trees m4 l4.now.tree qs c.in_ok-requirements.ensures.gives.live;
+        conclusion = c.in_ok-conclusion.ensures.gives.live;
+      };
+      is = parts-whole w.names w.locals s (option_map (tree_at t1.trees) o) c.in_ok-assumption.ensures.gives.is
+          (read_premises_meant t2.trees p) (ap (λ (u : World). premises_in u s.premises) (sym w1) ∙ c.in_ok-premises.ensures.gives.is)
+          (trees_in t3 is) (ap (λ (u : World). meanings_in u s.arguments) (sym w2) ∙ c.in_ok-args.ensures.gives.is)
+          (map (read_pair t4.trees) qs) (ap (λ (u : World). requirements_in u s.requirements) (sym w3) ∙ c.in_ok-requirements.ensures.gives.is)
+          last (ap (λ (u : World). meaning_in u s.conclusion) (sym w4) ∙ c.in_ok-conclusion.ensures.gives.is)
+          ∙ (λ i. Ok (record { assumed = sym assumed i; premises = sym meant i; arguments = sym args i; requirements = sym pairs i; conclusion = last }));
+    }

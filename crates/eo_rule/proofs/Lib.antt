@@ -1,0 +1,12 @@
+pub mod Chains
+pub mod Complete
+pub mod Grows
+pub mod Guarded
+pub mod HeldValues
+pub mod Openly
+pub mod Ordered
+pub mod Parts
+pub mod Rules
+pub mod Sound
+pub mod Stated
+pub mod Steps

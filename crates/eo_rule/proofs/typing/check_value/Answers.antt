@@ -1,0 +1,62 @@
+use Rattle.std.proofs.Common.{◌≡◌, [], ◌∷◌, Ok, sym, ◌∙◌, subst}
+use Rattle.eo_base.specs.Answers.{Tells}
+use Rattle.eo_base.specs.Checks.{Checked, value_or}
+use Rattle.eo_base.specs.declared.FaultName.TheVariants.{IllTyped}
+use Rattle.eo_sig.specs.Reading.{signature}
+use Rattle.eo_term.specs.Terms.{tree_at}
+use Rattle.eo_term.specs.Tree.{Tree}
+use Rattle.eo_pattern.specs.Matching.{Assignment, put, matching}
+use Rattle.eo_pattern.specs.Slots.{held}
+use Rattle.eo_type.specs.Types.{settled}
+use Rattle.eo_rule.specs.Answers.{told, GivesAssignment}
+use Rattle.eo_rule.specs.Uses.{typed_or, typed, check_value}
+use Rattle.eo_rule.proofs.Steps.{assignment_fails}
+use Rattle.eo_rule.proofs.Chains.{value-first, value-second, value-last}
+use Rattle.eo_rule.proofs.typing.check_value.Goals as goal
+
+pub returns-in_err-found-clause-gives : goal.returns-in_err-found-clause-gives
+returns-in_err-found-clause-gives c =
+    let t = c.args.table.now in
+    let S = signature t.trees c.args.sig.now in
+    let σ = held t.trees c.args.subst.now in
+    let d = tree_at t.trees c.args.ty in
+    let v = tree_at t.trees c.args.value in
+    assignment_fails c.type_of.new.table c.args.subst.now _ (check_value S σ d v) c.in_err-found.field-0.0 (typed S v) c.from_residual.ensures.1 (value-first S σ d v) c.in_err-found.ensures.gives
+
+pub returns-in_err-expected-clause-gives : goal.returns-in_err-expected-clause-gives
+returns-in_err-expected-clause-gives c =
+    let t = c.args.table.now in
+    let S = signature t.trees c.args.sig.now in
+    let s = c.args.subst.now in
+    let σ = held t.trees s in
+    let d = tree_at t.trees c.args.ty in
+    let v = tree_at t.trees c.args.value in
+    let mid = c.type_of.new.table in
+    let g = c.in_ok-found.ensures.grows.table.now in
+    let same : held mid.trees s ≡ σ = (c.growing_law.ensures.holds s t mid c.requires.below g).held in
+    let tree : tree_at mid.trees c.args.ty ≡ d = g.tree c.args.ty c.requires.ty in
+    let x = c.in_err-expected.field-0.0 in
+    assignment_fails c.settled.new.table s _ (check_value S σ d v) x (typed_or (settled (put σ d))) c.from_residual-in_err-expected.ensures.1 (value-second S σ d v _ c.in_ok-found.ensures.gives.is)
+    (subst (λ (o : Checked Tree). Tells told x o) (λ k. typed_or (settled (put (same k) (tree k)))) c.in_err-expected.ensures.gives)
+
+pub returns-clause-gives : goal.returns-clause-gives
+returns-clause-gives c =
+    let t = c.args.table.now in
+    let S = signature t.trees c.args.sig.now in
+    let s = c.args.subst.now in
+    let σ = held t.trees s in
+    let d = tree_at t.trees c.args.ty in
+    let v = tree_at t.trees c.args.value in
+    let mid = c.type_of.new.table in
+    let new = c.settled.new.table in
+    let g = c.in_ok-found.ensures.grows.table.now in
+    let h = c.in_ok-expected.ensures.grows.now in
+    let first = c.growing_law.ensures.holds s t mid c.requires.below g in
+    let second = c.growing_law.ensures.holds s mid new first.below h in
+    let tree : tree_at mid.trees c.args.ty ≡ d = g.tree c.args.ty c.requires.ty in
+    let found : tree_at new.trees c.in_ok-found.found ≡ tree_at mid.trees c.in_ok-found.found = h.tree c.in_ok-found.found c.in_ok-found.ensures.gives.live in
+    let u = tree_at new.trees c.in_ok-expected.expected in
+    let settles : typed_or (settled (put σ d)) ≡ Ok u = sym (λ k. typed_or (settled (put (first.held k) (tree k)))) ∙ c.in_ok-expected.ensures.gives.is in
+    subst (λ (o : Checked Assignment). GivesAssignment new c.match_list.result c.match_list.new.subst o)
+    ((λ k. value_or IllTyped (matching ((second.held ∙ first.held) k) (u ∷ []) (found k ∷ []))) ∙ sym (value-last S σ d v _ u c.in_ok-found.ensures.gives.is settles))
+    c.match_list.ensures

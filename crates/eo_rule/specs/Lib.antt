@@ -1,0 +1,5 @@
+pub mod Answers
+pub mod Derivability
+pub mod Instance
+pub mod Reading
+pub mod Uses

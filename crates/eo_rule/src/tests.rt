@@ -1,0 +1,5 @@
+mod common;
+mod order;
+mod rows;
+mod steps;
+mod world;

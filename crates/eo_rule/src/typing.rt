@@ -1,0 +1,101 @@
+//! The types of a rule's parameters.
+ghost use Rattle.std.specs.Prelude.{◌<◌, ℕ, length, map, option_map, All};
+ghost use Rattle.eo_pattern.specs.Slots.{held, AreBelow};
+ghost use Rattle.eo_sig.specs.Growth.{GrowsUnder};
+ghost use Rattle.eo_sig.specs.Reading.{SomeBelow, read_parameter, signature};
+ghost use Rattle.eo_sig.specs.declared.records.Param.{Param};
+ghost use Rattle.eo_term.specs.Growth.{tree_in};
+ghost use Rattle.eo_type.specs.Known.{Fit};
+ghost use Rattle.eo_rule.specs.Answers.{GivesAssignment};
+ghost use Rattle.eo_rule.specs.Uses as spec;
+
+use crate::RuleRefused;
+use crate::laws::growing_law;
+use crate::matching::match_list;
+use crate::values::{settled, type_of};
+use eo_base::FaultName;
+use eo_pattern::Subst;
+use eo_sig::{Param, Signature};
+use eo_term::{Id, Table};
+use eo_type::Types;
+use std::alloc::Global;
+
+/// Checks that what stands for each parameter has its declared type. The parameters are taken from
+/// the last to the first, and what a type gives a value to is then held.
+pub(crate) fn check_types(
+    alloc: Global,
+    sig: &Signature,
+    table: &mut Table,
+    types: &mut Types,
+    subst: &mut Subst,
+    params: &[Param],
+) -> Result<(), RuleRefused>
+    requires params { All (λ (p : Param). p.ty < length table.old.trees) params.now }
+    requires below { AreBelow (length table.old.trees) subst.old }
+    requires fit { Fit sig.now table.old types.old }
+    ensures gives { GivesAssignment table.new result subst.new (spec.check_types (signature table.old.trees sig.now)
+        (held table.old.trees subst.old) 0 (map (read_parameter table.old.trees) params.now)) }
+    ensures fits { Fit sig.now table.new types.new }
+    ensures grows { GrowsUnder sig.now table.old table.new }
+{
+    sig.laws();
+    let mut left = params.len();
+    while left > 0 {
+        left -= 1;
+        let ty = params[left].ty;
+        check_parameter(alloc, sig, table, types, subst, ty, left)?;
+    }
+    Ok(())
+}
+
+// The same for one parameter, whose number is `par`.
+fn check_parameter(
+    alloc: Global,
+    sig: &Signature,
+    table: &mut Table,
+    types: &mut Types,
+    subst: &mut Subst,
+    ty: Id,
+    par: usize,
+) -> Result<(), RuleRefused>
+    requires ty { ty < length table.old.trees }
+    requires below { AreBelow (length table.old.trees) subst.old }
+    requires fit { Fit sig.now table.old types.old }
+    ensures gives { GivesAssignment table.new result subst.new (spec.check_type (signature table.old.trees sig.now)
+        (held table.old.trees subst.old) (tree_in table.old ty) (held table.old.trees subst.old par)) }
+    ensures fits { Fit sig.now table.new types.new }
+    ensures grows { GrowsUnder sig.now table.old table.new }
+{
+    sig.laws();
+    let Some(value) = subst.get(par) else {
+        return Ok(());
+    };
+    check_value(alloc, sig, table, types, subst, ty, value)
+}
+
+// The same for what stands for a parameter of this type.
+fn check_value(
+    alloc: Global,
+    sig: &Signature,
+    table: &mut Table,
+    types: &mut Types,
+    subst: &mut Subst,
+    ty: Id,
+    value: Id,
+) -> Result<(), RuleRefused>
+    requires ty { ty < length table.old.trees }
+    requires value { value < length table.old.trees }
+    requires below { AreBelow (length table.old.trees) subst.old }
+    requires fit { Fit sig.now table.old types.old }
+    ensures gives { GivesAssignment table.new result subst.new (spec.check_value (signature table.old.trees sig.now)
+        (held table.old.trees subst.old) (tree_in table.old ty) (tree_in table.old value)) }
+    ensures fits { Fit sig.now table.new types.new }
+    ensures grows { GrowsUnder sig.now table.old table.new }
+{
+    sig.laws();
+    growing_law();
+    let found = type_of(sig, table, types, value)?;
+    types.laws();
+    let expected = settled(alloc, sig, table, subst, ty)?;
+    match_list(table, subst, &[expected], &[found], FaultName::IllTyped)
+}

@@ -1,0 +1,117 @@
+//! Types and values of terms, with their faults.
+ghost use Rattle.std.specs.Prelude.{◌<◌, length, IfOk};
+ghost use Rattle.eo_eval.specs.Faults.{value_or_fault};
+ghost use Rattle.eo_eval.specs.Outcomes.{outcome_of, IsValueOf, MayBeValue};
+ghost use Rattle.eo_pattern.specs.Matching.{put};
+ghost use Rattle.eo_pattern.specs.Slots.{held, AreBelow};
+ghost use Rattle.eo_sig.specs.Growth.{GrowsUnder};
+ghost use Rattle.eo_sig.specs.Reading.{signature};
+ghost use Rattle.eo_sig.specs.Usable.{IsUsable};
+ghost use Rattle.eo_term.specs.Growth.{Grows, tree_in};
+ghost use Rattle.eo_term.specs.Terms.{Terms};
+ghost use Rattle.eo_type.specs.Known.{Fit};
+ghost use Rattle.eo_type.specs.Types.{settled};
+ghost use Rattle.eo_rule.specs.Answers.{GivesTerm, GivesValue};
+ghost use Rattle.eo_rule.specs.Uses.{typed, typed_or};
+
+use crate::RuleRefused;
+use eo_base::FaultName;
+use eo_eval::{Evaluator, Outcome};
+use eo_pattern::{Subst, substitute};
+use eo_sig::Signature;
+use eo_term::{Id, Table};
+use eo_type::{Types, settle};
+use std::alloc::Global;
+
+/// The type of a value, which is `IllTyped` where it has none that is a value.
+pub(crate) fn type_of(
+    sig: &Signature,
+    table: &mut Table,
+    types: &mut Types,
+    id: Id,
+) -> Result<Id, RuleRefused>
+    requires live { id < length table.old.trees }
+    requires fit { Fit sig.now table.old types.old }
+    ensures gives { GivesTerm table.new result (typed (signature table.old.trees sig.now) (tree_in table.old id)) }
+    ensures fits { Fit sig.now table.new types.new }
+    ensures grows { GrowsUnder sig.now table.old table.new }
+{
+    let Some(ty) = types.type_of(sig, table, id)? else {
+        return Err(RuleRefused::Fault(FaultName::IllTyped));
+    };
+    if !table.is_value(ty) {
+        return Err(RuleRefused::Fault(FaultName::IllTyped));
+    }
+    Ok(ty)
+}
+
+/// A declared type with what is held put in, settled. It is `IllTyped` where an operator in it has
+/// no value.
+pub(crate) fn settled(
+    alloc: Global,
+    sig: &Signature,
+    table: &mut Table,
+    subst: &Subst,
+    ty: Id,
+) -> Result<Id, RuleRefused>
+    requires live { ty < length table.old.trees }
+    requires below { AreBelow (length table.old.trees) subst.now }
+    ensures gives { GivesTerm table.new result (typed_or (settled (put (held table.old.trees subst.now) (tree_in table.old ty)))) }
+    ensures grows { Grows table.old table.new }
+{
+    let made = substitute(table, subst, ty)?;
+    settled_type(alloc, sig, table, made)
+}
+
+// The same for a type in which all is put in.
+fn settled_type(
+    alloc: Global,
+    sig: &Signature,
+    table: &mut Table,
+    ty: Id,
+) -> Result<Id, RuleRefused>
+    requires live { ty < length table.old.trees }
+    ensures gives { GivesTerm table.new result (typed_or (settled (tree_in table.old ty))) }
+    ensures grows { Grows table.old table.new }
+{
+    table.laws();
+    let Some(found) = settle(alloc, sig, table, ty)? else {
+        return Err(RuleRefused::Fault(FaultName::IllTyped));
+    };
+    Ok(found)
+}
+
+/// The value of a term. Where it has none, the fault says how its evaluation ends.
+pub(crate) fn evaluate(
+    sig: &Signature,
+    table: &mut Table,
+    types: &mut Types,
+    eval: &mut Evaluator,
+    id: Id,
+) -> Result<Id, RuleRefused>
+    requires live { id < length table.old.trees }
+    requires usable { IsUsable (signature table.old.trees sig.now) }
+    requires fit { Fit sig.now table.old types.old }
+    ensures gives { GivesTerm table.new result (value_or_fault (outcome_of sig.now table.old id)) }
+    ensures value { IfOk result (IsValueOf table.new) }
+    ensures fits { Fit sig.now table.new types.new }
+    ensures grows { GrowsUnder sig.now table.old table.new }
+{
+    let outcome = eval.evaluate(sig, table, types, id)?;
+    value_or_fault(outcome)
+}
+
+// The value with which an evaluation ended, or the fault that says how it ended with none.
+fn value_or_fault(outcome: Outcome) -> Result<Id, RuleRefused>
+    ensures gives { GivesValue outcome result }
+    ensures value { (t : Terms) → MayBeValue t outcome → IfOk result (IsValueOf t) }
+{
+    match outcome {
+        Outcome::Value(value) => Ok(value),
+        Outcome::Stuck => Err(RuleRefused::Fault(FaultName::Stuck)),
+        Outcome::Deep => Err(RuleRefused::Fault(FaultName::EvalDepth)),
+        Outcome::Calls => Err(RuleRefused::Fault(FaultName::EvalCalls)),
+        Outcome::Range => Err(RuleRefused::Fault(FaultName::NumberRange)),
+        Outcome::Tall => Err(RuleRefused::Fault(FaultName::TermHeight)),
+    }
+}

@@ -1,0 +1,23 @@
+use Rattle.eo_run.proofs.Holding.{keeps_types}
+use Rattle.eo_run.proofs.held.Held.conclusion.Goals as goal
+
+pub returns-clause-keeps : goal.returns-clause-keeps
+returns-clause-keeps c =
+    let made = c.conclude-formula.ensures in
+    let k = keeps_types c.args.self.now c.requires.whole c.conclude-formula.new.table made.grows.stays made.grows.table c.conclude-formula.new.types made.fits.types c.laws.ensures in
+    record {
+      whole = record {
+        types = k.whole.types;
+        lasts = k.whole.lasts;
+        usable = k.whole.usable;
+        signature = k.whole.signature;
+        assertions = k.whole.assertions;
+        facts = k.whole.facts;
+        values = k.whole.values;
+        marks = k.whole.marks;
+        terms = k.whole.terms;
+      };
+      same = k.same;
+      signature = k.signature;
+      grows = k.grows;
+    }
