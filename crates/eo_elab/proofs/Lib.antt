@@ -9,6 +9,8 @@ pub mod DeclaringLemmas
 pub mod Sizes
 pub mod WalkSteps
 pub mod Giving
+pub mod AnnotationLemmas
+pub mod BitLemmas
 pub mod ProgramLemmas
 mod ProgramVectors
 pub mod Uses

@@ -20,29 +20,29 @@ use Rattle.eo_names.specs.Binders.{list_of, pair_local, variable}
 use Rattle.eo_shape.specs.Words.{symbol_of}
 use Rattle.eo_names.specs.Contexts.{Context, Local, is_list}
 use Rattle.eo_names.specs.Readers.{Label, Reader, ◌>>=◌, give, go_on, unless, with_labels}
-use Rattle.eo_elab.specs.Meaning.{ListForm, ALet, AnAnnotation, ABitString, AnApplication, ATermFirst, Wrong, counted_form, atom, means, means_list, means_all, in_let, in_binder, pair_list, pairs_after}
+use Rattle.eo_elab.specs.Meaning.{ListForm, ALet, AnAnnotation, ABitString, AnApplication, ATermFirst, Wrong, counted_form, atom, means, means_list, means_all, in_let, in_binder, annotated, label, labels_of, pair_list, pairs_after}
 use Rattle.eo_names.specs.Names.{Binding, binding_local, read_locals, read_pairs}
-use Rattle.eo_names.specs.Ready.{context}
 use Rattle.eo_names.specs.declared.scope.Scope.{Scope}
-use Rattle.eo_names.specs.Scopes.{bound_in}
-use Rattle.eo_names.specs.Worlds.{World, world}
+use Rattle.eo_names.specs.Scopes.{bound_in, setting_in}
+use Rattle.eo_names.specs.Worlds.{World}
+use Rattle.eo_elab.specs.Worlds.{place}
 use Rattle.eo_names.specs.Laws.{IsInside}
 use Rattle.eo_elab.specs.Gives.{atom_told}
 
-module _ (c : Context) (ls : List Local) where
-  of_atom : (k : AtomKind) (text : List ℕ) (span : Span) → means c ls (Atom k text span) [] ≡ with_labels [] (atom c ls k text)
+module _ (c : Context) (ls : List Local) (labels : List Label) where
+  of_atom : (k : AtomKind) (text : List ℕ) (span : Span) → means c ls (Atom k text span) labels ≡ with_labels labels (atom c ls k text)
   unfolding means
   of_atom k text span = refl
 
-  no_parts : (form : ListForm) → means_list c ls form NoSexp [] ≡ Err BadArity
+  no_parts : (form : ListForm) → means_list c ls form NoSexp labels ≡ Err BadArity
   unfolding means_list
   no_parts form = refl
 
-  pub of_nothing : (span : Span) → means c ls (Listed NoSexp span) [] ≡ Err BadArity
+  pub of_nothing : (span : Span) → means c ls (Listed NoSexp span) labels ≡ Err BadArity
   unfolding means
   of_nothing span = no_parts (AnApplication (Wrong BadArity))
 
-  by_form : (h : Sexp) (args : Sexps) (form : ListForm) → means_list c ls form (Next h args) [] ≡ formed_from c ls args (parts_of c ls h args) form []
+  by_form : (h : Sexp) (args : Sexps) (form : ListForm) → means_list c ls form (Next h args) labels ≡ formed_from c ls args (parts_of c ls h args) form labels
   unfolding means_list
   by_form h args ALet = refl
   by_form h args AnAnnotation = refl
@@ -50,62 +50,77 @@ module _ (c : Context) (ls : List Local) where
   by_form h args (AnApplication u) = refl
   by_form h args ATermFirst = refl
 
-  of_counted : (h : Sexp) (args : Sexps) (span : Span) → means c ls (Listed (Next h args) span) [] ≡ means_list c ls (counted_form c ls args (symbol_of h)) (Next h args) []
+  of_counted : (h : Sexp) (args : Sexps) (span : Span) → means c ls (Listed (Next h args) span) labels ≡ means_list c ls (counted_form c ls args (symbol_of h)) (Next h args) labels
   unfolding means
   of_counted h args span = refl
 
-  pub of_list : (h : Sexp) (args : Sexps) (span : Span) → means c ls (Listed (Next h args) span) [] ≡ application c ls args (parts_of c ls h args) (symbol_of h) []
+  pub of_list : (h : Sexp) (args : Sexps) (span : Span) → means c ls (Listed (Next h args) span) labels ≡ application c ls args (parts_of c ls h args) (symbol_of h) labels
   of_list h args span = of_counted h args span ∙ by_form h args (counted_form c ls args (symbol_of h))
 
   -- several terms
-  pub all_end : (before : List Tree) → all_after before (means_all c ls NoSexp) [] ≡ Ok (before, [])
+  pub all_end : (before : List Tree) → all_after before (means_all c ls NoSexp) labels ≡ Ok (before, labels)
   unfolding means_all
-  all_end before = ap (λ ts. Ok (ts, [])) (append-nil before)
+  all_end before = ap (λ ts. Ok (ts, labels)) (append-nil before)
 
-  all_first : (s : Sexp) (rest : Sexps) → means_all c ls (Next s rest) [] ≡ (means c ls s >>= λ t. means_all c ls rest >>= λ ts. give (t ∷ ts)) []
+  all_first : (s : Sexp) (rest : Sexps) → means_all c ls (Next s rest) labels ≡ (means c ls s >>= λ t. means_all c ls rest >>= λ ts. give (t ∷ ts)) labels
   unfolding means_all
   all_first s rest = refl
 
-  pub all_next : (s : Sexp) (rest : Sexps) (before : List Tree) (t : Tree) → means c ls s [] ≡ Ok (t, []) → all_after before (means_all c ls (Next s rest)) [] ≡ all_after (before ++ t ∷ []) (means_all c ls rest) []
-  all_next s rest before t e =
-      ap (go_on (λ ts. give (before ++ ts))) (all_first s rest ∙ ap (go_on (λ u. means_all c ls rest >>= λ ts. give (u ∷ ts))) e) ∙ by (means_all c ls rest [])
+  pub all_next : (s : Sexp) (rest : Sexps) (before : List Tree) (t : Tree) (after : List Label) → means c ls s labels ≡ Ok (t, after) → all_after before (means_all c ls (Next s rest)) labels ≡ all_after (before ++ t ∷ []) (means_all c ls rest) after
+  all_next s rest before t after e =
+      ap (go_on (λ ts. give (before ++ ts))) (all_first s rest ∙ ap (go_on (λ u. means_all c ls rest >>= λ ts. give (u ∷ ts))) e) ∙ by (means_all c ls rest after)
     where
       by : (r : Checked (List Tree × List Label)) → go_on (λ ts. give (before ++ ts)) (go_on (λ ts. give (t ∷ ts)) r) ≡ go_on (λ ts. give ((before ++ t ∷ []) ++ ts)) r
       by (Ok p) = ap (λ ts. Ok (ts, p.1)) (sym (append_assoc before (t ∷ []) p.0))
       by (Err fault) = refl
 
-  pub all_fault : (s : Sexp) (rest : Sexps) (before : List Tree) (fault : FaultName) → means c ls s [] ≡ Err fault → all_after before (means_all c ls (Next s rest)) [] ≡ Err fault
+  pub all_fault : (s : Sexp) (rest : Sexps) (before : List Tree) (fault : FaultName) → means c ls s labels ≡ Err fault → all_after before (means_all c ls (Next s rest)) labels ≡ Err fault
   all_fault s rest before fault e =
       ap (go_on (λ ts. give (before ++ ts))) (all_first s rest ∙ ap (go_on (λ u. means_all c ls rest >>= λ ts. give (u ∷ ts))) e)
 
   -- a `let`
-  let_step : (pairs body : Sexp) → in_let c ls (Next pairs (Next body NoSexp)) [] ≡ (pair_list c ls pairs >>= λ ps. means c (map pair_local ps ++ ls) body) []
+  let_step : (pairs body : Sexp) → in_let c ls (Next pairs (Next body NoSexp)) labels ≡ (pair_list c ls pairs >>= λ ps. means c (map pair_local ps ++ ls) body) labels
   unfolding in_let
   let_step pairs body = refl
 
-  pub let_next : (pairs body : Sexp) (ps : List (List ℕ × Tree)) → pair_list c ls pairs [] ≡ Ok (ps, []) → in_let c ls (Next pairs (Next body NoSexp)) [] ≡ means c (map pair_local ps ++ ls) body []
-  let_next pairs body ps e = let_step pairs body ∙ ap (go_on (λ qs. means c (map pair_local qs ++ ls) body)) e
+  pub let_next : (pairs body : Sexp) (ps : List (List ℕ × Tree)) (after : List Label) → pair_list c ls pairs labels ≡ Ok (ps, after) → in_let c ls (Next pairs (Next body NoSexp)) labels ≡ means c (map pair_local ps ++ ls) body after
+  let_next pairs body ps after e = let_step pairs body ∙ ap (go_on (λ qs. means c (map pair_local qs ++ ls) body)) e
 
-  pub let_fault : (pairs body : Sexp) (fault : FaultName) → pair_list c ls pairs [] ≡ Err fault → in_let c ls (Next pairs (Next body NoSexp)) [] ≡ Err fault
+  pub let_fault : (pairs body : Sexp) (fault : FaultName) → pair_list c ls pairs labels ≡ Err fault → in_let c ls (Next pairs (Next body NoSexp)) labels ≡ Err fault
   let_fault pairs body fault e = let_step pairs body ∙ ap (go_on (λ qs. means c (map pair_local qs ++ ls) body)) e
 
-  pub let_none : in_let c ls NoSexp [] ≡ Err BadCommand
+  pub let_none : in_let c ls NoSexp labels ≡ Err BadCommand
   unfolding in_let
   let_none = refl
 
-  pub let_one : (s : Sexp) → in_let c ls (Next s NoSexp) [] ≡ Err BadCommand
+  pub let_one : (s : Sexp) → in_let c ls (Next s NoSexp) labels ≡ Err BadCommand
   unfolding in_let
   let_one s = refl
 
-  pub let_more : (s t u : Sexp) (rest : Sexps) → in_let c ls (Next s (Next t (Next u rest))) [] ≡ Err BadCommand
+  pub let_more : (s t u : Sexp) (rest : Sexps) → in_let c ls (Next s (Next t (Next u rest))) labels ≡ Err BadCommand
   unfolding in_let
   let_more s t u rest = refl
 
-  pub let_not_two : (xs : List Sexp) → None ≡ only_two xs → in_let c ls (sexps_of xs) [] ≡ Err BadCommand
+  pub let_not_two : (xs : List Sexp) → None ≡ only_two xs → in_let c ls (sexps_of xs) labels ≡ Err BadCommand
   let_not_two [] e = let_none
   let_not_two (x ∷ []) e = let_one x
   let_not_two (x ∷ y ∷ []) e = cc
   let_not_two (x ∷ y ∷ z ∷ xs) e = let_more x y z (sexps_of xs)
+
+  -- a term with attributes
+  annotated_step : (s : Sexp) (attributes : Sexps) → annotated c ls (Next s attributes) labels ≡ (means c ls s >>= λ t. label c t (labels_of c.setting attributes)) labels
+  unfolding annotated
+  annotated_step s attributes = refl
+
+  pub annotated_next : (s : Sexp) (attributes : Sexps) (t : Tree) (after : List Label) → means c ls s labels ≡ Ok (t, after) → annotated c ls (Next s attributes) labels ≡ label c t (labels_of c.setting attributes) after
+  annotated_next s attributes t after e = annotated_step s attributes ∙ ap (go_on (λ u. label c u (labels_of c.setting attributes))) e
+
+  pub annotated_fault : (s : Sexp) (attributes : Sexps) (fault : FaultName) → means c ls s labels ≡ Err fault → annotated c ls (Next s attributes) labels ≡ Err fault
+  annotated_fault s attributes fault e = annotated_step s attributes ∙ ap (go_on (λ u. label c u (labels_of c.setting attributes))) e
+
+  pub annotated_none : annotated c ls NoSexp labels ≡ Err BadCommand
+  unfolding annotated
+  annotated_none = refl
 
   -- a binder
   abbrev bound_rest : Sexps → List (List ℕ × Tree) → Tree → Reader (List Tree)
@@ -114,45 +129,45 @@ module _ (c : Context) (ls : List Local) where
   abbrev bound_after : Sexps → ℕ → List (List ℕ × Tree) → Reader (List Tree)
   bound_after rest collector ps = list_of c.signature (is_list ls) collector (map variable ps) >>= bound_rest rest (map variable ps)
 
-  binder_step : (pairs : Sexp) (rest : Sexps) (collector : ℕ) → in_binder c ls (Next pairs rest) collector [] ≡ (pair_list c ls pairs >>= bound_after rest collector) []
+  binder_step : (pairs : Sexp) (rest : Sexps) (collector : ℕ) → in_binder c ls (Next pairs rest) collector labels ≡ (pair_list c ls pairs >>= bound_after rest collector) labels
   unfolding in_binder
   binder_step pairs rest collector = refl
 
-  pub binder_next : (pairs : Sexp) (rest : Sexps) (collector : ℕ) (ps : List (List ℕ × Tree)) (first : Tree) → pair_list c ls pairs [] ≡ Ok (ps, []) → list_of c.signature (is_list ls) collector (map variable ps) [] ≡ Ok (first, [])
-      → in_binder c ls (Next pairs rest) collector [] ≡ all_after (first ∷ []) (means_all c (map pair_local (map variable ps) ++ ls) rest) []
-  binder_next pairs rest collector ps first e h =
+  pub binder_next : (pairs : Sexp) (rest : Sexps) (collector : ℕ) (ps : List (List ℕ × Tree)) (first : Tree) (after : List Label) → pair_list c ls pairs labels ≡ Ok (ps, after) → list_of c.signature (is_list ls) collector (map variable ps) after ≡ Ok (first, after)
+      → in_binder c ls (Next pairs rest) collector labels ≡ all_after (first ∷ []) (means_all c (map pair_local (map variable ps) ++ ls) rest) after
+  binder_next pairs rest collector ps first after e h =
       binder_step pairs rest collector ∙ ap (go_on (bound_after rest collector)) e ∙ ap (go_on (bound_rest rest (map variable ps))) h
 
-  pub binder_pairs_fault : (pairs : Sexp) (rest : Sexps) (collector : ℕ) (fault : FaultName) → pair_list c ls pairs [] ≡ Err fault → in_binder c ls (Next pairs rest) collector [] ≡ Err fault
+  pub binder_pairs_fault : (pairs : Sexp) (rest : Sexps) (collector : ℕ) (fault : FaultName) → pair_list c ls pairs labels ≡ Err fault → in_binder c ls (Next pairs rest) collector labels ≡ Err fault
   binder_pairs_fault pairs rest collector fault e = binder_step pairs rest collector ∙ ap (go_on (bound_after rest collector)) e
 
-  pub binder_list_fault : (pairs : Sexp) (rest : Sexps) (collector : ℕ) (ps : List (List ℕ × Tree)) (fault : FaultName) → pair_list c ls pairs [] ≡ Ok (ps, []) → list_of c.signature (is_list ls) collector (map variable ps) [] ≡ Err fault
-      → in_binder c ls (Next pairs rest) collector [] ≡ Err fault
-  binder_list_fault pairs rest collector ps fault e h =
+  pub binder_list_fault : (pairs : Sexp) (rest : Sexps) (collector : ℕ) (ps : List (List ℕ × Tree)) (after : List Label) (fault : FaultName) → pair_list c ls pairs labels ≡ Ok (ps, after) → list_of c.signature (is_list ls) collector (map variable ps) after ≡ Err fault
+      → in_binder c ls (Next pairs rest) collector labels ≡ Err fault
+  binder_list_fault pairs rest collector ps after fault e h =
       binder_step pairs rest collector ∙ ap (go_on (bound_after rest collector)) e ∙ ap (go_on (bound_rest rest (map variable ps))) h
 
-  pub binder_none : (collector : ℕ) → in_binder c ls NoSexp collector [] ≡ Err BadCommand
+  pub binder_none : (collector : ℕ) → in_binder c ls NoSexp collector labels ≡ Err BadCommand
   unfolding in_binder
   binder_none collector = refl
 
   -- pairs
-  pairs_atom : (k : AtomKind) (text : List ℕ) (span : Span) → pair_list c ls (Atom k text span) [] ≡ Err BadCommand
+  pairs_atom : (k : AtomKind) (text : List ℕ) (span : Span) → pair_list c ls (Atom k text span) labels ≡ Err BadCommand
   unfolding pair_list
   pairs_atom k text span = refl
 
-  pub pairs_no_list : (s : Sexp) → None ≡ parts_in s → pair_list c ls s [] ≡ Err BadCommand
+  pub pairs_no_list : (s : Sexp) → None ≡ parts_in s → pair_list c ls s labels ≡ Err BadCommand
   pairs_no_list (Atom k text span) e = pairs_atom k text span
   pairs_no_list (Listed ss span) e = cc
 
-  pub pairs_listed : (ss : Sexps) (span : Span) → pair_list c ls (Listed ss span) [] ≡ pairs_after c ls ss [] []
+  pub pairs_listed : (ss : Sexps) (span : Span) → pair_list c ls (Listed ss span) labels ≡ pairs_after c ls ss [] labels
   unfolding pair_list
   pairs_listed ss span = refl
 
-  pub pairs_end : (before : List (List ℕ × Tree)) → pairs_after c ls NoSexp before [] ≡ Ok (before, [])
+  pub pairs_end : (before : List (List ℕ × Tree)) → pairs_after c ls NoSexp before labels ≡ Ok (before, labels)
   unfolding pairs_after
   pairs_end before = refl
 
-  pub pairs_other : (s : Sexp) (rest : Sexps) (before : List (List ℕ × Tree)) → None ≡ pair_of s → pairs_after c ls (Next s rest) before [] ≡ Err BadCommand
+  pub pairs_other : (s : Sexp) (rest : Sexps) (before : List (List ℕ × Tree)) → None ≡ pair_of s → pairs_after c ls (Next s rest) before labels ≡ Err BadCommand
   unfolding pairs_after
   pairs_other (Atom k text span) rest before e = refl
   pairs_other (Listed NoSexp span) rest before e = refl
@@ -170,7 +185,7 @@ module _ (c : Context) (ls : List Local) where
   abbrev pair_then : Sexps → List ℕ → Sexp → List (List ℕ × Tree) → Bool → Reader (List (List ℕ × Tree))
   pair_then rest name t before b = unless (not b) Redeclared (means c ls t >>= pair_added rest name before)
 
-  pairs_step : (s t : Sexp) (name : List ℕ) (rest : Sexps) (before : List (List ℕ × Tree)) → Some (name, t) ≡ pair_of s → pairs_after c ls (Next s rest) before [] ≡ pair_then rest name t before (named_before name before) []
+  pairs_step : (s t : Sexp) (name : List ℕ) (rest : Sexps) (before : List (List ℕ × Tree)) → Some (name, t) ≡ pair_of s → pairs_after c ls (Next s rest) before labels ≡ pair_then rest name t before (named_before name before) labels
   unfolding pairs_after
   pairs_step (Atom k text span) t name rest before e = cc
   pairs_step (Listed NoSexp span) t name rest before e = cc
@@ -180,32 +195,32 @@ module _ (c : Context) (ls : List Local) where
       let both = same_Some (name, t) (n, u) e in
       let same_name : n ≡ name = sym (ap (λ (p : List ℕ × Sexp). p.0) both) in
       let same : u ≡ t = sym (ap (λ (p : List ℕ × Sexp). p.1) both) in
-      λ i. pair_then rest (same_name i) (same i) before (named_before (same_name i) before) []
+      λ i. pair_then rest (same_name i) (same i) before (named_before (same_name i) before) labels
   pairs_step (Listed (Next (Atom k n at) (Next u (Next v ss))) span) t name rest before e = cc
 
-  pub pairs_twice : (s t : Sexp) (name : List ℕ) (rest : Sexps) (before : List (List ℕ × Tree)) → Some (name, t) ≡ pair_of s → named_before name before ≡ true → pairs_after c ls (Next s rest) before [] ≡ Err Redeclared
-  pairs_twice s t name rest before e h = pairs_step s t name rest before e ∙ ap (λ b. pair_then rest name t before b []) h
+  pub pairs_twice : (s t : Sexp) (name : List ℕ) (rest : Sexps) (before : List (List ℕ × Tree)) → Some (name, t) ≡ pair_of s → named_before name before ≡ true → pairs_after c ls (Next s rest) before labels ≡ Err Redeclared
+  pairs_twice s t name rest before e h = pairs_step s t name rest before e ∙ ap (λ b. pair_then rest name t before b labels) h
 
-  pub pairs_next : (s t : Sexp) (name : List ℕ) (rest : Sexps) (before : List (List ℕ × Tree)) (tree : Tree) → Some (name, t) ≡ pair_of s → named_before name before ≡ false → means c ls t [] ≡ Ok (tree, [])
-      → pairs_after c ls (Next s rest) before [] ≡ pairs_after c ls rest (before ++ (name, tree) ∷ []) []
-  pairs_next s t name rest before tree e h m =
-      pairs_step s t name rest before e ∙ ap (λ b. pair_then rest name t before b []) h ∙ ap (go_on (pair_added rest name before)) m
+  pub pairs_next : (s t : Sexp) (name : List ℕ) (rest : Sexps) (before : List (List ℕ × Tree)) (tree : Tree) (after : List Label) → Some (name, t) ≡ pair_of s → named_before name before ≡ false → means c ls t labels ≡ Ok (tree, after)
+      → pairs_after c ls (Next s rest) before labels ≡ pairs_after c ls rest (before ++ (name, tree) ∷ []) after
+  pairs_next s t name rest before tree after e h m =
+      pairs_step s t name rest before e ∙ ap (λ b. pair_then rest name t before b labels) h ∙ ap (go_on (pair_added rest name before)) m
 
-  pub pairs_fault : (s t : Sexp) (name : List ℕ) (rest : Sexps) (before : List (List ℕ × Tree)) (fault : FaultName) → Some (name, t) ≡ pair_of s → named_before name before ≡ false → means c ls t [] ≡ Err fault
-      → pairs_after c ls (Next s rest) before [] ≡ Err fault
+  pub pairs_fault : (s t : Sexp) (name : List ℕ) (rest : Sexps) (before : List (List ℕ × Tree)) (fault : FaultName) → Some (name, t) ≡ pair_of s → named_before name before ≡ false → means c ls t labels ≡ Err fault
+      → pairs_after c ls (Next s rest) before labels ≡ Err fault
   pairs_fault s t name rest before fault e h m =
-      pairs_step s t name rest before e ∙ ap (λ b. pair_then rest name t before b []) h ∙ ap (go_on (pair_added rest name before)) m
+      pairs_step s t name rest before e ∙ ap (λ b. pair_then rest name t before b labels) h ∙ ap (go_on (pair_added rest name before)) m
 
 -- what names stand for inside a `let` or a binder, over a table that has grown
-pub world_inside : (k : Kept) (s inner : Scope) (old new : Terms) → world new k s ≡ world old k s → (bs : List Binding) (ps : List (List ℕ × Tree)) → read_pairs new.trees bs ≡ ps → bound_in inner ≡ map binding_local bs ++ bound_in s → IsInside bs (bound_in s)
-    → world new k inner ≡ record { names = context old.trees k; locals = map pair_local ps ++ read_locals old.trees (bound_in s) }
-world_inside k s inner old new same bs ps e h inside =
+pub world_inside : (k : Kept) (s inner : Scope) (old new : Terms) → place new k s ≡ place old k s → (bs : List Binding) (ps : List (List ℕ × Tree)) → read_pairs new.trees bs ≡ ps → bound_in inner ≡ map binding_local bs ++ bound_in s → IsInside bs (bound_in s)
+    → setting_in inner ≡ setting_in s → place new k inner ≡ record { names = (place old k s).names; locals = map pair_local ps ++ read_locals old.trees (bound_in s) }
+world_inside k s inner old new same bs ps e h inside stays =
     let seen : read_locals new.trees (bound_in inner) ≡ map pair_local ps ++ read_locals old.trees (bound_in s) = ap (read_locals new.trees) h ∙ inside.locals new.trees ∙ (λ i. map pair_local (e i) ++ (same i).locals) in
-    λ i. record { names = (same i).names; locals = seen i }
+    λ i. record { names = record { signature = (same i).names.signature; macros = (same i).names.macros; setting = stays i }; locals = seen i }
 
-pub of_no_list : (w : World) (s : Sexp) → None ≡ parts_in s → means w.names w.locals s [] ≡ with_labels [] (atom_told w (sexp_kind s) (sexp_text s))
-of_no_list w (Atom kind.Symbol text span) e = of_atom w.names w.locals kind.Symbol text span
-of_no_list w (Atom kind.Keyword text span) e = of_atom w.names w.locals kind.Keyword text span
-of_no_list w (Atom kind.Literal text span) e = of_atom w.names w.locals kind.Literal text span
-of_no_list w (Atom kind.String text span) e = of_atom w.names w.locals kind.String text span
-of_no_list w (Listed ss span) e = cc
+pub of_no_list : (w : World) (s : Sexp) (labels : List Label) → None ≡ parts_in s → means w.names w.locals s labels ≡ with_labels labels (atom_told w (sexp_kind s) (sexp_text s))
+of_no_list w (Atom kind.Symbol text span) labels e = of_atom w.names w.locals labels kind.Symbol text span
+of_no_list w (Atom kind.Keyword text span) labels e = of_atom w.names w.locals labels kind.Keyword text span
+of_no_list w (Atom kind.Literal text span) labels e = of_atom w.names w.locals labels kind.Literal text span
+of_no_list w (Atom kind.String text span) labels e = of_atom w.names w.locals labels kind.String text span
+of_no_list w (Listed ss span) labels e = cc

@@ -1,7 +1,7 @@
 -- What a list is by its head, over the terms of a table.
-use Rattle.std.specs.Prelude.{ℕ, List, ◌++◌, Option, Some, None, if◌then◌else◌}
+use Rattle.std.specs.Prelude.{ℕ, ◌<◌, ◌≤◌, ◌^◌, List, ◌++◌, Option, Some, None, if◌then◌else◌}
 use Rattle.eo_sexp.specs.Sexp.{Sexp, Atom, Listed, Sexps, NoSexp, Next}
-use Rattle.eo_term.specs.Tree.{Tree}
+use Rattle.eo_term.specs.Tree.{Tree, Bits}
 use Rattle.eo_sig.specs.Signature.{Attribute, Plain, RightNil, LeftNil, Right, Left, Chain, Pairs, Binder}
 use Rattle.eo_names.specs.declared.usage.Use.{Use}
 use Rattle.eo_names.specs.declared.usage.Use.TheVariants as use_
@@ -82,12 +82,16 @@ abbrev pub formed : List Tree → Context → List Local → Sexps → Parts →
 formed ts c locals args parts form.Let = parts.in_let
 formed ts c locals args parts form.Head = headed c locals args parts
 formed ts c locals args parts (form.Arguments u) = arguments_used ts c locals parts u
+formed ts c locals args parts form.Annotation = parts.annotated
+formed ts c locals args parts (form.Bits width value) = give (Bits width value)
 
 -- its terms are below n, and it may be had with so many arguments
 abbrev pub FormFits : (n count : ℕ) → Form → Type 0
 FormFits n count form.Let = Unit {0}
 FormFits n count form.Head = Unit {0}
 FormFits n count (form.Arguments u) = UseBelow n u × Suits u count
+FormFits n count form.Annotation = Unit {0}
+FormFits n count (form.Bits width value) = (width ≤ 128) × (value < 2 ^ width)
 
 -- the name of a pair, and what stands beside it
 abbrev pub pair_of : Sexp → Option (List ℕ × Sexp)

@@ -1,5 +1,5 @@
 -- What calls answer, against what is read: the terms of a table, or the fault.
-use Rattle.std.specs.Prelude.{◌≡◌, ℕ, ◌<◌, List, [], ◌∷◌, length, map, All, Result, Ok, Err}
+use Rattle.std.specs.Prelude.{◌≡◌, ℕ, ◌<◌, List, ◌∷◌, length, map, take, All, Result, Ok, Err}
 use Rattle.eo_base.specs.Answers.{Gives, Tells}
 use Rattle.eo_base.specs.Checks.{Checked}
 use Rattle.eo_base.specs.declared.FaultName.TheVariants.{UnknownSymbol}
@@ -18,19 +18,23 @@ use Rattle.eo_sig.specs.Reading.{Kept, read_attribute, read_constant, read_macro
 use Rattle.eo_sig.specs.Signature.{Attribute, Constant, Macro, Case, Program, Rule}
 use Rattle.eo_term.specs.Tree.{Tree}
 use Rattle.eo_term.specs.Terms.{Terms, tree_at}
+use Rattle.eo_term.specs.Growth.{tree_in}
 use Rattle.eo_elab.specs.declared.parameters.Bound as code_bound
 use Rattle.eo_elab.specs.declared.plan.Form.{Form}
 use Rattle.eo_names.specs.declared.refused.ElabRefused.{ElabRefused}
+use Rattle.eo_names.specs.declared.scope.Scope.{Scope}
+use Rattle.eo_names.specs.Scopes.{setting_in}
 use Rattle.eo_names.specs.declared.usage.Use.{Use}
 use Rattle.eo_shape.specs.Shapes.{ParameterShape}
 use Rattle.eo_elab.specs.Declarations.{Bound, Declaration, bind}
 use Rattle.eo_elab.specs.Declaring.{read_bound, read_declaration, read_typed, BoundBelow, DeclarationBelow, TypedBelow}
-use Rattle.eo_names.specs.Contexts.{Context, Local}
+use Rattle.eo_names.specs.Contexts.{Context, Setting, Local}
+use Rattle.eo_names.specs.Readers.{Label, Reader}
 use Rattle.eo_elab.specs.Forms.{Parts}
 use Rattle.eo_names.specs.Names.{Binding, read_pairs, BindingsBelow}
 use Rattle.eo_names.specs.Refused.{told}
 use Rattle.eo_names.specs.Worlds.{World, Read}
-use Rattle.eo_elab.specs.Worlds.{context_in, atom_in, form_in, used_in, application_in, word_in, meant_in, applied_in, more_pairs_in}
+use Rattle.eo_elab.specs.Worlds.{place, labels_in, arguments_in, label_over, underscore_in, in_setting, context_in, atom_in, form_in, used_in, application_in, word_in, meant_in, applied_in, more_pairs_in}
 use Rattle.eo_names.specs.declared.symbols.Meant as code_meant
 use Rattle.eo_names.specs.Symbols.{read_meant}
 use Rattle.eo_names.specs.Ready.{context}
@@ -47,30 +51,61 @@ atom_told w told_kind.List text = Err UnknownSymbol
 abbrev pub GivesTrees : Terms → Result (List ℕ) ElabRefused → Checked (List Tree) → Type 0
 GivesTrees t r o = Gives told (All (λ i. i < length t.trees)) (map (tree_at t.trees)) r o
 
-abbrev pub GivesTerms : Terms → Result (List ℕ) ElabRefused → Read (List Tree) → Type 0
-GivesTerms t r o = Gives told (All (λ i. i < length t.trees)) (λ is. (map (tree_at t.trees) is, [])) r o
+-- the same with the names that terms gave themselves by then
+abbrev pub GivesTerm : Terms → List Binding → Result ℕ ElabRefused → Read Tree → Type 0
+GivesTerm t ls r o = Gives told (λ i. i < length t.trees) (λ i. (tree_in t i, labels_in t ls)) r o
 
-abbrev pub GivesPairs : Terms → Result (List Binding) ElabRefused → Read (List (List ℕ × Tree)) → Type 0
-GivesPairs t r o = Gives told (BindingsBelow (length t.trees)) (λ bs. (read_pairs t.trees bs, [])) r o
+abbrev pub GivesTerms : Terms → List Binding → Result (List ℕ) ElabRefused → Read (List Tree) → Type 0
+GivesTerms t ls r o = Gives told (All (λ i. i < length t.trees)) (λ is. (map (tree_at t.trees) is, labels_in t ls)) r o
+
+abbrev pub GivesPairs : Terms → List Binding → Result (List Binding) ElabRefused → Read (List (List ℕ × Tree)) → Type 0
+GivesPairs t ls r o = Gives told (BindingsBelow (length t.trees)) (λ bs. (read_pairs t.trees bs, labels_in t ls)) r o
 
 -- a pair is read into the names, and what is left is read behind it
-pub record IsAdded (w : World) (old new : Terms) (pair : Sexp) (before after : List Binding) : Type 0 where
+pub record IsAdded (w : World) (old new : Terms) (given gives : List Binding) (pair : Sexp) (before after : List Binding) : Type 0 where
   pub live : BindingsBelow (length new.trees) after
-  pub pairs : (rest : Sexps) → more_pairs_in w (Next pair rest) (read_pairs old.trees before) ≡ more_pairs_in w rest (read_pairs new.trees after)
+  pub pairs : (rest : Sexps) → more_pairs_in w (Next pair rest) (read_pairs old.trees before) (labels_in old given) ≡ more_pairs_in w rest (read_pairs new.trees after) (labels_in new gives)
 
-abbrev pub AddsPair : World → Terms → Terms → Sexp → List Binding → List Binding → Result (Unit {0}) ElabRefused → Type 0
-AddsPair w old new pair before after (Ok x) = IsAdded w old new pair before after
-AddsPair w old new pair before after (Err e) = (rest : Sexps) → Tells told e (more_pairs_in w (Next pair rest) (read_pairs old.trees before))
+abbrev pub AddsPair : World → Terms → Terms → (given gives : List Binding) → Sexp → List Binding → List Binding → Result (Unit {0}) ElabRefused → Type 0
+AddsPair w old new given gives pair before after (Ok x) = IsAdded w old new given gives pair before after
+AddsPair w old new given gives pair before after (Err e) = (rest : Sexps) → Tells told e (more_pairs_in w (Next pair rest) (read_pairs old.trees before) (labels_in old given))
+
+abbrev pub AddsPairAt : Terms → Kept → Scope → Terms → (given gives : List Binding) → Sexp → List Binding → List Binding → Result (Unit {0}) ElabRefused → Type 0
+AddsPairAt old k s new given gives pair before after r = AddsPair (place old k s) old new given gives pair before after r
+
+-- the arguments of a use, whatever its head
+abbrev pub GivesArguments : Terms → Kept → Scope → Terms → (given gives : List Binding) → List Sexp → Use → Result (List ℕ) ElabRefused → Type 0
+GivesArguments old k s new given gives args u r = (head : Sexp) → GivesTerms new gives r (arguments_in (place old k s) head args u (labels_in old given))
+
+-- a term is given names
+abbrev pub GivesLabels : Terms → List Binding → ℕ → Result (Unit {0}) ElabRefused → Read Tree → Type 0
+GivesLabels t after i (Ok x) o = o ≡ Ok (tree_in t i, labels_in t after)
+GivesLabels t after i (Err e) o = Tells told e o
+
+-- a term is given one name, and behind it any others
+abbrev pub AddsLabel : Terms → Kept → Setting → (before after : List Binding) → ℕ → List ℕ → Result (Unit {0}) ElabRefused → Type 0
+AddsLabel t k x before after i name (Ok u) = (more : List (List ℕ)) → label_over t k x before i (name ∷ more) ≡ label_over t k x after i more
+AddsLabel t k x before after i name (Err e) = (more : List (List ℕ)) → Tells told e (label_over t k x before i (name ∷ more))
+
+-- The names that terms gave themselves are those before and then more, all of terms that are there. So many names stand in front of those now as stood in front of them before.
+pub record NamesGrow (new : Terms) (before after : List Binding) : Type 0 where
+  pub below : BindingsBelow (length new.trees) after
+  pub now : take (length before) after ≡ before
+  pub since : (first : List Binding) → take (length first) before ≡ first → take (length first) after ≡ first
 
 -- ---- what a list is, and how a head uses its arguments, whatever the readings of its parts are
 
-abbrev pub IsFormed : World → Terms → List Sexp → Result Form ElabRefused → (Parts → Read Tree) → Type 0
-IsFormed w t args (Ok f) o = (parts : Parts) → o parts ≡ form_in w t args parts f
-IsFormed w t args (Err e) o = (parts : Parts) → Tells told e (o parts)
+-- these names in any kind of file
+abbrev pub world_at : Setting → Context → List Local → World
+world_at x c ls = in_setting x (record { names = c; locals = ls })
 
-abbrev pub IsUsed : Context → List Tree → Result Use ElabRefused → (World → Parts → Read Tree) → Type 0
-IsUsed c ts (Ok u) o = (ls : List Local) (parts : Parts) → o (record { names = c; locals = ls }) parts ≡ used_in (record { names = c; locals = ls }) ts parts u
-IsUsed c ts (Err e) o = (ls : List Local) (parts : Parts) → Tells told e (o (record { names = c; locals = ls }) parts)
+abbrev pub IsFormed : World → Terms → List Sexp → Result Form ElabRefused → (Parts → Reader Tree) → Type 0
+IsFormed w t args (Ok f) o = (parts : Parts) (labels : List Label) → o parts labels ≡ form_in w t args parts f labels
+IsFormed w t args (Err e) o = (parts : Parts) (labels : List Label) → Tells told e (o parts labels)
+
+abbrev pub IsUsed : Context → List Tree → Result Use ElabRefused → (World → Parts → Reader Tree) → Type 0
+IsUsed c ts (Ok u) o = (x : Setting) (ls : List Local) (parts : Parts) (labels : List Label) → o (world_at x c ls) parts labels ≡ used_in (world_at x c ls) ts parts u labels
+IsUsed c ts (Err e) o = (x : Setting) (ls : List Local) (parts : Parts) (labels : List Label) → Tells told e (o (world_at x c ls) parts labels)
 
 -- the same of the list of a head and its arguments, of one whose head is this name, and of what a name or a term as a head does
 abbrev pub FormsList : World → Terms → Sexp → List Sexp → Result Form ElabRefused → Type 0
@@ -78,6 +113,10 @@ FormsList w t head args r = IsFormed w t args r (application_in w head args)
 
 abbrev pub FormsWord : World → Terms → List ℕ → List Sexp → Result Form ElabRefused → Type 0
 FormsWord w t name args r = IsFormed w t args r (word_in w name args)
+
+-- the same of one whose head is `_`, in a scope
+abbrev pub FormsUnderscore : World → Terms → Scope → List Sexp → Result Form ElabRefused → Type 0
+FormsUnderscore w t s args r = w.names.setting ≡ setting_in s → IsFormed w t args r (underscore_in w args)
 
 abbrev pub UsesMeant : Kept → Terms → List Sexp → code_meant.Meant → Result Use ElabRefused → Type 0
 UsesMeant k t args m r = IsUsed (context_in t k) t.trees r (λ w parts. meant_in w args parts (read_meant t.trees k m))

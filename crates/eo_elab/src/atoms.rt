@@ -1,9 +1,9 @@
 //! The meaning of an atom.
-ghost use Rattle.std.specs.Prelude.{length, option_map};
+ghost use Rattle.std.specs.Prelude.{◌≤◌, ◌<◌, ◌^◌, length, option_map, Ok};
 ghost use Rattle.eo_base.specs.Checks.{value_or};
 ghost use Rattle.eo_base.specs.declared.FaultName.TheVariants.{BadLiteral};
 ghost use Rattle.eo_lit.specs.Literals.{literal_value, string_value};
-ghost use Rattle.eo_term.specs.Tree.{Str};
+ghost use Rattle.eo_term.specs.Tree.{Str, Bits};
 ghost use Rattle.eo_term.specs.Growth.{Grows};
 ghost use Rattle.eo_elab.specs.Meaning.{tree_alone, literal_tree};
 ghost use Rattle.eo_sexp.specs.AtomKind as kinds;
@@ -11,9 +11,8 @@ ghost use Rattle.eo_names.specs.Symbols.{read_meant, IsLive};
 ghost use Rattle.eo_names.specs.Gives.{GivesTree};
 ghost use Rattle.eo_names.specs.Scopes.{bound_in};
 ghost use Rattle.eo_names.specs.Ready.{IsReady};
-ghost use Rattle.eo_names.specs.Worlds.{world};
 ghost use Rattle.eo_elab.specs.Gives.{atom_told};
-ghost use Rattle.eo_elab.specs.Worlds.{atom_in};
+ghost use Rattle.eo_elab.specs.Worlds.{place, atom_in};
 
 use crate::ElabRefused;
 use eo_lit::{LitRead, StringRefused, read_literal, read_string};
@@ -27,7 +26,8 @@ use std::alloc::Global;
 /// name stands for.
 ///
 /// `BadLiteral`: a literal or a string without an accepted value. `BadArity`: a program, a macro
-/// with parameters, an operator, or one of `_`, `->` and `let`. `UnknownSymbol`: any other symbol
+/// with parameters, an operator, or one of `_`, `->`, `let` and, in a
+/// reference file, `!`. `UnknownSymbol`: any other symbol
 /// that stands for nothing, and a keyword.
 #[tactic(auto, unfolding(crate::specs::Meaning::atom))]
 pub(crate) fn atom(
@@ -39,7 +39,7 @@ pub(crate) fn atom(
     table: &mut Table,
 ) -> Result<Id, ElabRefused>
     requires { IsReady (length table.old.trees) sig.now (bound_in scope.now) }
-    ensures gives { GivesTree table.new result (atom_told (world table.old sig.now scope.now) kind text.now) }
+    ensures gives { GivesTree table.new result (atom_told (place table.old sig.now scope.now) kind text.now) }
     ensures grows { Grows table.old table.new }
 {
     match kind {
@@ -60,14 +60,15 @@ fn symbol(
     table: &mut Table,
 ) -> Result<Id, ElabRefused>
     requires { IsReady (length table.old.trees) sig.now (bound_in scope.now) }
-    ensures gives { GivesTree table.new result (atom_in (world table.old sig.now scope.now) kinds.Symbol name.now) }
+    ensures gives { GivesTree table.new result (atom_in (place table.old sig.now scope.now) kinds.Symbol name.now) }
     ensures grows { Grows table.old table.new }
 {
-    match word_of(name) {
+    match word_of(name, scope) {
         Word::Name => term_of(sig, name_meant(name, scope, sig), table),
         Word::Underscore => Err(ElabRefused::BadArity),
         Word::Arrow => Err(ElabRefused::BadArity),
         Word::Let => Err(ElabRefused::BadArity),
+        Word::Annotation => Err(ElabRefused::BadArity),
     }
 }
 
@@ -113,4 +114,14 @@ fn string(alloc: Global, body: &[u8], table: &mut Table) -> Result<Id, ElabRefus
     };
     let text = table.text(characters.as_slice())?;
     Ok(table.intern_low(Node::Str(text))?)
+}
+
+/// A bit string of so many bits, with this value.
+pub(crate) fn bit_string(width: u8, value: u128, table: &mut Table) -> Result<Id, ElabRefused>
+    requires width { width ≤ 128 }
+    requires value { value < 2 ^ width }
+    ensures gives { GivesTree table.new result (Ok (Bits width value)) }
+    ensures grows { Grows table.old table.new }
+{
+    Ok(table.intern_low(Node::Bits { width, value })?)
 }

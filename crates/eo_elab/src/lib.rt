@@ -2,7 +2,9 @@
 //! terms of a table.
 #![tactic(auto)]
 
+mod annotations;
 mod atoms;
+mod bits;
 mod constants;
 mod declaring;
 mod laws;
@@ -20,8 +22,8 @@ pub use declaring::{
     declaration, declared_const, declared_fun, declared_literals, declared_parameterized,
     declared_sort, defined,
 };
-pub use eo_names::{ElabRefused, LocalName, Locals};
+pub use eo_names::{Bindings as Names, ElabRefused, LocalName, Locals};
 pub use laws::ordering_law;
 pub use programs::declared_program;
 pub use rules::declared_rule;
-pub use terms::term;
+pub use terms::{reference_term, term};

@@ -6,14 +6,18 @@ ghost use Rattle.eo_term.specs.Growth.{tree_in};
 ghost use Rattle.eo_term.specs.Tree.{Tree, Con};
 ghost use Rattle.eo_names.specs.Folding.{attribute_at, least};
 ghost use Rattle.eo_elab.specs.Forms.{collector_of, FormFits};
-ghost use Rattle.eo_elab.specs.Gives.{FormsList, FormsWord, UsesMeant, UsesTree};
+ghost use Rattle.eo_elab.specs.Gives.{FormsUnderscore, FormsList, FormsWord, UsesMeant, UsesTree};
 ghost use Rattle.eo_names.specs.Scopes.{bound_in};
+ghost use Rattle.eo_names.specs.Worlds.{World};
+ghost use Rattle.eo_term.specs.Terms.{Terms};
 ghost use Rattle.eo_names.specs.Symbols.{IsLive};
 ghost use Rattle.eo_names.specs.Usage.{UseBelow, Suits};
 ghost use Rattle.eo_names.specs.Ready.{IsReady};
-ghost use Rattle.eo_names.specs.Worlds.{world};
+ghost use Rattle.eo_elab.specs.Worlds.{place};
 
 use crate::ElabRefused;
+use crate::annotations::is_annotated;
+use crate::bits::bit_vector_in;
 use crate::shapes::{begins_with_pairs, is_let};
 use eo_names::{Meant, Scope, Use, Word, attribute_of, least_of, name_meant, word_of};
 use eo_sexp::{Children, Sexp};
@@ -30,6 +34,10 @@ pub(crate) enum Form {
     Head,
     /// Arguments that are used.
     Arguments(Use),
+    /// A term with attributes.
+    Annotation,
+    /// A bit string of so many bits, with this value.
+    Bits { width: u8, value: u128 },
 }
 
 /// What the list of a head and its arguments is.
@@ -41,7 +49,7 @@ pub(crate) fn form_of(
     table: &Table,
 ) -> Result<Form, ElabRefused>
     requires ready { IsReady (length table.now.trees) sig.now (bound_in scope.now) }
-    ensures form { FormsList (world table.now sig.now scope.now) table.now head.now args.now result }
+    ensures form { FormsList (place table.now sig.now scope.now) table.now head.now args.now result }
     ensures some { OnOk result (1 ≤ length args.now) }
     ensures fits { IfOk result (FormFits (length table.now.trees) (length args.now)) }
 {
@@ -64,16 +72,11 @@ fn form_by_word(
 ) -> Result<Form, ElabRefused>
     requires ready { IsReady (length table.now.trees) sig.now (bound_in scope.now) }
     requires some { 1 ≤ length args.now }
-    ensures form { FormsWord (world table.now sig.now scope.now) table.now name.now args.now result }
+    ensures form { FormsWord (place table.now sig.now scope.now) table.now name.now args.now result }
     ensures fits { IfOk result (FormFits (length table.now.trees) (length args.now)) }
 {
-    match word_of(name) {
-        Word::Underscore => {
-            if args.len() < 2 {
-                return Err(ElabRefused::BadArity);
-            }
-            Ok(Form::Arguments(Use::Underscore))
-        }
+    match word_of(name, scope) {
+        Word::Underscore => form_of_underscore(args, scope),
         Word::Arrow => {
             if args.len() < 2 {
                 return Err(ElabRefused::BadArity);
@@ -86,11 +89,34 @@ fn form_by_word(
             }
             Ok(Form::Let)
         }
+        Word::Annotation => {
+            if !is_annotated(args, scope.setting()) {
+                return Err(ElabRefused::BadCommand);
+            }
+            Ok(Form::Annotation)
+        }
         Word::Name => {
             let used = use_of_meaning(name_meant(name, scope, sig), args, sig, table)?;
             Ok(Form::Arguments(used))
         }
     }
+}
+
+// The same, where the head is `_`: in a reference file, `bvN` and a width are a bit string.
+fn form_of_underscore(args: &Children<'_>, scope: &Scope<'_>) -> Result<Form, ElabRefused>
+    ensures form { (w : World) (t : Terms) → FormsUnderscore w t scope.now args.now result }
+    ensures fits { (n : ℕ) → IfOk result (FormFits n (length args.now)) }
+{
+    if let Some(bits) = bit_vector_in(args, scope.setting()) {
+        return Ok(Form::Bits {
+            width: bits.width,
+            value: bits.value,
+        });
+    }
+    if args.len() < 2 {
+        return Err(ElabRefused::BadArity);
+    }
+    Ok(Form::Arguments(Use::Underscore))
 }
 
 // How a name that stands for this uses its arguments.

@@ -1,11 +1,10 @@
 //! What a command that declares a rule declares.
-ghost use Rattle.std.specs.Prelude.{◌≡◌, ◌<◌, List, length, is_some, All, IfOk};
+ghost use Rattle.std.specs.Prelude.{◌≡◌, ◌<◌, List, length, All, IfOk};
 ghost use Rattle.eo_term.specs.Growth.{tree_in, Grows};
 ghost use Rattle.eo_term.specs.Tree.{Tree, Con};
 ghost use Rattle.eo_shape.specs.Reading.{read_pair, read_premises, read_rule as read_shape};
 ghost use Rattle.eo_sig.specs.Growth.{GrowsUnder};
-ghost use Rattle.eo_sig.specs.Reading.{signature, read_attribute, IsBelow, IsFreeRule};
-ghost use Rattle.eo_sig.specs.Signature.{terminator, terminator_of};
+ghost use Rattle.eo_sig.specs.Reading.{signature, IsBelow, IsFreeRule};
 ghost use Rattle.eo_elab.specs.Declarations.{joiner};
 ghost use Rattle.eo_elab.specs.Declaring.{BoundBelow, rule_in, rule_over_in};
 ghost use Rattle.eo_elab.specs.Gives.{GivesNumber, GivesRule};
@@ -23,7 +22,7 @@ use eo_base::limits::PARAMETERS;
 use eo_names::names_law;
 use eo_sexp::Sexp;
 use eo_shape::{PairShape, PairShapes, PremisesShape, RuleShape};
-use eo_sig::{Attribute, IdPairs, Params, PremiseShape, RuleDecl, Signature};
+use eo_sig::{IdPairs, Params, PremiseShape, RuleDecl, Signature};
 use eo_term::{Id, Ids, Node, Table};
 use std::alloc::Global;
 
@@ -294,25 +293,8 @@ fn joining(id: Id, sig: &Signature, table: &Table) -> Result<usize, ElabRefused>
 fn with_terminator(k: usize, sig: &Signature) -> Result<usize, ElabRefused>
     ensures { (ts : List Tree) → GivesNumber result (joiner (signature ts sig.now) (Con k)) }
 {
-    if !has_terminator(sig, k) {
+    if !sig.has_terminator(k) {
         return Err(ElabRefused::BadPattern);
     }
     Ok(k)
-}
-
-// Whether the number is that of a constant with a terminator at the right.
-fn has_terminator(sig: &Signature, n: usize) -> bool
-    ensures { (ts : List Tree) → result ≡ is_some (terminator (signature ts sig.now) n) }
-{
-    if n >= sig.constants() {
-        return false;
-    }
-    ends_at_right(&sig.constant(n).attribute)
-}
-
-// Whether the attribute has a terminator at the right.
-fn ends_at_right(attribute: &Attribute) -> bool
-    ensures { (ts : List Tree) → result ≡ is_some (terminator_of (read_attribute ts attribute.now)) }
-{
-    matches!(attribute, Attribute::RightNil(_))
 }

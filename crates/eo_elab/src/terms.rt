@@ -1,15 +1,17 @@
 //! The meaning of a term.
-ghost use Rattle.std.specs.Prelude.{◌≡◌, length, IfOk};
+ghost use Rattle.std.specs.Prelude.{◌≡◌, length, IfOk, OnErr};
 ghost use Rattle.eo_term.specs.Growth.{Grows};
 ghost use Rattle.eo_names.specs.Gives.{GivesTree};
 ghost use Rattle.eo_names.specs.Ready.{IsReady, Keeps};
 ghost use Rattle.eo_names.specs.Worlds.{world_of};
-ghost use Rattle.eo_elab.specs.Gives.{GivesTrees};
-ghost use Rattle.eo_elab.specs.Worlds.{meaning_in, meanings_in};
+ghost use Rattle.eo_names.specs.Names.{BindingsBelow};
+ghost use Rattle.eo_elab.specs.Gives.{GivesTrees, GivesTerm, NamesGrow};
+ghost use Rattle.eo_names.specs.Scopes.{read_setting};
+ghost use Rattle.eo_elab.specs.Worlds.{meaning_in, meanings_in, meant_at, reference_setting, reference_meaning};
 
 use crate::walk::mean;
-use crate::{ElabRefused, Locals};
-use eo_names::{Scope, names_law};
+use crate::{ElabRefused, Locals, Names};
+use eo_names::{Scope, Setting, names_law};
 use eo_sexp::{Children, Sexp};
 use eo_sig::{Signature, SignatureView};
 use eo_term::{Id, Ids, Table};
@@ -45,6 +47,89 @@ pub fn term(
     mean_term(alloc, s, locals, &SignatureView::of(sig), table)
 }
 
+/// The meaning of a term of a reference file, as a term of the table, by the rules that
+/// [`term`] has and these: `!` gives a term attributes, which say nothing, but that `:named` in an
+/// assertion makes a name for it; and `(_ bvN w)` is the bit string of w bits that N writes.
+///
+/// In an assertion the names that its terms give themselves come behind those of `names`. Elsewhere
+/// `names` stays as it is.
+///
+/// A refusal is the first fault, from left to right, as [`term`] has it. Besides,
+///
+/// - `BadCommand`: a `!` of a wrong shape.
+/// - `Redeclared`: a name that a term gives itself, and that is taken, reserved or in `names`.
+///
+/// The terms that the signature and the names hold are terms of the table. All of these stay; a
+/// refused call leaves `names` as it was, and may leave new terms behind the others.
+pub fn reference_term(
+    alloc: Global,
+    s: &Sexp<'_>,
+    locals: &Locals,
+    sig: &Signature,
+    table: &mut Table,
+    in_assert: bool,
+    names: &mut Names,
+) -> Result<Id, ElabRefused>
+    requires ready { IsReady (length table.old.trees) sig.now locals.now }
+    requires names { BindingsBelow (length table.old.trees) names.old }
+    ensures gives { GivesTerm table.new names.new result (reference_meaning table.old sig.now locals.now names.old in_assert s.now) }
+    ensures refused { OnErr result (names.new ≡ names.old) }
+    ensures grows { Grows table.old table.new }
+    ensures keeps { Keeps sig.now locals.now table.old.trees table.new.trees }
+    ensures names { NamesGrow table.new names.old names.new }
+{
+    let before = names.len();
+    let setting = reference_setting(in_assert);
+    match mean_at(
+        alloc,
+        s,
+        locals,
+        setting,
+        &SignatureView::of(sig),
+        table,
+        names,
+    ) {
+        Ok(id) => Ok(id),
+        Err(e) => {
+            names.truncate(before);
+            Err(e)
+        }
+    }
+}
+
+// The kind of file, in an assertion or outside.
+fn reference_setting(in_assert: bool) -> Setting
+    ensures { read_setting result ≡ reference_setting in_assert }
+{
+    if in_assert {
+        Setting::Assert
+    } else {
+        Setting::Reference
+    }
+}
+
+// The meaning of a term in a file of this kind. The names that it gives itself come behind those
+// that were given; a refused call may have given some.
+fn mean_at(
+    alloc: Global,
+    s: &Sexp<'_>,
+    locals: &Locals,
+    setting: Setting,
+    sig: &SignatureView<'_>,
+    table: &mut Table,
+    labels: &mut Names,
+) -> Result<Id, ElabRefused>
+    requires ready { IsReady (length table.old.trees) sig.now locals.now }
+    requires labels { BindingsBelow (length table.old.trees) labels.old }
+    ensures gives { GivesTerm table.new labels.new result (meant_at table.old sig.now locals.now labels.old (read_setting setting) s.now) }
+    ensures grows { Grows table.old table.new }
+    ensures keeps { Keeps sig.now locals.now table.old.trees table.new.trees }
+    ensures labels { NamesGrow table.new labels.old labels.new }
+{
+    names_law();
+    mean(alloc, s, &Scope::Outer(locals, setting), sig, table, labels)
+}
+
 /// The meaning of a term where this is declared.
 pub(crate) fn mean_term(
     alloc: Global,
@@ -58,8 +143,8 @@ pub(crate) fn mean_term(
     ensures grows { Grows table.old table.new }
     ensures keeps { Keeps sig.now locals.now table.old.trees table.new.trees }
 {
-    names_law();
-    mean(alloc, s, &Scope::Outer(locals), sig, table)
+    let mut labels = Names::new(alloc);
+    mean_at(alloc, s, locals, Setting::Proof, sig, table, &mut labels)
 }
 
 /// The meanings of terms in order, where this is declared.

@@ -1,5 +1,6 @@
 mod declarations;
 mod programs;
+mod reference;
 mod rules;
 mod terms;
 mod world;

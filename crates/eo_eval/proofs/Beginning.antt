@@ -12,9 +12,14 @@ use Rattle.eo_sig.specs.Reading.{Kept, signature}
 use Rattle.eo_sig.specs.Signature.{Signature}
 use Rattle.eo_eval.specs.Evaluation.{Calls, Call, call_eq, Begun, on_body, body_of, eval}
 use Rattle.eo_eval.specs.Machine.{Family, Covers, Frame, OfNode, OfCall, Stacked, evals, calls, finish}
-use Rattle.eo_eval.specs.Reading.{node_of, wait_of, deepest_of, left_of, values_before, waiting, call_at, read_call, begun, IsKnown, IsPlaced, Remembers}
+use Rattle.eo_eval.specs.Reading.{node_of, wait_of, deepest_of, left_of, values_before, waiting, call_at, read_call, begun, local_tree, IsKnown, IsLocal, IsPlaced, Remembers, Scoped}
 use Rattle.eo_eval.specs.Ready.{Stands, Calling, called_at, told_call, waiting_in}
+use Rattle.eo_pattern.specs.Matching.{put}
+use Rattle.std.proofs.Math.Path.{transport}
+use Rattle.eo_eval.specs.Bodies.{assignment_of}
+use Rattle.eo_eval.specs.Scopes.{Bound, entered, outer, assignment_here, IsScope}
 use Rattle.eo_eval.specs.declared.calls.CallKey.{CallKey}
+use Rattle.eo_eval.specs.declared.calls.LocalKey.{LocalKey}
 use Rattle.eo_eval.specs.declared.machine.Machine.{Machine}
 use Rattle.eo_eval.specs.declared.stack.Frame as code_frame
 use Rattle.eo_eval.specs.declared.stack.Frame.TheVariants as frame
@@ -49,17 +54,33 @@ longer [] x = refl
 longer (y ∷ b) x = ap suc (longer b x)
 
 placed_more : (b : Begun) (x : Call) (f : code_frame.Frame) → IsPlaced (length b) f → IsPlaced (length (b ++ x ∷ [])) f
-placed_more b x (frame.Body place body) p = omega (arith, p, longer b x)
+placed_more b x (frame.Body place body base here kept) p = omega (arith, p, longer b x)
 placed_more b x f p = tt
 
--- what waits is the same
-waiting_more : (ts : List Tree) (b : Begun) (x : Call) (fs : List code_frame.Frame) (vs : List ℕ) → All (IsPlaced (length b)) fs → waiting ts (b ++ x ∷ []) fs vs ≡ waiting ts b fs vs
-waiting_more ts b x [] vs h = refl
-waiting_more ts b x (f ∷ fs) vs h = by f (All-head (IsPlaced (length b)) f fs h) (λ us. waiting_more ts b x fs us (All-tail (IsPlaced (length b)) f fs h))
+-- What waits is the same, and what stands for parameters is right.
+
+waiting_more : (ts : List Tree) (b : Begun) (x : Call) (scope : Bound) (fs : List code_frame.Frame) (vs : List ℕ) → All (IsPlaced (length b)) fs → waiting ts (b ++ x ∷ []) scope fs vs ≡ waiting ts b scope fs vs
+waiting_more ts b x scope [] vs h = refl
+waiting_more ts b x scope (f ∷ fs) vs h = by f (All-head (IsPlaced (length b)) f fs h) (λ r us. waiting_more ts b x r fs us (All-tail (IsPlaced (length b)) f fs h))
   where
-    by : (f : code_frame.Frame) → IsPlaced (length b) f → ((us : List ℕ) → waiting ts (b ++ x ∷ []) fs us ≡ waiting ts b fs us) → waiting ts (b ++ x ∷ []) (f ∷ fs) vs ≡ waiting ts b (f ∷ fs) vs
-    by (frame.Body place body) p rest = let c = get_or-append b (x ∷ []) (record { program = 0; arguments = [] }) place p in λ i. OfCall (c i) (tree_at ts body) ∷ rest vs i
-    by f p rest = ap (λ ws. OfNode (tree_at ts (node_of f)) (wait_of ts vs f) (deepest_of f) (left_of f) ∷ ws) (rest (values_before vs f))
+    by : (f : code_frame.Frame) → IsPlaced (length b) f → ((r : Bound) (us : List ℕ) → waiting ts (b ++ x ∷ []) r fs us ≡ waiting ts b r fs us) → waiting ts (b ++ x ∷ []) scope (f ∷ fs) vs ≡ waiting ts b scope (f ∷ fs) vs
+    by (frame.Body place body base here kept) p rest =
+        let c = get_or-append b (x ∷ []) (record { program = 0; arguments = [] }) place p in
+        let ws = rest (outer scope base here) vs in
+        λ i. OfCall (c i) (entered ts scope body) ∷ ws i
+    by f p rest = ap (λ ws. OfNode (entered ts scope (node_of f)) (wait_of ts scope vs f) (deepest_of f) (left_of f) ∷ ws) (rest scope (values_before vs f))
+
+here_more : (S : Signature) (b : Begun) (x : Call) (n : ℕ) → n ≤ length b → assignment_here S (b ++ x ∷ []) n ≡ assignment_here S b n
+here_more S b x zero l = refl
+here_more S b x (suc place) l = ap (assignment_of S) (get_or-append b (x ∷ []) (record { program = 0; arguments = [] }) place (omega arith))
+
+scope_more : (S : Signature) (ts : List Tree) (b : Begun) (x : Call) (scope : Bound) → IsScope S ts b scope → IsScope S ts (b ++ x ∷ []) scope
+scope_more S ts b x scope h = record { begun = omega (arith, h.begun, longer b x); agrees = h.agrees ∙ sym (here_more S b x scope.here h.begun) }
+
+scoped_more : (S : Signature) (ts : List Tree) (b : Begun) (x : Call) (scope : Bound) (fs : List code_frame.Frame) → Scoped S ts b scope fs → Scoped S ts (b ++ x ∷ []) scope fs
+scoped_more S ts b x scope [] h = scope_more S ts b x scope h
+scoped_more S ts b x scope (frame.Body place body base here kept ∷ fs) h = (scope_more S ts b x scope h.0, scoped_more S ts b x (outer scope base here) fs h.1)
+scoped_more S ts b x scope (f ∷ fs) h = scoped_more S ts b x scope fs h
 
 known_later : (ts : List Tree) (b c : Begun) → Covers c b → (F : Family) (r : code_known.Known) → IsKnown ts b F r → IsKnown ts c F r
 known_later ts b c over F known.Open h = h
@@ -115,18 +136,26 @@ module _ (S : Signature) (most : ℕ) (ts : List Tree) (cs : List Entry) (key : 
   abbrev T : Begun → ℕ × code_known.Known → Type 0
   T c e = (e.0 < length ts) × IsKnown ts c (evals S most (tree_at ts e.0)) e.1
 
-  remembers_more : (es : List (ℕ × code_known.Known)) → Covers (b ++ x ∷ []) b → Remembers S most ts cs es → Remembers S most ts (cs ++ (key, known.Open) ∷ []) es
-  remembers_more es over h =
+  local_more : (e : LocalKey × code_known.Known) → Covers (b ++ x ∷ []) b → IsLocal S most ts b e → IsLocal S most ts (b ++ x ∷ []) e
+  local_more e over h = record {
+    live = h.live;
+    begun = omega (arith, h.begun, longer b x);
+    known = subst (λ σ. IsKnown ts (b ++ x ∷ []) (evals S most (put σ (tree_at ts e.0.id))) e.1) (sym (here_more S b x e.0.here h.begun)) (known_later ts b (b ++ x ∷ []) over (evals S most (local_tree S ts b e.0)) e.1 h.known);
+  }
+
+  remembers_more : (es : List (ℕ × code_known.Known)) (ls : List (LocalKey × code_known.Known)) → Covers (b ++ x ∷ []) b → Remembers S most ts cs es ls → Remembers S most ts (cs ++ (key, known.Open) ∷ []) es ls
+  remembers_more es ls over h =
       let same = sym (begun_more ts cs key known.Open) in
       record {
         calls = subst (λ c. All (C c) (cs ++ (key, known.Open) ∷ [])) same
             (All-push (C (b ++ x ∷ [])) cs (key, known.Open) (All-weaker (C b) (C (b ++ x ∷ [])) (λ e k. known_later ts b (b ++ x ∷ []) over (calls S most (read_call ts e.0)) e.1 k) cs h.calls) tt);
         terms = subst (λ c. All (T c) es) same (All-weaker (T b) (T (b ++ x ∷ [])) (λ e k. (k.0, known_later ts b (b ++ x ∷ []) over (evals S most (tree_at ts e.0)) e.1 k.1)) es h.terms);
+        locals = subst (λ c. All (IsLocal S most ts c) ls) same (All-weaker (IsLocal S most ts b) (IsLocal S most ts (b ++ x ∷ [])) (λ e k. local_more e over k) ls h.locals);
       }
 
 -- of machines
 module _ (k : Kept) (t : Terms) (typed : List (ℕ × ℕ)) (e later : Machine) (key : CallKey) (live : All (λ i. i < length t.trees) key.args.items) (h : Calling k t typed e (read_call t.trees key))
-    (fs : later.stack.frames.items ≡ e.stack.frames.items) (vs : later.stack.values.items ≡ e.stack.values.items) (cs : later.calls.entries ≡ e.calls.entries ++ (key, known.Open) ∷ []) (es : later.terms.entries ≡ e.terms.entries)
+    (fs : later.stack.frames.items ≡ e.stack.frames.items) (vs : later.stack.values.items ≡ e.stack.values.items) (scope : later.scope ≡ e.scope) (cs : later.calls.entries ≡ e.calls.entries ++ (key, known.Open) ∷ []) (es : later.terms.entries ≡ e.terms.entries) (ls : later.locals.entries ≡ e.locals.entries)
     (fresh : list_any (call_eq (read_call t.trees key)) (begun t.trees e.calls.entries) ≡ false) (room : nat_lt (length (begun t.trees e.calls.entries)) calls_limit ≡ true) where
   abbrev sig : Signature
   sig = signature t.trees k
@@ -149,11 +178,11 @@ module _ (k : Kept) (t : Terms) (typed : List (ℕ × ℕ)) (e later : Machine) 
   pub began_called : called_at t later (length e.calls.entries) ≡ made
   began_called = (λ i. call_at (begun_now i) (length e.calls.entries)) ∙ (ap (call_at now) (sym (begun_count t.trees e.calls.entries)) ∙ last_at first made)
 
-  waits_same : waiting t.trees now (reverse e.stack.frames.items) e.stack.values.items ≡ waiting_in t e
-  waits_same = waiting_more t.trees first made (reverse e.stack.frames.items) e.stack.values.items (all_reverse (IsPlaced (length first)) e.stack.frames.items h.stands.placed)
+  waits_same : waiting t.trees now e.scope (reverse e.stack.frames.items) e.stack.values.items ≡ waiting_in t e
+  waits_same = waiting_more t.trees first made e.scope (reverse e.stack.frames.items) e.stack.values.items (all_reverse (IsPlaced (length first)) e.stack.frames.items h.stands.placed)
 
   waiting_now : waiting_in t later ≡ waiting_in t e
-  waiting_now = (λ i. waiting t.trees (begun_now i) (reverse (fs i)) (vs i)) ∙ waits_same
+  waiting_now = (λ i. waiting t.trees (begun_now i) (scope i) (reverse (fs i)) (vs i)) ∙ waits_same
 
   pub began_told : (left : ℕ) → 0 < left → told_call k t later made left ≡ told_call k t e made left
   began_told zero more = absurd (none more)
@@ -167,24 +196,31 @@ module _ (k : Kept) (t : Terms) (typed : List (ℕ × ℕ)) (e later : Machine) 
   pub began_calling : Calling k t typed later made
   began_calling =
       let s = h.stands in
+      let c = sym cs in
+      let m = sym es in
+      let l = sym ls in
+      let n = sym begun_now in
+      let f = sym fs in
+      let v = sym vs in
+      let r = sym scope in
+      let w = sym waiting_now in
       record {
         held = record {
           usable = h.held.usable;
           fit = h.held.fit;
-          keys_live = subst (All (λ (c : Entry). All (λ i. i < length t.trees) c.0.args.items)) (sym cs) (All-push (λ (c : Entry). All (λ i. i < length t.trees) c.0.args.items) e.calls.entries (key, known.Open) h.held.keys_live live);
-          remembers = subst (λ xs. Remembers sig calls_limit t.trees xs later.terms.entries) (sym cs) (subst (Remembers sig calls_limit t.trees (e.calls.entries ++ (key, known.Open) ∷ [])) (sym es) (remembers_more sig calls_limit t.trees e.calls.entries key e.terms.entries over h.held.remembers));
+          keys_live = subst (All (λ (c : Entry). All (λ i. i < length t.trees) c.0.args.items)) c (All-push (λ (c : Entry). All (λ i. i < length t.trees) c.0.args.items) e.calls.entries (key, known.Open) h.held.keys_live live);
+          remembers = transport (λ i. Remembers sig calls_limit t.trees (c i) (m i) (l i)) (remembers_more sig calls_limit t.trees e.calls.entries key e.terms.entries e.locals.entries over h.held.remembers);
         };
-        stands = subst (λ c. Stands sig calls_limit t.trees c later.stack.frames.items later.stack.values.items next.Deep) (sym begun_now)
-            (subst (λ gs. Stands sig calls_limit t.trees now gs later.stack.values.items next.Deep) (sym fs)
-            (subst (λ us. Stands sig calls_limit t.trees now e.stack.frames.items us next.Deep) (sym vs)
+        stands = transport (λ i. Stands sig calls_limit t.trees (n i) (r i) (f i) (v i) next.Deep)
             (record {
               now_live = s.now_live;
               frames_live = s.frames_live;
               placed = All-weaker (IsPlaced (length first)) (IsPlaced (length now)) (placed_more first made) e.stack.frames.items s.placed;
               values_live = s.values_live;
+              slots_live = s.slots_live;
+              scoped = scoped_more sig t.trees first made e.scope (reverse e.stack.frames.items) s.scoped;
               based = s.based;
               waits = tt;
-            })));
-        waits = subst (λ ws. Stacked sig calls_limit (begun t.trees later.calls.entries) ws (calls sig calls_limit made)) (sym waiting_now)
-            (subst (λ c. Stacked sig calls_limit c (waiting_in t e) (calls sig calls_limit made)) (sym begun_now) (stacked_later sig calls_limit first now over (waiting_in t e) (calls sig calls_limit made) h.waits));
+            });
+        waits = transport (λ i. Stacked sig calls_limit (n i) (w i) (calls sig calls_limit made)) (stacked_later sig calls_limit first now over (waiting_in t e) (calls sig calls_limit made) h.waits);
       }

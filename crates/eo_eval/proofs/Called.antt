@@ -1,8 +1,8 @@
 -- A call gets the result of its body, and is remembered.
-use Rattle.std.specs.Prelude.{◌≡◌, ℕ, zero, suc, ◌<◌, All, List, [], ◌∷◌, ◌++◌, length, reverse, slice_get, Some, refl}
+use Rattle.std.specs.Prelude.{◌≡◌, ℕ, zero, suc, ◌<◌, All, List, [], ◌∷◌, ◌++◌, length, reverse, take, slice_get, Some, refl}
 use Rattle.std.proofs.Common.{sym, ◌∙◌, ap, subst}
 use Rattle.std.proofs.lemmas.List.{reverse-append}
-use Rattle.std.proofs.lemmas.List.Elements.{All-head, All-tail, All-cons, All-pop}
+use Rattle.std.proofs.lemmas.List.Elements.{All-head, All-tail, All-cons, All-pop, All-take}
 use Rattle.std.proofs.lemmas.Option.{none-some, same_Some}
 use Rattle.indexmap.specs.Layout.{set_value_at}
 use Rattle.eo_base.specs.Limits.{calls_limit}
@@ -12,9 +12,12 @@ use Rattle.eo_sig.specs.Reading.{Kept, signature}
 use Rattle.eo_sig.specs.Signature.{Signature}
 use Rattle.eo_eval.specs.Evaluation.{Value, Stuck, Call, Begun}
 use Rattle.eo_eval.specs.Machine.{Frame, OfCall, evals, calls, finish}
-use Rattle.eo_eval.specs.Reading.{waiting, told, Waits, call_at, read_call, begun, IsKnown, Remembers, IsFrame, IsPlaced, IsResult, depth_of, deeper, known_of, NowBelow}
+use Rattle.eo_eval.specs.Reading.{waiting, told, Waits, call_at, read_call, begun, IsKnown, IsLocal, Remembers, Scoped, IsFrame, IsPlaced, IsResult, depth_of, deeper, known_of, NowBelow}
 use Rattle.eo_eval.specs.Ready.{Based, Stands, Ready, PoppedReady, told_in, told_popped}
+use Rattle.std.proofs.Math.Path.{transport}
+use Rattle.eo_eval.specs.Scopes.{Bound, entered, outer, IsValueSlot}
 use Rattle.eo_eval.specs.declared.calls.CallKey.{CallKey}
+use Rattle.eo_eval.specs.declared.calls.LocalKey.{LocalKey}
 use Rattle.eo_eval.specs.declared.machine.Machine.{Machine}
 use Rattle.eo_eval.specs.declared.stack.Frame as code_frame
 use Rattle.eo_eval.specs.declared.stack.Frame.TheVariants as frame
@@ -47,22 +50,31 @@ call_read ts (x ∷ es) zero e h = ap (λ (y : Entry). read_call ts y.0) (same_S
 call_read ts (x ∷ es) (suc i) e h = call_read ts es i e h
 
 -- what is kept of the call at a place is right where it is right of that call
-pub remembers_put : (S : Signature) (most : ℕ) (ts : List Tree) (cs : List Entry) (es : List (ℕ × code_known.Known)) (i : ℕ) (v : code_known.Known) → Remembers S most ts cs es → IsKnown ts (begun ts cs) (calls S most (call_at (begun ts cs) i)) v → Remembers S most ts (set_value_at cs i v) es
-remembers_put S most ts cs es i v h known =
+pub remembers_put : (S : Signature) (most : ℕ) (ts : List Tree) (cs : List Entry) (es : List (ℕ × code_known.Known)) (ls : List (LocalKey × code_known.Known)) (i : ℕ) (v : code_known.Known) → Remembers S most ts cs es ls → IsKnown ts (begun ts cs) (calls S most (call_at (begun ts cs) i)) v → Remembers S most ts (set_value_at cs i v) es ls
+remembers_put S most ts cs es ls i v h known =
     let C : Begun → Entry → Type 0 = λ b c. IsKnown ts b (calls S most (read_call ts c.0)) c.1 in
     let T : Begun → ℕ × code_known.Known → Type 0 = λ b c. (c.0 < length ts) × IsKnown ts b (evals S most (tree_at ts c.0)) c.1 in
     let b = begun ts cs in
+    let same = sym (begun_set ts cs i v) in
     record {
-      calls = subst (λ b. All (C b) (set_value_at cs i v)) (sym (begun_set ts cs i v)) (all_set (C b) cs i v h.calls (λ c at. subst (λ x. IsKnown ts b (calls S most x) v) (call_read ts cs i c at) known));
-      terms = subst (λ b. All (T b) es) (sym (begun_set ts cs i v)) h.terms;
+      calls = subst (λ b. All (C b) (set_value_at cs i v)) same (all_set (C b) cs i v h.calls (λ c at. subst (λ x. IsKnown ts b (calls S most x) v) (call_read ts cs i c at) known));
+      terms = subst (λ b. All (T b) es) same h.terms;
+      locals = subst (λ b. All (IsLocal S most ts b) ls) same h.locals;
     }
 
-module _ (S : Signature) (most : ℕ) (ts : List Tree) (b : Begun) (fs : List code_frame.Frame) (vs : List ℕ) (place body : ℕ) where
+-- of fewer terms in bodies
+pub remembers_fewer : (S : Signature) (most : ℕ) (ts : List Tree) (cs : List Entry) (es : List (ℕ × code_known.Known)) (ls : List (LocalKey × code_known.Known)) (n : ℕ) → Remembers S most ts cs es ls → Remembers S most ts cs es (take n ls)
+remembers_fewer S most ts cs es ls n h = record { calls = h.calls; terms = h.terms; locals = All-take (IsLocal S most ts (begun ts cs)) n ls h.locals }
+
+module _ (S : Signature) (most : ℕ) (ts : List Tree) (b : Begun) (scope : Bound) (fs : List code_frame.Frame) (vs : List ℕ) (place body base here kept : ℕ) where
   abbrev f : code_frame.Frame
-  f = frame.Body place body
+  f = frame.Body place body base here kept
+
+  abbrev before : Bound
+  before = outer scope base here
 
   abbrev ws : List Frame
-  ws = waiting ts b (reverse fs) vs
+  ws = waiting ts b before (reverse fs) vs
 
   abbrev x : Call
   x = call_at b place
@@ -70,40 +82,45 @@ module _ (S : Signature) (most : ℕ) (ts : List Tree) (b : Begun) (fs : List co
   top : f ∷ reverse fs ≡ reverse (fs ++ f ∷ [])
   top = sym (reverse-append fs (f ∷ []))
 
-  popped : (now : code_now.Now) → Stands S most ts b (fs ++ f ∷ []) vs now → Waits S most ts b (OfCall x (tree_at ts body) ∷ ws) now
-  popped now s = subst (λ gs. Waits S most ts b (waiting ts b gs vs) now) (sym top) s.waits
+  popped : (now : code_now.Now) → Stands S most ts b scope (fs ++ f ∷ []) vs now → Waits S most ts b scope (OfCall x (entered ts scope body) ∷ ws) now
+  popped now s = subst (λ gs. Waits S most ts b scope (waiting ts b scope gs vs) now) (sym top) s.waits
 
-  pub call_told : (now : code_now.Now) (e : ℕ) → IsResult now → told S most ts b fs vs (deeper now e) ≡ told S most ts b (fs ++ f ∷ []) vs now
-  call_told (next.Value i d) e r = ap (λ gs. finish S most (waiting ts b gs vs) (Value (tree_at ts i), b)) top
-  call_told (next.Stuck d) e r = ap (λ gs. finish S most (waiting ts b gs vs) (Stuck, b)) top
+  pub call_told : (now : code_now.Now) (e : ℕ) → IsResult now → told S most ts b before fs vs (deeper now e) ≡ told S most ts b scope (fs ++ f ∷ []) vs now
+  call_told (next.Value i d) e r = ap (λ gs. finish S most (waiting ts b scope gs vs) (Value (tree_at ts i), b)) top
+  call_told (next.Stuck d) e r = ap (λ gs. finish S most (waiting ts b scope gs vs) (Stuck, b)) top
   call_told (next.Enter i k) e r = absurd r
   call_told next.Deep e r = absurd r
   call_told next.Calls e r = absurd r
   call_told next.Range e r = absurd r
   call_told next.Tall e r = absurd r
 
-  pub call_known : (now : code_now.Now) → IsResult now → Stands S most ts b (fs ++ f ∷ []) vs now → IsKnown ts b (calls S most x) (known_of now (suc (depth_of now)))
-  call_known (next.Value i d) r s = (s.now_live, again_called S most b ws x (tree_at ts body) (Value (tree_at ts i)) d (popped (next.Value i d) s))
-  call_known (next.Stuck d) r s = again_called S most b ws x (tree_at ts body) Stuck d (popped (next.Stuck d) s)
+  pub call_known : (now : code_now.Now) → IsResult now → Stands S most ts b scope (fs ++ f ∷ []) vs now → IsKnown ts b (calls S most x) (known_of now (suc (depth_of now)))
+  call_known (next.Value i d) r s = (s.now_live, again_called S most b ws x (entered ts scope body) (Value (tree_at ts i)) d (popped (next.Value i d) s))
+  call_known (next.Stuck d) r s = again_called S most b ws x (entered ts scope body) Stuck d (popped (next.Stuck d) s)
   call_known (next.Enter i k) r s = absurd r
   call_known next.Deep r s = absurd r
   call_known next.Calls r s = absurd r
   call_known next.Range r s = absurd r
   call_known next.Tall r s = absurd r
 
-  after : (now : code_now.Now) → Stands S most ts b (fs ++ f ∷ []) vs now → (n : code_now.Now) → NowBelow (length ts) n → Waits S most ts b ws n → Stands S most ts b fs vs n
+  scoped_after : Scoped S ts b scope (reverse (fs ++ f ∷ [])) → Scoped S ts b before (reverse fs)
+  scoped_after h = (subst (Scoped S ts b scope) (sym top) h).1
+
+  after : (now : code_now.Now) → Stands S most ts b scope (fs ++ f ∷ []) vs now → (n : code_now.Now) → NowBelow (length ts) n → Waits S most ts b before ws n → Stands S most ts b before fs vs n
   after now s n live waits = record {
     now_live = live;
     frames_live = (All-pop (IsFrame ts) (fs ++ f ∷ []) fs (Some f) refl s.frames_live).0;
     placed = (All-pop (IsPlaced (length b)) (fs ++ f ∷ []) fs (Some f) refl s.placed).0;
     values_live = s.values_live;
+    slots_live = All-take (IsValueSlot ts) scope.base scope.slots s.slots_live;
+    scoped = scoped_after s.scoped;
     based = subst (λ gs. Based ts gs vs) (sym top) s.based;
     waits = waits;
   }
 
-  pub call_stands : (now : code_now.Now) → IsResult now → Stands S most ts b (fs ++ f ∷ []) vs now → Stands S most ts b fs vs (deeper now (suc (depth_of now)))
-  call_stands (next.Value i d) r s = after (next.Value i d) s (next.Value i (suc d)) s.now_live (waits_called S most b ws x (tree_at ts body) (Value (tree_at ts i)) d (popped (next.Value i d) s))
-  call_stands (next.Stuck d) r s = after (next.Stuck d) s (next.Stuck (suc d)) tt (waits_called S most b ws x (tree_at ts body) Stuck d (popped (next.Stuck d) s))
+  pub call_stands : (now : code_now.Now) → IsResult now → Stands S most ts b scope (fs ++ f ∷ []) vs now → Stands S most ts b before fs vs (deeper now (suc (depth_of now)))
+  call_stands (next.Value i d) r s = after (next.Value i d) s (next.Value i (suc d)) s.now_live (waits_called S most b ws x (entered ts scope body) (Value (tree_at ts i)) d (popped (next.Value i d) s))
+  call_stands (next.Stuck d) r s = after (next.Stuck d) s (next.Stuck (suc d)) tt (waits_called S most b ws x (entered ts scope body) Stuck d (popped (next.Stuck d) s))
   call_stands (next.Enter i k) r s = absurd r
   call_stands next.Deep r s = absurd r
   call_stands next.Calls r s = absurd r
@@ -111,8 +128,8 @@ module _ (S : Signature) (most : ℕ) (ts : List Tree) (b : Begun) (fs : List co
   call_stands next.Tall r s = absurd r
 
 -- The same of machines.
-module _ (k : Kept) (t : Terms) (typed : List (ℕ × ℕ)) (e later : Machine) (place body : ℕ) (now n : code_now.Now) (v : code_known.Known) (result : IsResult now)
-    (fs : later.stack.frames.items ≡ e.stack.frames.items) (vs : later.stack.values.items ≡ e.stack.values.items) (cs : later.calls.entries ≡ set_value_at e.calls.entries place v) (es : later.terms.entries ≡ e.terms.entries) where
+module _ (k : Kept) (t : Terms) (typed : List (ℕ × ℕ)) (e later : Machine) (place body base here kept : ℕ) (now n : code_now.Now) (v : code_known.Known) (result : IsResult now)
+    (fs : later.stack.frames.items ≡ e.stack.frames.items) (vs : later.stack.values.items ≡ e.stack.values.items) (scope : later.scope ≡ outer e.scope base here) (cs : later.calls.entries ≡ set_value_at e.calls.entries place v) where
   abbrev sig : Signature
   sig = signature t.trees k
 
@@ -122,28 +139,34 @@ module _ (k : Kept) (t : Terms) (typed : List (ℕ × ℕ)) (e later : Machine) 
   same_begun : begun t.trees later.calls.entries ≡ b
   same_begun = ap (begun t.trees) cs ∙ begun_set t.trees e.calls.entries place v
 
-  pub ended_call_told : (d : ℕ) → n ≡ deeper now d → told_in k t later n ≡ told_popped k t e (frame.Body place body) now
+  pub ended_call_told : (d : ℕ) → n ≡ deeper now d → told_in k t later n ≡ told_popped k t e (frame.Body place body base here kept) now
   ended_call_told d same =
-      (λ i. told sig calls_limit t.trees (same_begun i) (fs i) (vs i) (same i)) ∙ call_told sig calls_limit t.trees b e.stack.frames.items e.stack.values.items place body now d result
+      (λ i. told sig calls_limit t.trees (same_begun i) (scope i) (fs i) (vs i) (same i)) ∙ call_told sig calls_limit t.trees b e.scope e.stack.frames.items e.stack.values.items place body base here kept now d result
 
-  remembers_set : PoppedReady k t typed e (frame.Body place body) now → v ≡ known_of now (suc (depth_of now)) → Remembers sig calls_limit t.trees later.calls.entries later.terms.entries
-  remembers_set r is =
-      subst (λ xs. Remembers sig calls_limit t.trees xs later.terms.entries) (sym cs) (subst (Remembers sig calls_limit t.trees (set_value_at e.calls.entries place v)) (sym es)
-      (remembers_put sig calls_limit t.trees e.calls.entries e.terms.entries place v r.held.remembers
-      (subst (IsKnown t.trees b (calls sig calls_limit (call_at b place))) (sym is) (call_known sig calls_limit t.trees b e.stack.frames.items e.stack.values.items place body now result r.stands))))
+  module _ (es : later.terms.entries ≡ e.terms.entries) (ls : later.locals.entries ≡ take kept e.locals.entries) where
+    remembers_set : PoppedReady k t typed e (frame.Body place body base here kept) now → v ≡ known_of now (suc (depth_of now)) → Remembers sig calls_limit t.trees later.calls.entries later.terms.entries later.locals.entries
+    remembers_set r is =
+        let c = sym cs in
+        let m = sym es in
+        let l = sym ls in
+        transport (λ i. Remembers sig calls_limit t.trees (c i) (m i) (l i))
+        (remembers_fewer sig calls_limit t.trees (set_value_at e.calls.entries place v) e.terms.entries e.locals.entries kept
+        (remembers_put sig calls_limit t.trees e.calls.entries e.terms.entries e.locals.entries place v r.held.remembers
+        (subst (IsKnown t.trees b (calls sig calls_limit (call_at b place))) (sym is) (call_known sig calls_limit t.trees b e.scope e.stack.frames.items e.stack.values.items place body base here kept now result r.stands))))
 
-  pub ended_call_ready : n ≡ deeper now (suc (depth_of now)) → v ≡ known_of now (suc (depth_of now)) → PoppedReady k t typed e (frame.Body place body) now → Ready k t typed later n
-  ended_call_ready same is r =
-      record {
-        held = record {
-          usable = r.held.usable;
-          fit = r.held.fit;
-          keys_live = subst (All (λ (c : Entry). All (λ i. i < length t.trees) c.0.args.items)) (sym cs) (keys_set (λ c. All (λ i. i < length t.trees) c.args.items) e.calls.entries place v r.held.keys_live);
-          remembers = remembers_set r is;
-        };
-        stands = subst (Stands sig calls_limit t.trees (begun t.trees later.calls.entries) later.stack.frames.items later.stack.values.items) (sym same)
-            (subst (λ c. Stands sig calls_limit t.trees c later.stack.frames.items later.stack.values.items (deeper now (suc (depth_of now)))) (sym same_begun)
-            (subst (λ gs. Stands sig calls_limit t.trees b gs later.stack.values.items (deeper now (suc (depth_of now)))) (sym fs)
-            (subst (λ us. Stands sig calls_limit t.trees b e.stack.frames.items us (deeper now (suc (depth_of now)))) (sym vs)
-            (call_stands sig calls_limit t.trees b e.stack.frames.items e.stack.values.items place body now result r.stands))));
-      }
+    pub ended_call_ready : n ≡ deeper now (suc (depth_of now)) → v ≡ known_of now (suc (depth_of now)) → PoppedReady k t typed e (frame.Body place body base here kept) now → Ready k t typed later n
+    ended_call_ready same is r =
+        let q = sym same_begun in
+        let f = sym fs in
+        let u = sym vs in
+        let s = sym scope in
+        let m = sym same in
+        record {
+          held = record {
+            usable = r.held.usable;
+            fit = r.held.fit;
+            keys_live = subst (All (λ (c : Entry). All (λ i. i < length t.trees) c.0.args.items)) (sym cs) (keys_set (λ c. All (λ i. i < length t.trees) c.args.items) e.calls.entries place v r.held.keys_live);
+            remembers = remembers_set r is;
+          };
+          stands = transport (λ i. Stands sig calls_limit t.trees (q i) (s i) (f i) (u i) (m i)) (call_stands sig calls_limit t.trees b e.scope e.stack.frames.items e.stack.values.items place body base here kept now result r.stands);
+        }

@@ -1,11 +1,11 @@
 -- A value is evaluated to itself, and begins no call.
 use Rattle.std.specs.Prelude.{◌≡◌, ℕ, ◌≤◌, ◌<◌, true, false, if◌then◌else◌, refl}
-use Rattle.std.proofs.Common.{sym, ◌∙◌, ap, arith}
+use Rattle.std.proofs.Common.{sym, ◌∙◌, ap, subst, arith}
 use Rattle.eo_term.specs.Tree.{Tree, Con, Num, Bits, Str, Par, Var, App, Arr, Qar, Op, is_tall, is_value, height}
 use Rattle.eo_term.proofs.Equality.{both}
 use Rattle.eo_term.proofs.Values.{clash}
 use Rattle.eo_sig.specs.Signature.{Signature}
-use Rattle.eo_eval.specs.Evaluation.{Value, Stuck, Tall, Call, Begun, Ended, Eval, ends, on_value, node, eval_with, call_within}
+use Rattle.eo_eval.specs.Evaluation.{Outcome, Value, Stuck, Tall, Call, Begun, Ended, Eval, ends, on_value, node, eval_with, call_within}
 use Rattle.std.specs.Prelude.{List, [], length, reverse}
 use Rattle.eo_base.specs.Limits.{calls_limit, open_calls_limit}
 use Rattle.eo_term.specs.Growth.{tree_in}
@@ -19,6 +19,8 @@ use Rattle.eo_eval.specs.Ready.{Recalls, Stands}
 use Rattle.eo_eval.specs.declared.stack.Frame as code_frame
 use Rattle.eo_eval.specs.declared.stack.Now as code_now
 use Rattle.eo_eval.specs.declared.stack.Now.TheVariants as next
+use Rattle.eo_pattern.specs.Matching.{put}
+use Rattle.eo_eval.specs.Scopes.{Bound, standing, entered}
 use Rattle.eo_eval.proofs.Waiting.{recalled_low, recalled_deep}
 
 lower : (a b : Tree) → height a ≤ height b → is_tall b ≡ false → is_tall a ≡ false
@@ -46,12 +48,6 @@ module _ (S : Signature) (call : Call → Eval Tree) where
   value_itself (Qar i t b) c h l = clash h
   value_itself (Op o ts) c h l = clash h
 
-pub value_again : (S : Signature) (most : ℕ) (t : Tree) (b : Begun) → is_value t ≡ true → is_tall t ≡ false → Again (evals S most t) (Value t) 0 b
-value_again S most t b h l k c cover = (λ below. value_itself S (call_within S most k) t c h l, λ above. absurd (none k above))
-  where
-    none : (n : ℕ) → n < 0 → ⊥
-    none n z = omega arith
-
 -- A term that is a value ends with itself.
 pub value_ends : (k : Kept) (t : Terms) (i : ℕ) → i < length t.trees → is_value (tree_in t i) ≡ true → is_tall (tree_in t i) ≡ false → HasEnded t (outcome.Value i) (outcome_of k t i)
 value_ends k t i live value low =
@@ -62,11 +58,11 @@ value_ends k t i live value low =
     }
 
 -- What is remembered is used.
-module _ (S : Signature) (most : ℕ) (ts : List Tree) (b : Begun) (fs : List code_frame.Frame) (vs : List ℕ) (F : Family) (left : ℕ) where
+module _ (S : Signature) (most : ℕ) (ts : List Tree) (b : Begun) (scope : Bound) (fs : List code_frame.Frame) (vs : List ℕ) (F : Family) (left : ℕ) where
   abbrev ws : List Frame
-  ws = waiting ts b (reverse fs) vs
+  ws = waiting ts b scope (reverse fs) vs
 
-  pub recalls_told : (n : code_now.Now) → Recalls ts b F left n → told S most ts b fs vs n ≡ finish S most ws (F left b)
+  pub recalls_told : (n : code_now.Now) → Recalls ts b F left n → told S most ts b scope fs vs n ≡ finish S most ws (F left b)
   recalls_told (next.Value v d) r = sym (recalled_low S most b ws F (Value (tree_at ts v)) d left r.1.0 r.1.1)
   recalls_told (next.Stuck d) r = sym (recalled_low S most b ws F Stuck d left r.0 r.1)
   recalls_told next.Deep r = sym (recalled_deep S most b ws F r.0 r.1.0 left r.1.1.0 r.1.1.1)
@@ -75,11 +71,44 @@ module _ (S : Signature) (most : ℕ) (ts : List Tree) (b : Begun) (fs : List co
   recalls_told next.Range r = absurd r
   recalls_told next.Tall r = absurd r
 
-  pub recalls_stands : (n now : code_now.Now) → Recalls ts b F left n → Stacked S most b ws F → Stands S most ts b fs vs now → Stands S most ts b fs vs n
-  recalls_stands (next.Value v d) now r w s = record { now_live = r.0; frames_live = s.frames_live; placed = s.placed; values_live = s.values_live; based = s.based; waits = (F, (w, r.1.0)) }
-  recalls_stands (next.Stuck d) now r w s = record { now_live = tt; frames_live = s.frames_live; placed = s.placed; values_live = s.values_live; based = s.based; waits = (F, (w, r.0)) }
-  recalls_stands next.Deep now r w s = record { now_live = tt; frames_live = s.frames_live; placed = s.placed; values_live = s.values_live; based = s.based; waits = tt }
+  pub recalls_stands : (n now : code_now.Now) → Recalls ts b F left n → Stacked S most b ws F → Stands S most ts b scope fs vs now → Stands S most ts b scope fs vs n
+  recalls_stands (next.Value v d) now r w s = record { now_live = r.0; frames_live = s.frames_live; placed = s.placed; values_live = s.values_live; slots_live = s.slots_live; scoped = s.scoped; based = s.based; waits = (F, (w, r.1.0)) }
+  recalls_stands (next.Stuck d) now r w s = record { now_live = tt; frames_live = s.frames_live; placed = s.placed; values_live = s.values_live; slots_live = s.slots_live; scoped = s.scoped; based = s.based; waits = (F, (w, r.0)) }
+  recalls_stands next.Deep now r w s = record { now_live = tt; frames_live = s.frames_live; placed = s.placed; values_live = s.values_live; slots_live = s.slots_live; scoped = s.scoped; based = s.based; waits = tt }
   recalls_stands (next.Enter j k) now r w s = absurd r
   recalls_stands next.Calls now r w s = absurd r
   recalls_stands next.Range now r w s = absurd r
   recalls_stands next.Tall now r w s = absurd r
+
+-- A term that ends at once, with a value or with none.
+module _ (S : Signature) (most : ℕ) (ts : List Tree) (b : Begun) (scope : Bound) (fs : List code_frame.Frame) (vs : List ℕ) (id left : ℕ) (o : Outcome Tree) (h : (j : ℕ) (c : Begun) → evals S most (entered ts scope id) j c ≡ (o, c)) where
+  at_once : Again (evals S most (entered ts scope id)) o 0 b
+  at_once k c cover = (λ below. h k c, λ above. absurd (none k above))
+    where
+      none : (n : ℕ) → n < 0 → ⊥
+      none n z = omega arith
+
+  pub value_told : (v : ℕ) → o ≡ Value (tree_at ts v) → told S most ts b scope fs vs (next.Value v 0) ≡ told S most ts b scope fs vs (next.Enter id left)
+  value_told v is = ap (finish S most (waiting ts b scope (reverse fs) vs)) (sym (h left b ∙ ap (λ r. (r, b)) is))
+
+  pub value_stands : (v : ℕ) → o ≡ Value (tree_at ts v) → v < length ts → Stands S most ts b scope fs vs (next.Enter id left) → Stands S most ts b scope fs vs (next.Value v 0)
+  value_stands v is live s =
+      record { now_live = live; frames_live = s.frames_live; placed = s.placed; values_live = s.values_live; slots_live = s.slots_live; scoped = s.scoped; based = s.based; waits = (evals S most (entered ts scope id), (s.waits, subst (λ r. Again (evals S most (entered ts scope id)) r 0 b) is at_once)) }
+
+  pub stuck_told : o ≡ Stuck → told S most ts b scope fs vs (next.Stuck 0) ≡ told S most ts b scope fs vs (next.Enter id left)
+  stuck_told is = ap (finish S most (waiting ts b scope (reverse fs) vs)) (sym (h left b ∙ ap (λ r. (r, b)) is))
+
+  pub stuck_stands : o ≡ Stuck → Stands S most ts b scope fs vs (next.Enter id left) → Stands S most ts b scope fs vs (next.Stuck 0)
+  stuck_stands is s =
+      record { now_live = tt; frames_live = s.frames_live; placed = s.placed; values_live = s.values_live; slots_live = s.slots_live; scoped = s.scoped; based = s.based; waits = (evals S most (entered ts scope id), (s.waits, subst (λ r. Again (evals S most (entered ts scope id)) r 0 b) is at_once)) }
+
+-- a term that is evaluated as a value ends with it
+pub value_entered : (S : Signature) (most : ℕ) (ts : List Tree) (scope : Bound) (id v : ℕ) → entered ts scope id ≡ tree_at ts v → is_value (tree_at ts v) ≡ true → is_tall (tree_at ts v) ≡ false → (j : ℕ) (c : Begun) → evals S most (entered ts scope id) j c ≡ (Value (tree_at ts v), c)
+value_entered S most ts scope id v is value low j c = ap (λ t. evals S most t j c) is ∙ value_itself S (call_within S most j) (tree_at ts v) c value low
+
+-- a parameter for which nothing stands, and a quantifier's arrow, are stuck
+pub free_entered : (S : Signature) (most : ℕ) (ts : List Tree) (scope : Bound) (id n : ℕ) → entered ts scope id ≡ Par n → (j : ℕ) (c : Begun) → evals S most (entered ts scope id) j c ≡ (Stuck, c)
+free_entered S most ts scope id n is j c = ap (λ t. evals S most t j c) is
+
+pub arrow_entered : (S : Signature) (most : ℕ) (ts : List Tree) (scope : Bound) (id n : ℕ) (t u : Tree) → Qar n t u ≡ tree_at ts id → (j : ℕ) (c : Begun) → evals S most (entered ts scope id) j c ≡ (Stuck, c)
+arrow_entered S most ts scope id n t u is j c = ap (λ x. evals S most (put (standing ts scope) x) j c) (sym is)

@@ -2,6 +2,8 @@ mod Memory
 pub mod OperatorValues
 mod Values
 mod Steps
+mod Entered
+mod Same
 mod Pushed
 mod Waiting
 mod Keys
@@ -9,12 +11,15 @@ mod Grown
 mod Popped
 mod Frames
 mod OnValues
-mod Last
+mod Gathering
+mod Gathered
+mod Giving
 mod Called
 mod Running
 mod Beginning
-mod Handing
 mod Itself
 mod Settled
 mod Remembered
 mod Calling
+mod Lights
+mod Making

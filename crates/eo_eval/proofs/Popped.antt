@@ -4,11 +4,10 @@ use Rattle.std.proofs.Common.{sym, ◌∙◌, ap, subst}
 use Rattle.std.proofs.lemmas.List.{reverse-append}
 use Rattle.std.proofs.lemmas.List.Elements.{All-push, All-pop, All-take}
 use Rattle.eo_term.specs.Tree.{Tree}
-use Rattle.eo_term.specs.Terms.{tree_at}
 use Rattle.eo_sig.specs.Signature.{Signature}
 use Rattle.eo_eval.specs.Evaluation.{Begun}
-use Rattle.eo_eval.specs.Machine.{Again, Frame, OfNode, Stacked, evals, resume, resume_with, finish}
-use Rattle.eo_eval.specs.Reading.{node_of, deepest_of, left_of, wait_of, values_before, result_of, depth_of, outcome_in, OutcomeBelow, waiting, told, current, Given, Waits, IsFrame, IsPlaced, IsNode, IsResult, NowBelow, now_of}
+use Rattle.eo_eval.specs.Machine.{Again, Frame, OfNode, Stacked, evals, resume, finish}
+use Rattle.eo_eval.specs.Reading.{node_of, deepest_of, left_of, wait_of, values_before, result_of, depth_of, outcome_in, OutcomeBelow, waiting, told, current, Given, Waits, IsFrame, IsPlaced, IsNode, Scoped, IsResult, NowBelow, now_of}
 use Rattle.eo_base.specs.Limits.{calls_limit}
 use Rattle.eo_term.specs.Terms.{Terms}
 use Rattle.eo_sig.specs.Reading.{Kept, signature}
@@ -24,11 +23,13 @@ use Rattle.eo_eval.specs.declared.stack.Now as code_now
 use Rattle.eo_eval.specs.declared.stack.Now.TheVariants as next
 use Rattle.eo_eval.specs.declared.evaluator.Outcome as code_outcome
 use Rattle.eo_eval.specs.declared.evaluator.Outcome.TheVariants as outcome
+use Rattle.eo_eval.specs.Scopes.{Bound, entered}
+use Rattle.eo_eval.proofs.Same.{held_same, stands_same}
 use Rattle.eo_eval.proofs.Waiting.{waits_first, waits_on, waits_done, again_done}
 
-pub waiting_node : (ts : List Tree) (b : Begun) (f : code_frame.Frame) (fs : List code_frame.Frame) (vs : List ℕ) → IsNode f → waiting ts b (f ∷ fs) vs ≡ OfNode (tree_at ts (node_of f)) (wait_of ts vs f) (deepest_of f) (left_of f) ∷ waiting ts b fs (values_before vs f)
-waiting_node ts b (frame.Body place body) fs vs n = absurd n
-waiting_node ts b f fs vs n = refl
+pub waiting_node : (ts : List Tree) (b : Begun) (scope : Bound) (f : code_frame.Frame) (fs : List code_frame.Frame) (vs : List ℕ) → IsNode f → waiting ts b scope (f ∷ fs) vs ≡ OfNode (entered ts scope (node_of f)) (wait_of ts scope vs f) (deepest_of f) (left_of f) ∷ waiting ts b scope fs (values_before vs f)
+waiting_node ts b scope (frame.Body place body base here kept) fs vs n = absurd n
+waiting_node ts b scope f fs vs n = refl
 
 based_before : (ts : List Tree) (f : code_frame.Frame) (fs : List code_frame.Frame) (vs : List ℕ) → Based ts (f ∷ fs) vs → Based ts fs (values_before vs f)
 based_before ts (frame.Parts i base d k) fs vs h = h.1
@@ -38,10 +39,10 @@ live_before : (P : ℕ → Type 0) (f : code_frame.Frame) (vs : List ℕ) → Al
 live_before P (frame.Parts i base d k) vs h = All-take P base vs h
 live_before P f vs h = h
 
-waiting_plain : (ts : List Tree) (b : Begun) (f : code_frame.Frame) (fs : List code_frame.Frame) (vs : List ℕ) → HasNoValues f → waiting ts b (f ∷ fs) vs ≡ OfNode (tree_at ts (node_of f)) (wait_of ts [] f) (deepest_of f) (left_of f) ∷ waiting ts b fs vs
-waiting_plain ts b (frame.Parts i base d k) fs vs h = absurd h
-waiting_plain ts b (frame.Body place body) fs vs h = absurd h
-waiting_plain ts b f fs vs h = refl
+waiting_plain : (ts : List Tree) (b : Begun) (scope : Bound) (f : code_frame.Frame) (fs : List code_frame.Frame) (vs : List ℕ) → HasNoValues f → waiting ts b scope (f ∷ fs) vs ≡ OfNode (entered ts scope (node_of f)) (wait_of ts scope [] f) (deepest_of f) (left_of f) ∷ waiting ts b scope fs vs
+waiting_plain ts b scope (frame.Parts i base d k) fs vs h = absurd h
+waiting_plain ts b scope (frame.Body place body base here kept) fs vs h = absurd h
+waiting_plain ts b scope f fs vs h = refl
 
 based_plain : (ts : List Tree) (f : code_frame.Frame) (fs : List code_frame.Frame) (vs : List ℕ) → HasNoValues f → Based ts fs vs → Based ts (f ∷ fs) vs
 based_plain ts (frame.Parts i base d k) fs vs h q = absurd h
@@ -52,14 +53,28 @@ based_rest ts (frame.Parts i base d k) fs vs h q = absurd h
 based_rest ts f fs vs h q = q
 
 placed_plain : (n : ℕ) (f : code_frame.Frame) → HasNoValues f → IsPlaced n f
-placed_plain n (frame.Body place body) h = absurd h
+placed_plain n (frame.Body place body base here kept) h = absurd h
 placed_plain n f h = tt
+
+-- A node that waits is in the body in which it waited before.
+
+pub scoped_node : (S : Signature) (ts : List Tree) (b : Begun) (scope : Bound) (f : code_frame.Frame) (fs : List code_frame.Frame) → IsNode f → Scoped S ts b scope fs → Scoped S ts b scope (f ∷ fs)
+scoped_node S ts b scope (frame.Body place body base here kept) fs n h = absurd n
+scoped_node S ts b scope f fs n h = h
+
+pub scoped_rest : (S : Signature) (ts : List Tree) (b : Begun) (scope : Bound) (f : code_frame.Frame) (fs : List code_frame.Frame) → IsNode f → Scoped S ts b scope (f ∷ fs) → Scoped S ts b scope fs
+scoped_rest S ts b scope (frame.Body place body base here kept) fs n h = absurd n
+scoped_rest S ts b scope f fs n h = h
+
+plain_node : (f : code_frame.Frame) → HasNoValues f → IsNode f
+plain_node (frame.Body place body base here kept) h = absurd h
+plain_node f h = tt
 
 top : (fs : List code_frame.Frame) (f : code_frame.Frame) → f ∷ reverse fs ≡ reverse (fs ++ f ∷ [])
 top fs f = sym (reverse-append fs (f ∷ []))
 
-module _ (S : Signature) (most : ℕ) (ts : List Tree) (b : Begun) where
-  given_of : (ws : List Frame) (now : code_now.Now) → IsResult now → Waits S most ts b ws now → Given S most b ws (result_of ts now) (depth_of now)
+module _ (S : Signature) (most : ℕ) (ts : List Tree) (b : Begun) (scope : Bound) where
+  pub given_of : (ws : List Frame) (now : code_now.Now) → IsResult now → Waits S most ts b scope ws now → Given S most b ws (result_of ts now) (depth_of now)
   given_of ws (next.Value i d) r w = w
   given_of ws (next.Stuck d) r w = w
   given_of ws (next.Enter i k) r w = absurd r
@@ -68,7 +83,7 @@ module _ (S : Signature) (most : ℕ) (ts : List Tree) (b : Begun) where
   given_of ws next.Range r w = absurd r
   given_of ws next.Tall r w = absurd r
 
-  current_of : (now : code_now.Now) → IsResult now → current S most ts b now ≡ (result_of ts now, b)
+  pub current_of : (now : code_now.Now) → IsResult now → current S most ts b scope now ≡ (result_of ts now, b)
   current_of (next.Value i d) r = refl
   current_of (next.Stuck d) r = refl
   current_of (next.Enter i k) r = absurd r
@@ -77,7 +92,7 @@ module _ (S : Signature) (most : ℕ) (ts : List Tree) (b : Begun) where
   current_of next.Range r = absurd r
   current_of next.Tall r = absurd r
 
-  current_ended : (o : code_outcome.Outcome) (d : ℕ) → current S most ts b (now_of o d) ≡ (outcome_in ts o, b)
+  pub current_ended : (o : code_outcome.Outcome) (d : ℕ) → current S most ts b scope (now_of o d) ≡ (outcome_in ts o, b)
   current_ended (outcome.Value i) d = refl
   current_ended outcome.Stuck d = refl
   current_ended outcome.Deep d = refl
@@ -85,7 +100,7 @@ module _ (S : Signature) (most : ℕ) (ts : List Tree) (b : Begun) where
   current_ended outcome.Range d = refl
   current_ended outcome.Tall d = refl
 
-  waits_ended : (ws : List Frame) (o : code_outcome.Outcome) (d : ℕ) → Given S most b ws (outcome_in ts o) d → Waits S most ts b ws (now_of o d)
+  pub waits_ended : (ws : List Frame) (o : code_outcome.Outcome) (d : ℕ) → Given S most b ws (outcome_in ts o) d → Waits S most ts b scope ws (now_of o d)
   waits_ended ws (outcome.Value i) d g = g
   waits_ended ws outcome.Stuck d g = g
   waits_ended ws outcome.Deep d g = tt
@@ -93,7 +108,7 @@ module _ (S : Signature) (most : ℕ) (ts : List Tree) (b : Begun) where
   waits_ended ws outcome.Range d g = tt
   waits_ended ws outcome.Tall d g = tt
 
-  live_ended : (o : code_outcome.Outcome) (d : ℕ) → OutcomeBelow (length ts) o → NowBelow (length ts) (now_of o d)
+  pub live_ended : (o : code_outcome.Outcome) (d : ℕ) → OutcomeBelow (length ts) o → NowBelow (length ts) (now_of o d)
   live_ended (outcome.Value i) d l = l
   live_ended outcome.Stuck d l = tt
   live_ended outcome.Deep d l = tt
@@ -103,185 +118,168 @@ module _ (S : Signature) (most : ℕ) (ts : List Tree) (b : Begun) where
 
   module _ (fs : List code_frame.Frame) (vs : List ℕ) (f : code_frame.Frame) (now : code_now.Now) (result : IsResult now) where
     abbrev before : List Frame
-    before = waiting ts b (reverse fs) (values_before vs f)
+    before = waiting ts b scope (reverse fs) (values_before vs f)
 
     -- A node that ends with this outcome.
-    module _ (o : code_outcome.Outcome) (node : IsNode f) (ends : (j : ℕ) (c : Begun) → resume S most j (wait_of ts vs f) (result_of ts now, c) ≡ (outcome_in ts o, c)) where
+    module _ (o : code_outcome.Outcome) (node : IsNode f) (ends : (j : ℕ) (c : Begun) → resume S most j (wait_of ts scope vs f) (result_of ts now, c) ≡ (outcome_in ts o, c)) where
       abbrev deep : ℕ
       deep = max (deepest_of f) (depth_of now)
 
-      given : Stands S most ts b (fs ++ f ∷ []) vs now → Given S most b (OfNode (tree_at ts (node_of f)) (wait_of ts vs f) (deepest_of f) (left_of f) ∷ before) (result_of ts now) (depth_of now)
-      given s = given_of (OfNode (tree_at ts (node_of f)) (wait_of ts vs f) (deepest_of f) (left_of f) ∷ before) now result (subst (λ ws. Waits S most ts b ws now) (ap (λ gs. waiting ts b gs vs) (sym (top fs f)) ∙ waiting_node ts b f (reverse fs) vs node) s.waits)
+      given : Stands S most ts b scope (fs ++ f ∷ []) vs now → Given S most b (OfNode (entered ts scope (node_of f)) (wait_of ts scope vs f) (deepest_of f) (left_of f) ∷ before) (result_of ts now) (depth_of now)
+      given s = given_of (OfNode (entered ts scope (node_of f)) (wait_of ts scope vs f) (deepest_of f) (left_of f) ∷ before) now result (subst (λ ws. Waits S most ts b scope ws now) (ap (λ gs. waiting ts b scope gs vs) (sym (top fs f)) ∙ waiting_node ts b scope f (reverse fs) vs node) s.waits)
 
-      pub ended_again : Stands S most ts b (fs ++ f ∷ []) vs now → Again (evals S most (tree_at ts (node_of f))) (outcome_in ts o) deep b
-      ended_again s = again_done S most b before (tree_at ts (node_of f)) (wait_of ts vs f) (deepest_of f) (depth_of now) (left_of f) (result_of ts now) (outcome_in ts o) (given s) ends
+      pub ended_again : Stands S most ts b scope (fs ++ f ∷ []) vs now → Again (evals S most (entered ts scope (node_of f))) (outcome_in ts o) deep b
+      ended_again s = again_done S most b before (entered ts scope (node_of f)) (wait_of ts scope vs f) (deepest_of f) (depth_of now) (left_of f) (result_of ts now) (outcome_in ts o) (given s) ends
 
-      pub ended_stands : OutcomeBelow (length ts) o → Stands S most ts b (fs ++ f ∷ []) vs now → Stands S most ts b fs (values_before vs f) (now_of o deep)
+      pub ended_stands : OutcomeBelow (length ts) o → Stands S most ts b scope (fs ++ f ∷ []) vs now → Stands S most ts b scope fs (values_before vs f) (now_of o deep)
       ended_stands live s = record {
         now_live = live_ended o deep live;
         frames_live = (All-pop (IsFrame ts) (fs ++ f ∷ []) fs (Some f) refl s.frames_live).0;
         placed = (All-pop (IsPlaced (length b)) (fs ++ f ∷ []) fs (Some f) refl s.placed).0;
         values_live = live_before (λ i. i < length ts) f vs s.values_live;
+        slots_live = s.slots_live;
+        scoped = scoped_rest S ts b scope f (reverse fs) node (subst (Scoped S ts b scope) (sym (top fs f)) s.scoped);
         based = based_before ts f (reverse fs) vs (subst (λ gs. Based ts gs vs) (sym (top fs f)) s.based);
-        waits = waits_ended before o deep (waits_done S most b before (tree_at ts (node_of f)) (wait_of ts vs f) (deepest_of f) (depth_of now) (left_of f) (result_of ts now) (outcome_in ts o) (given s) ends);
+        waits = waits_ended before o deep (waits_done S most b before (entered ts scope (node_of f)) (wait_of ts scope vs f) (deepest_of f) (depth_of now) (left_of f) (result_of ts now) (outcome_in ts o) (given s) ends);
       }
 
-      pub ended_told : told S most ts b fs (values_before vs f) (now_of o deep) ≡ told S most ts b (fs ++ f ∷ []) vs now
+      pub ended_told : told S most ts b scope fs (values_before vs f) (now_of o deep) ≡ told S most ts b scope (fs ++ f ∷ []) vs now
       ended_told =
           ap (finish S most before) (current_ended o deep ∙ sym (ends (left_of f) b))
-          ∙ (λ i. finish S most (sym (waiting_node ts b f (reverse fs) vs node) i) (sym (current_of now result) i))
-          ∙ ap (λ gs. finish S most (waiting ts b gs vs) (current S most ts b now)) (top fs f)
+          ∙ (λ i. finish S most (sym (waiting_node ts b scope f (reverse fs) vs node) i) (sym (current_of now result) i))
+          ∙ ap (λ gs. finish S most (waiting ts b scope gs vs) (current S most ts b scope now)) (top fs f)
 
     -- One that goes on to wait for another term.
-    module _ (g : code_frame.Frame) (p l : ℕ) (plain : HasNoValues f) (also : HasNoValues g) (h : Proceeds S most ts f now g p l) where
+    module _ (g : code_frame.Frame) (p l : ℕ) (plain : HasNoValues f) (also : HasNoValues g) (h : Proceeds S most ts scope f now g p l) where
       abbrev rest : List Frame
-      rest = waiting ts b (reverse fs) vs
+      rest = waiting ts b scope (reverse fs) vs
 
-      pub onward_stands : Stands S most ts b (fs ++ f ∷ []) vs now → Stands S most ts b (fs ++ g ∷ []) vs (next.Enter p l)
+      pub onward_stands : Stands S most ts b scope (fs ++ f ∷ []) vs now → Stands S most ts b scope (fs ++ g ∷ []) vs (next.Enter p l)
       onward_stands s =
-          let old = given_of (OfNode (tree_at ts (node_of f)) (wait_of ts [] f) (deepest_of f) (left_of f) ∷ rest) now result (subst (λ ws. Waits S most ts b ws now) (ap (λ gs. waiting ts b gs vs) (sym (top fs f)) ∙ waiting_plain ts b f (reverse fs) vs plain) s.waits) in
-          let new = waits_on S most b rest (tree_at ts (node_of f)) (tree_at ts p) (wait_of ts [] f) (wait_of ts [] g) (deepest_of f) (depth_of now) (left_of f) (left_of g) (result_of ts now) old h.waits in
-          let W : ℕ → ℕ → Type 0 = λ n d. Stacked S most b (OfNode (tree_at ts n) (wait_of ts [] g) d (left_of g) ∷ rest) (evals S most (tree_at ts p)) in
+          let old = given_of (OfNode (entered ts scope (node_of f)) (wait_of ts scope [] f) (deepest_of f) (left_of f) ∷ rest) now result (subst (λ ws. Waits S most ts b scope ws now) (ap (λ gs. waiting ts b scope gs vs) (sym (top fs f)) ∙ waiting_plain ts b scope f (reverse fs) vs plain) s.waits) in
+          let new = waits_on S most b rest (entered ts scope (node_of f)) (entered ts scope p) (wait_of ts scope [] f) (wait_of ts scope [] g) (deepest_of f) (depth_of now) (left_of f) (left_of g) (result_of ts now) old h.waits in
+          let W : ℕ → ℕ → Type 0 = λ n d. Stacked S most b (OfNode (entered ts scope n) (wait_of ts scope [] g) d (left_of g) ∷ rest) (evals S most (entered ts scope p)) in
           record {
             now_live = h.live;
             frames_live = All-push (IsFrame ts) fs g (All-pop (IsFrame ts) (fs ++ f ∷ []) fs (Some f) refl s.frames_live).0 h.frame;
             placed = All-push (IsPlaced (length b)) fs g (All-pop (IsPlaced (length b)) (fs ++ f ∷ []) fs (Some f) refl s.placed).0 (placed_plain (length b) g also);
             values_live = s.values_live;
+            slots_live = s.slots_live;
+            scoped = subst (Scoped S ts b scope) (top fs g) (scoped_node S ts b scope g (reverse fs) (plain_node g also) (scoped_rest S ts b scope f (reverse fs) (plain_node f plain) (subst (Scoped S ts b scope) (sym (top fs f)) s.scoped)));
             based = subst (λ gs. Based ts gs vs) (top fs g) (based_plain ts g (reverse fs) vs also (based_rest ts f (reverse fs) vs plain (subst (λ gs. Based ts gs vs) (sym (top fs f)) s.based)));
-            waits = subst (λ ws. Waits S most ts b ws (next.Enter p l)) (sym (waiting_plain ts b g (reverse fs) vs also) ∙ ap (λ gs. waiting ts b gs vs) (top fs g))
+            waits = subst (λ ws. Waits S most ts b scope ws (next.Enter p l)) (sym (waiting_plain ts b scope g (reverse fs) vs also) ∙ ap (λ gs. waiting ts b scope gs vs) (top fs g))
                 (subst (λ n. W n (deepest_of g)) (sym h.node) (subst (W (node_of f)) (sym h.depth) new));
           }
 
-      pub onward_told : told S most ts b (fs ++ g ∷ []) vs (next.Enter p l) ≡ told S most ts b (fs ++ f ∷ []) vs now
+      pub onward_told : told S most ts b scope (fs ++ g ∷ []) vs (next.Enter p l) ≡ told S most ts b scope (fs ++ f ∷ []) vs now
       onward_told =
-          ap (λ gs. finish S most (waiting ts b gs vs) (current S most ts b (next.Enter p l))) (sym (top fs g))
-          ∙ (λ i. finish S most (waiting_plain ts b g (reverse fs) vs also i) (current S most ts b (next.Enter p l)))
+          ap (λ gs. finish S most (waiting ts b scope gs vs) (current S most ts b scope (next.Enter p l))) (sym (top fs g))
+          ∙ (λ i. finish S most (waiting_plain ts b scope g (reverse fs) vs also i) (current S most ts b scope (next.Enter p l)))
           ∙ ap (finish S most rest) (sym (h.tells b))
-          ∙ (λ i. finish S most (sym (waiting_plain ts b f (reverse fs) vs plain) i) (sym (current_of now result) i))
-          ∙ ap (λ gs. finish S most (waiting ts b gs vs) (current S most ts b now)) (top fs f)
+          ∙ (λ i. finish S most (sym (waiting_plain ts b scope f (reverse fs) vs plain) i) (sym (current_of now result) i))
+          ∙ ap (λ gs. finish S most (waiting ts b scope gs vs) (current S most ts b scope now)) (top fs f)
 
   -- A term that begins to wait for another one.
-  module _ (fs : List code_frame.Frame) (vs : List ℕ) (i l : ℕ) (g : code_frame.Frame) (p : ℕ) (plain : HasNoValues g) (h : Begins S most ts i l g p) where
+  module _ (fs : List code_frame.Frame) (vs : List ℕ) (i l : ℕ) (g : code_frame.Frame) (p : ℕ) (plain : HasNoValues g) (h : Begins S most ts scope i l g p) where
     abbrev under : List Frame
-    under = waiting ts b (reverse fs) vs
+    under = waiting ts b scope (reverse fs) vs
 
-    pub first_stands : Stands S most ts b fs vs (next.Enter i l) → Stands S most ts b (fs ++ g ∷ []) vs (next.Enter p l)
+    pub first_stands : Stands S most ts b scope fs vs (next.Enter i l) → Stands S most ts b scope (fs ++ g ∷ []) vs (next.Enter p l)
     first_stands s =
-        let new = waits_first S most b under (tree_at ts i) (tree_at ts p) (wait_of ts [] g) (left_of g) s.waits h.waits in
-        let W : ℕ → ℕ → Type 0 = λ n d. Stacked S most b (OfNode (tree_at ts n) (wait_of ts [] g) d (left_of g) ∷ under) (evals S most (tree_at ts p)) in
+        let new = waits_first S most b under (entered ts scope i) (entered ts scope p) (wait_of ts scope [] g) (left_of g) s.waits h.waits in
+        let W : ℕ → ℕ → Type 0 = λ n d. Stacked S most b (OfNode (entered ts scope n) (wait_of ts scope [] g) d (left_of g) ∷ under) (evals S most (entered ts scope p)) in
         record {
           now_live = h.live;
           frames_live = All-push (IsFrame ts) fs g s.frames_live h.frame;
           placed = All-push (IsPlaced (length b)) fs g s.placed (placed_plain (length b) g plain);
           values_live = s.values_live;
+          slots_live = s.slots_live;
+          scoped = subst (Scoped S ts b scope) (top fs g) (scoped_node S ts b scope g (reverse fs) (plain_node g plain) s.scoped);
           based = subst (λ gs. Based ts gs vs) (top fs g) (based_plain ts g (reverse fs) vs plain s.based);
-          waits = subst (λ ws. Waits S most ts b ws (next.Enter p l)) (sym (waiting_plain ts b g (reverse fs) vs plain) ∙ ap (λ gs. waiting ts b gs vs) (top fs g))
+          waits = subst (λ ws. Waits S most ts b scope ws (next.Enter p l)) (sym (waiting_plain ts b scope g (reverse fs) vs plain) ∙ ap (λ gs. waiting ts b scope gs vs) (top fs g))
               (subst (λ n. W n (deepest_of g)) (sym h.node) (subst (W i) (sym h.depth) new));
         }
 
-    pub first_told : told S most ts b (fs ++ g ∷ []) vs (next.Enter p l) ≡ told S most ts b fs vs (next.Enter i l)
+    pub first_told : told S most ts b scope (fs ++ g ∷ []) vs (next.Enter p l) ≡ told S most ts b scope fs vs (next.Enter i l)
     first_told =
-        ap (λ gs. finish S most (waiting ts b gs vs) (current S most ts b (next.Enter p l))) (sym (top fs g))
-        ∙ (λ j. finish S most (waiting_plain ts b g (reverse fs) vs plain j) (current S most ts b (next.Enter p l)))
+        ap (λ gs. finish S most (waiting ts b scope gs vs) (current S most ts b scope (next.Enter p l))) (sym (top fs g))
+        ∙ (λ j. finish S most (waiting_plain ts b scope g (reverse fs) vs plain j) (current S most ts b scope (next.Enter p l)))
         ∙ ap (finish S most under) (sym (h.tells b))
 
 -- The same of machines.
 
-pub concluded_told : (k : Kept) (t : Terms) (e later : Machine) (f : code_frame.Frame) (now n : code_now.Now) (o : code_outcome.Outcome) → IsNode f → IsResult now → later.stack.frames.items ≡ e.stack.frames.items → later.stack.values.items ≡ values_before e.stack.values.items f → later.calls.entries ≡ e.calls.entries → n ≡ now_of o (max (deepest_of f) (depth_of now)) → Concludes k t e f now o → told_in k t later n ≡ told_popped k t e f now
-concluded_told k t e later f now n o node result fs vs cs same h =
-    (λ i. told (signature t.trees k) calls_limit t.trees (begun t.trees (cs i)) (fs i) (vs i) (same i))
-    ∙ ended_told (signature t.trees k) calls_limit t.trees (begun t.trees e.calls.entries) e.stack.frames.items e.stack.values.items f now result o node (λ j c. h.ends (call_within (signature t.trees k) calls_limit j) c)
+pub node_live : (ts : List Tree) (f : code_frame.Frame) → IsFrame ts f → node_of f < length ts
+node_live ts (frame.Parts i base d k) p = p
+node_live ts (frame.Choice i k) p = p.0
+node_live ts (frame.Tested i) p = p
+node_live ts (frame.Left i k) p = p.0
+node_live ts (frame.Right i u d) p = p.0
+node_live ts (frame.Unequal i d) p = p
+node_live ts (frame.Require i k) p = p.0
+node_live ts (frame.Required i u d k) p = p.0.0
+node_live ts (frame.Missed i d) p = p
+node_live ts (frame.Handed i d) p = p
+node_live ts (frame.Body place body base here kept) p = p
 
-pub concluded_keeps : (k : Kept) (t : Terms) (typed : List (ℕ × ℕ)) (e : Machine) (f : code_frame.Frame) (now : code_now.Now) (o : code_outcome.Outcome) → IsNode f → IsResult now → PoppedReady k t typed e f now → Concludes k t e f now o → Keeps (signature t.trees k) calls_limit t.trees (begun t.trees e.calls.entries) (node_of f) o (max (deepest_of f) (depth_of now))
-concluded_keeps k t typed e f now o node result r h = record {
-  term = node_live f ((All-pop (IsFrame t.trees) (e.stack.frames.items ++ f ∷ []) e.stack.frames.items (Some f) refl r.stands.frames_live).1);
-  value = h.live;
-  again = ended_again (signature t.trees k) calls_limit t.trees (begun t.trees e.calls.entries) e.stack.frames.items e.stack.values.items f now result o node (λ j c. h.ends (call_within (signature t.trees k) calls_limit j) c) r.stands;
-}
-  where
-    node_live : (f : code_frame.Frame) → IsFrame t.trees f → node_of f < length t.trees
-    node_live (frame.Parts i base d k) p = p
-    node_live (frame.Choice i k) p = p.0
-    node_live (frame.Tested i) p = p
-    node_live (frame.Left i k) p = p.0
-    node_live (frame.Right i u d) p = p.0
-    node_live (frame.Unequal i d) p = p
-    node_live (frame.Require i k) p = p.0
-    node_live (frame.Required i u d k) p = p.0.0
-    node_live (frame.Missed i d) p = p
-    node_live (frame.Handed i d) p = p
-    node_live (frame.Body place body) p = p
+-- A node that ends.
+module _ (k : Kept) (t : Terms) (typed : List (ℕ × ℕ)) (e : Machine) (f : code_frame.Frame) (now : code_now.Now) (o : code_outcome.Outcome) (node : IsNode f) (result : IsResult now) (h : Concludes k t e f now o) where
+  abbrev S : Signature
+  S = signature t.trees k
 
-pub concluded_ready : (k : Kept) (t : Terms) (typed : List (ℕ × ℕ)) (e later : Machine) (f : code_frame.Frame) (now n : code_now.Now) (o : code_outcome.Outcome) → IsNode f → IsResult now → later.stack.frames.items ≡ e.stack.frames.items → later.stack.values.items ≡ values_before e.stack.values.items f → later.calls.entries ≡ e.calls.entries → n ≡ now_of o (max (deepest_of f) (depth_of now))
-    → Remembers (signature t.trees k) calls_limit t.trees later.calls.entries later.terms.entries → PoppedReady k t typed e f now → Concludes k t e f now o → Ready k t typed later n
-concluded_ready k t typed e later f now n o node result fs vs cs same remembers r h =
-    let S = signature t.trees k in
-    let b = begun t.trees e.calls.entries in
-    let s = ended_stands S calls_limit t.trees b e.stack.frames.items e.stack.values.items f now result o node (λ j c. h.ends (call_within S calls_limit j) c) h.live r.stands in
-    record {
-      held = record { usable = r.held.usable; fit = r.held.fit; keys_live = subst (All (λ (c : CallKey × code_known.Known). All (λ i. i < length t.trees) c.0.args.items)) (sym cs) r.held.keys_live; remembers = remembers };
-      stands = subst (λ m. Stands S calls_limit t.trees (begun t.trees later.calls.entries) later.stack.frames.items later.stack.values.items m) (sym same)
-          (subst (λ es. Stands S calls_limit t.trees (begun t.trees es) later.stack.frames.items later.stack.values.items (now_of o (max (deepest_of f) (depth_of now)))) (sym cs)
-          (subst (λ gs. Stands S calls_limit t.trees b gs later.stack.values.items (now_of o (max (deepest_of f) (depth_of now)))) (sym fs)
-          (subst (λ us. Stands S calls_limit t.trees b e.stack.frames.items us (now_of o (max (deepest_of f) (depth_of now)))) (sym vs) s)));
-    }
+  abbrev b : Begun
+  b = begun t.trees e.calls.entries
+
+  abbrev ending : ℕ
+  ending = max (deepest_of f) (depth_of now)
+
+  pub concluded_keeps : PoppedReady k t typed e f now → Keeps S calls_limit t.trees b e.scope (node_of f) o ending
+  concluded_keeps r = record {
+    term = node_live t.trees f ((All-pop (IsFrame t.trees) (e.stack.frames.items ++ f ∷ []) e.stack.frames.items (Some f) refl r.stands.frames_live).1);
+    value = h.live;
+    again = ended_again S calls_limit t.trees b e.scope e.stack.frames.items e.stack.values.items f now result o node (λ j c. h.ends (call_within S calls_limit j) c) r.stands;
+  }
+
+  module _ (later : Machine) (n : code_now.Now) (fs : later.stack.frames.items ≡ e.stack.frames.items) (vs : later.stack.values.items ≡ values_before e.stack.values.items f) (scope : later.scope ≡ e.scope) (cs : later.calls.entries ≡ e.calls.entries) (same : n ≡ now_of o ending) where
+    pub concluded_told : told_in k t later n ≡ told_popped k t e f now
+    concluded_told =
+        (λ i. told S calls_limit t.trees (begun t.trees (cs i)) (scope i) (fs i) (vs i) (same i))
+        ∙ ended_told S calls_limit t.trees b e.scope e.stack.frames.items e.stack.values.items f now result o node (λ j c. h.ends (call_within S calls_limit j) c)
+
+    pub concluded_ready : Remembers S calls_limit t.trees later.calls.entries later.terms.entries later.locals.entries → PoppedReady k t typed e f now → Ready k t typed later n
+    concluded_ready remembers r =
+        let s = ended_stands S calls_limit t.trees b e.scope e.stack.frames.items e.stack.values.items f now result o node (λ j c. h.ends (call_within S calls_limit j) c) h.live r.stands in
+        record {
+          held = record { usable = r.held.usable; fit = r.held.fit; keys_live = subst (All (λ (c : CallKey × code_known.Known). All (λ i. i < length t.trees) c.0.args.items)) (sym cs) r.held.keys_live; remembers = remembers };
+          stands = subst (Stands S calls_limit t.trees (begun t.trees later.calls.entries) later.scope later.stack.frames.items later.stack.values.items) (sym same)
+              (stands_same k t typed e later cs e.stack.frames.items later.stack.frames.items (values_before e.stack.values.items f) later.stack.values.items (now_of o ending) fs vs scope s);
+        }
 
 -- One more thing waits: a machine whose frames alone have changed.
 module _ (k : Kept) (t : Terms) (typed : List (ℕ × ℕ)) (e later : Machine) (g : code_frame.Frame) (p l : ℕ) (plain : HasNoValues g)
-    (fs : later.stack.frames.items ≡ e.stack.frames.items ++ g ∷ []) (vs : later.stack.values.items ≡ e.stack.values.items) (cs : later.calls.entries ≡ e.calls.entries) (es : later.terms.entries ≡ e.terms.entries) where
+    (fs : later.stack.frames.items ≡ e.stack.frames.items ++ g ∷ []) (vs : later.stack.values.items ≡ e.stack.values.items) (scope : later.scope ≡ e.scope) (cs : later.calls.entries ≡ e.calls.entries) (es : later.terms.entries ≡ e.terms.entries) (ls : later.locals.entries ≡ e.locals.entries) where
   abbrev sig : Signature
   sig = signature t.trees k
 
-  later_told : told_in k t later (next.Enter p l) ≡ told sig calls_limit t.trees (begun t.trees e.calls.entries) (e.stack.frames.items ++ g ∷ []) e.stack.values.items (next.Enter p l)
-  later_told = λ i. told sig calls_limit t.trees (begun t.trees (cs i)) (fs i) (vs i) (next.Enter p l)
+  abbrev at : Begun
+  at = begun t.trees e.calls.entries
 
-  later_ready : Held k t typed e → Stands sig calls_limit t.trees (begun t.trees e.calls.entries) (e.stack.frames.items ++ g ∷ []) e.stack.values.items (next.Enter p l) → Ready k t typed later (next.Enter p l)
+  later_told : told_in k t later (next.Enter p l) ≡ told sig calls_limit t.trees at e.scope (e.stack.frames.items ++ g ∷ []) e.stack.values.items (next.Enter p l)
+  later_told = λ i. told sig calls_limit t.trees (begun t.trees (cs i)) (scope i) (fs i) (vs i) (next.Enter p l)
+
+  later_ready : Held k t typed e → Stands sig calls_limit t.trees at e.scope (e.stack.frames.items ++ g ∷ []) e.stack.values.items (next.Enter p l) → Ready k t typed later (next.Enter p l)
   later_ready h s = record {
-    held = record {
-      usable = h.usable;
-      fit = h.fit;
-      keys_live = subst (All (λ (c : CallKey × code_known.Known). All (λ i. i < length t.trees) c.0.args.items)) (sym cs) h.keys_live;
-      remembers = subst (λ xs. Remembers sig calls_limit t.trees xs later.terms.entries) (sym cs) (subst (Remembers sig calls_limit t.trees e.calls.entries) (sym es) h.remembers);
-    };
-    stands = subst (λ xs. Stands sig calls_limit t.trees (begun t.trees xs) later.stack.frames.items later.stack.values.items (next.Enter p l)) (sym cs)
-        (subst (λ gs. Stands sig calls_limit t.trees (begun t.trees e.calls.entries) gs later.stack.values.items (next.Enter p l)) (sym fs)
-        (subst (λ us. Stands sig calls_limit t.trees (begun t.trees e.calls.entries) (e.stack.frames.items ++ g ∷ []) us (next.Enter p l)) (sym vs) s));
+    held = held_same k t typed e later cs es ls h;
+    stands = stands_same k t typed e later cs (e.stack.frames.items ++ g ∷ []) later.stack.frames.items e.stack.values.items later.stack.values.items (next.Enter p l) fs vs scope s;
   }
 
-  pub began_told : (i : ℕ) → Begins sig calls_limit t.trees i l g p → told_in k t later (next.Enter p l) ≡ told_in k t e (next.Enter i l)
-  began_told i h = later_told ∙ first_told sig calls_limit t.trees (begun t.trees e.calls.entries) e.stack.frames.items e.stack.values.items i l g p plain h
+  pub began_told : (i : ℕ) → Begins sig calls_limit t.trees e.scope i l g p → told_in k t later (next.Enter p l) ≡ told_in k t e (next.Enter i l)
+  began_told i h = later_told ∙ first_told sig calls_limit t.trees at e.scope e.stack.frames.items e.stack.values.items i l g p plain h
 
-  pub began_ready : (i : ℕ) → Begins sig calls_limit t.trees i l g p → Ready k t typed e (next.Enter i l) → Ready k t typed later (next.Enter p l)
-  began_ready i h r = later_ready r.held (first_stands sig calls_limit t.trees (begun t.trees e.calls.entries) e.stack.frames.items e.stack.values.items i l g p plain h r.stands)
+  pub began_ready : (i : ℕ) → Begins sig calls_limit t.trees e.scope i l g p → Ready k t typed e (next.Enter i l) → Ready k t typed later (next.Enter p l)
+  began_ready i h r = later_ready r.held (first_stands sig calls_limit t.trees at e.scope e.stack.frames.items e.stack.values.items i l g p plain h r.stands)
 
-  pub proceeded_told : (f : code_frame.Frame) (now : code_now.Now) → IsResult now → HasNoValues f → Proceeds sig calls_limit t.trees f now g p l → told_in k t later (next.Enter p l) ≡ told_popped k t e f now
-  proceeded_told f now result before h = later_told ∙ onward_told sig calls_limit t.trees (begun t.trees e.calls.entries) e.stack.frames.items e.stack.values.items f now result g p l before plain h
+  pub proceeded_told : (f : code_frame.Frame) (now : code_now.Now) → IsResult now → HasNoValues f → Proceeds sig calls_limit t.trees e.scope f now g p l → told_in k t later (next.Enter p l) ≡ told_popped k t e f now
+  proceeded_told f now result before h = later_told ∙ onward_told sig calls_limit t.trees at e.scope e.stack.frames.items e.stack.values.items f now result g p l before plain h
 
-  pub proceeded_ready : (f : code_frame.Frame) (now : code_now.Now) → IsResult now → HasNoValues f → Proceeds sig calls_limit t.trees f now g p l → PoppedReady k t typed e f now → Ready k t typed later (next.Enter p l)
-  proceeded_ready f now result before h r = later_ready r.held (onward_stands sig calls_limit t.trees (begun t.trees e.calls.entries) e.stack.frames.items e.stack.values.items f now result g p l before plain h r.stands)
-
--- A machine that holds the same waits the same way.
-module _ (k : Kept) (t : Terms) (typed : List (ℕ × ℕ)) (e later : Machine) (f : code_frame.Frame) (now : code_now.Now)
-    (fs : later.stack.frames.items ≡ e.stack.frames.items) (vs : later.stack.values.items ≡ e.stack.values.items) (cs : later.calls.entries ≡ e.calls.entries) (es : later.terms.entries ≡ e.terms.entries) where
-  pub popped_same : PoppedReady k t typed e f now → PoppedReady k t typed later f now
-  popped_same r =
-      let S = signature t.trees k in
-      record {
-        held = record {
-          usable = r.held.usable;
-          fit = r.held.fit;
-          keys_live = subst (All (λ (c : CallKey × code_known.Known). All (λ i. i < length t.trees) c.0.args.items)) (sym cs) r.held.keys_live;
-          remembers = subst (λ xs. Remembers S calls_limit t.trees xs later.terms.entries) (sym cs) (subst (Remembers S calls_limit t.trees e.calls.entries) (sym es) r.held.remembers);
-        };
-        stands = subst (λ xs. Stands S calls_limit t.trees (begun t.trees xs) (later.stack.frames.items ++ f ∷ []) later.stack.values.items now) (sym cs)
-            (subst (λ gs. Stands S calls_limit t.trees (begun t.trees e.calls.entries) (gs ++ f ∷ []) later.stack.values.items now) (sym fs)
-            (subst (λ us. Stands S calls_limit t.trees (begun t.trees e.calls.entries) (e.stack.frames.items ++ f ∷ []) us now) (sym vs) r.stands));
-      }
-
-  pub popped_told_same : told_popped k t later f now ≡ told_popped k t e f now
-  popped_told_same = λ i. told (signature t.trees k) calls_limit t.trees (begun t.trees (cs i)) (fs i ++ f ∷ []) (vs i) now
-
--- A node ends the same way where the same values are collected.
-pub concludes_same : (k : Kept) (t : Terms) (e later : Machine) (f : code_frame.Frame) (now : code_now.Now) (o : code_outcome.Outcome) → later.stack.values.items ≡ e.stack.values.items → Concludes k t e f now o → Concludes k t later f now o
-concludes_same k t e later f now o same h =
-    record { live = h.live; ends = λ call c. subst (λ us. resume_with (signature t.trees k) call (wait_of t.trees us f) (result_of t.trees now, c) ≡ (outcome_in t.trees o, c)) (sym same) (h.ends call c) }
+  pub proceeded_ready : (f : code_frame.Frame) (now : code_now.Now) → IsResult now → HasNoValues f → Proceeds sig calls_limit t.trees e.scope f now g p l → PoppedReady k t typed e f now → Ready k t typed later (next.Enter p l)
+  proceeded_ready f now result before h r = later_ready r.held (onward_stands sig calls_limit t.trees at e.scope e.stack.frames.items e.stack.values.items f now result g p l before plain h r.stands)

@@ -5,4 +5,5 @@ pub mod Machine
 pub mod Outcomes
 pub mod Reading
 pub mod Ready
+pub mod Scopes
 pub mod Settling

@@ -1,6 +1,6 @@
--- What waits in the program, over the trees of its terms.
-use Rattle.std.specs.Prelude.{◌≡◌, ℕ, ◌<◌, true, false, All, List, [], ◌∷◌, length, map, take, drop, reverse, Option, Some, None, slice_index_or}
-use Rattle.eo_term.specs.Tree.{Tree, truth, tree_eq}
+-- What waits in the program, over the trees of its terms and what stands for parameters.
+use Rattle.std.specs.Prelude.{◌≡◌, ℕ, ◌<◌, ◌≤◌, Bool, true, false, All, List, [], ◌∷◌, length, map, take, drop, reverse, Option, Some, None}
+use Rattle.eo_term.specs.Tree.{Tree, Par, truth, tree_eq}
 use Rattle.eo_term.specs.Terms.{tree_at}
 use Rattle.eo_term.specs.Arguments.{arguments_of, argument_at, count_of}
 use Rattle.eo_sig.specs.Signature.{Signature}
@@ -13,6 +13,10 @@ use Rattle.eo_eval.specs.declared.stack.Now.TheVariants as next
 use Rattle.eo_eval.specs.declared.stack.Known as code_known
 use Rattle.eo_eval.specs.declared.stack.Known.TheVariants as known
 use Rattle.eo_eval.specs.declared.calls.CallKey.{CallKey}
+use Rattle.eo_eval.specs.declared.calls.LocalKey.{LocalKey}
+use Rattle.eo_pattern.specs.Matching.{put}
+use Rattle.eo_eval.specs.Scopes.{Bound, entered, outer, assignment_here, IsScope}
+pub use Rattle.eo_eval.specs.Scopes.{call_at}
 use Rattle.eo_eval.specs.declared.evaluator.Outcome as code_outcome
 use Rattle.eo_eval.specs.declared.evaluator.Outcome.TheVariants as outcome
 
@@ -20,12 +24,14 @@ use Rattle.eo_eval.specs.declared.evaluator.Outcome.TheVariants as outcome
 abbrev pub IsWhole : Tree → Type 0
 IsWhole t = (S : Signature) (call : Call → Eval Tree) (b : Begun) → eval_with S call t b ≡ rest_with S call t [] b
 
-abbrev pub call_at : Begun → ℕ → Call
-call_at b i = slice_index_or b i (record { program = 0; arguments = [] })
+-- a parameter
+abbrev pub is_par : Tree → Bool
+is_par (Par i) = true
+is_par _ = false
 
 -- another argument of a term
-abbrev pub other : List Tree → ℕ → ℕ → Tree
-other ts i k = argument_at (arguments_of (tree_at ts i)) k
+abbrev pub other : List Tree → Bound → ℕ → ℕ → Tree
+other ts s i k = argument_at (arguments_of (entered ts s i)) k
 
 -- The parts of what the code keeps of a thing that waits: its term, ..
 abbrev pub node_of : code_frame.Frame → ℕ
@@ -39,7 +45,7 @@ node_of (frame.Require i k) = i
 node_of (frame.Required i u d k) = i
 node_of (frame.Missed i d) = i
 node_of (frame.Handed i d) = i
-node_of (frame.Body place body) = body
+node_of (frame.Body place body base here kept) = body
 
 -- .. how deep it has come, ..
 abbrev pub deepest_of : code_frame.Frame → ℕ
@@ -61,28 +67,34 @@ left_of (frame.Required i u d k) = k
 left_of _ = 0
 
 -- .. what it waits for, and the values that were collected before it
-abbrev pub wait_of : List Tree → List ℕ → code_frame.Frame → Wait
-wait_of ts vs (frame.Parts i base d k) = Parts (tree_at ts i) (map (tree_at ts) (drop base vs))
-wait_of ts vs (frame.Choice i k) = Choice (other ts i 1) (other ts i 2)
-wait_of ts vs (frame.Tested i) = Tested
-wait_of ts vs (frame.Left i k) = Left (other ts i 1)
-wait_of ts vs (frame.Right i u d) = Right (Some (tree_at ts u))
-wait_of ts vs (frame.Unequal i d) = Right None
-wait_of ts vs (frame.Require i k) = Require (other ts i 1) (other ts i 2)
-wait_of ts vs (frame.Required i u d k) = Required (Some (tree_at ts u)) (other ts i 2)
-wait_of ts vs (frame.Missed i d) = Required None (other ts i 2)
-wait_of ts vs (frame.Handed i d) = Handed
-wait_of ts vs (frame.Body place body) = Handed
+abbrev pub wait_of : List Tree → Bound → List ℕ → code_frame.Frame → Wait
+wait_of ts s vs (frame.Parts i base d k) = Parts (entered ts s i) (map (tree_at ts) (drop base vs))
+wait_of ts s vs (frame.Choice i k) = Choice (other ts s i 1) (other ts s i 2)
+wait_of ts s vs (frame.Tested i) = Tested
+wait_of ts s vs (frame.Left i k) = Left (other ts s i 1)
+wait_of ts s vs (frame.Right i u d) = Right (Some (tree_at ts u))
+wait_of ts s vs (frame.Unequal i d) = Right None
+wait_of ts s vs (frame.Require i k) = Require (other ts s i 1) (other ts s i 2)
+wait_of ts s vs (frame.Required i u d k) = Required (Some (tree_at ts u)) (other ts s i 2)
+wait_of ts s vs (frame.Missed i d) = Required None (other ts s i 2)
+wait_of ts s vs (frame.Handed i d) = Handed
+wait_of ts s vs (frame.Body place body base here kept) = Handed
 
 abbrev pub values_before : List ℕ → code_frame.Frame → List ℕ
 values_before vs (frame.Parts i base d k) = take base vs
 values_before vs _ = vs
 
 -- what waits, the last thing first
-abbrev pub waiting : List Tree → Begun → List code_frame.Frame → List ℕ → List Frame
-waiting ts b [] vs = []
-waiting ts b (frame.Body place body ∷ fs) vs = OfCall (call_at b place) (tree_at ts body) ∷ waiting ts b fs vs
-waiting ts b (f ∷ fs) vs = OfNode (tree_at ts (node_of f)) (wait_of ts vs f) (deepest_of f) (left_of f) ∷ waiting ts b fs (values_before vs f)
+abbrev pub waiting : List Tree → Begun → Bound → List code_frame.Frame → List ℕ → List Frame
+waiting ts b s [] vs = []
+waiting ts b s (frame.Body place body base here kept ∷ fs) vs = OfCall (call_at b place) (entered ts s body) ∷ waiting ts b (outer s base here) fs vs
+waiting ts b s (f ∷ fs) vs = OfNode (entered ts s (node_of f)) (wait_of ts s vs f) (deepest_of f) (left_of f) ∷ waiting ts b s fs (values_before vs f)
+
+-- What stands for parameters is right for each call that waits.
+abbrev pub Scoped : Signature → List Tree → Begun → Bound → List code_frame.Frame → Type 0
+Scoped S ts b s [] = IsScope S ts b s
+Scoped S ts b s (frame.Body place body base here kept ∷ fs) = IsScope S ts b s × Scoped S ts b (outer s base here) fs
+Scoped S ts b s (f ∷ fs) = Scoped S ts b s fs
 
 -- The results that are given to what waits: a value or none.
 abbrev pub IsResult : code_now.Now → Type 0
@@ -103,29 +115,29 @@ depth_of (next.Value i d) = d
 depth_of (next.Stuck d) = d
 depth_of _ = 0
 
-abbrev pub current : Signature → ℕ → List Tree → Begun → code_now.Now → Ended Tree
-current S most ts b (next.Enter i k) = evals S most (tree_at ts i) k b
-current S most ts b (next.Value i d) = (Value (tree_at ts i), b)
-current S most ts b (next.Stuck d) = (Stuck, b)
-current S most ts b next.Deep = (Deep, b)
-current S most ts b next.Calls = (Calls, b)
-current S most ts b next.Range = (Range, b)
-current S most ts b next.Tall = (Tall, b)
+abbrev pub current : Signature → ℕ → List Tree → Begun → Bound → code_now.Now → Ended Tree
+current S most ts b s (next.Enter i k) = evals S most (entered ts s i) k b
+current S most ts b s (next.Value i d) = (Value (tree_at ts i), b)
+current S most ts b s (next.Stuck d) = (Stuck, b)
+current S most ts b s next.Deep = (Deep, b)
+current S most ts b s next.Calls = (Calls, b)
+current S most ts b s next.Range = (Range, b)
+current S most ts b s next.Tall = (Tall, b)
 
 -- what the definition makes of all that waits and of what is done next
-abbrev pub told : Signature → ℕ → List Tree → Begun → List code_frame.Frame → List ℕ → code_now.Now → Ended Tree
-told S most ts b fs vs now = finish S most (waiting ts b (reverse fs) vs) (current S most ts b now)
+abbrev pub told : Signature → ℕ → List Tree → Begun → Bound → List code_frame.Frame → List ℕ → code_now.Now → Ended Tree
+told S most ts b s fs vs now = finish S most (waiting ts b s (reverse fs) vs) (current S most ts b s now)
 
 -- a result that comes again, for what waits last
 abbrev pub Given : Signature → ℕ → Begun → List Frame → Outcome Tree → ℕ → Type 0
 Given S most b ws o d = (F : Family) × (Stacked S most b ws F × Again F o d b)
 
 -- What waits, waits rightly for what is done next.
-abbrev pub Waits : Signature → ℕ → List Tree → Begun → List Frame → code_now.Now → Type 0
-Waits S most ts b ws (next.Enter i k) = Stacked S most b ws (evals S most (tree_at ts i))
-Waits S most ts b ws (next.Value i d) = Given S most b ws (Value (tree_at ts i)) d
-Waits S most ts b ws (next.Stuck d) = Given S most b ws Stuck d
-Waits S most ts b ws _ = Unit {0}
+abbrev pub Waits : Signature → ℕ → List Tree → Begun → Bound → List Frame → code_now.Now → Type 0
+Waits S most ts b s ws (next.Enter i k) = Stacked S most b ws (evals S most (entered ts s i))
+Waits S most ts b s ws (next.Value i d) = Given S most b ws (Value (tree_at ts i)) d
+Waits S most ts b s ws (next.Stuck d) = Given S most b ws Stuck d
+Waits S most ts b s ws _ = Unit {0}
 
 -- the calls begun
 abbrev pub read_call : List Tree → CallKey → Call
@@ -140,10 +152,21 @@ IsKnown ts b F known.Open = Unit {0}
 IsKnown ts b F (known.Value i d) = (i < length ts) × Again F (Value (tree_at ts i)) d b
 IsKnown ts b F (known.Stuck d) = Again F Stuck d b
 
+-- The tree that a term in the body of a call stands for.
+abbrev pub local_tree : Signature → List Tree → Begun → LocalKey → Tree
+local_tree S ts b k = put (assignment_here S b k.here) (tree_at ts k.id)
+
+-- what is remembered of a term in the body of a call that was begun comes again
+pub record IsLocal (S : Signature) (most : ℕ) (ts : List Tree) (b : Begun) (e : LocalKey × code_known.Known) : Type 0 where
+  pub live : e.0.id < length ts
+  pub begun : e.0.here ≤ length b
+  pub known : IsKnown ts b (evals S most (local_tree S ts b e.0)) e.1
+
 -- All that is remembered comes again.
-pub record Remembers (S : Signature) (most : ℕ) (ts : List Tree) (cs : List (CallKey × code_known.Known)) (es : List (ℕ × code_known.Known)) : Type 0 where
+pub record Remembers (S : Signature) (most : ℕ) (ts : List Tree) (cs : List (CallKey × code_known.Known)) (es : List (ℕ × code_known.Known)) (ls : List (LocalKey × code_known.Known)) : Type 0 where
   pub calls : All (λ e. IsKnown ts (begun ts cs) (calls S most (read_call ts e.0)) e.1) cs
   pub terms : All (λ e. (e.0 < length ts) × IsKnown ts (begun ts cs) (evals S most (tree_at ts e.0)) e.1) es
+  pub locals : All (IsLocal S most ts (begun ts cs)) ls
 
 -- the term is there, and has more arguments than so many
 abbrev pub HasMore : List Tree → ℕ → ℕ → Type 0
@@ -161,16 +184,16 @@ IsFrame ts (frame.Require i k) = HasMore ts i 2
 IsFrame ts (frame.Required i u d k) = HasMore ts i 2 × (u < length ts)
 IsFrame ts (frame.Missed i d) = i < length ts
 IsFrame ts (frame.Handed i d) = i < length ts
-IsFrame ts (frame.Body place body) = body < length ts
+IsFrame ts (frame.Body place body base here kept) = body < length ts
 
 -- a call that waits is among the first n
 abbrev pub IsPlaced : ℕ → code_frame.Frame → Type 0
-IsPlaced n (frame.Body place body) = place < n
+IsPlaced n (frame.Body place body base here kept) = place < n
 IsPlaced n _ = Unit {0}
 
 -- a node waits, and no call
 abbrev pub IsNode : code_frame.Frame → Type 0
-IsNode (frame.Body place body) = ⊥
+IsNode (frame.Body place body base here kept) = ⊥
 IsNode _ = Unit {0}
 
 abbrev pub NowBelow : ℕ → code_now.Now → Type 0

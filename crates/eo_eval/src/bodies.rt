@@ -1,67 +1,111 @@
 //! Bodies of calls.
-ghost use Rattle.std.specs.Prelude.{◌≡◌, ◌<◌, ℕ, List, length, map, All, None, Some, IfOk, OnOk, IsTrue, IsFalse};
-ghost use Rattle.eo_term.specs.Tree.{Tree};
-ghost use Rattle.eo_term.specs.Growth.{Grows, tree_in, trees_in};
+ghost use Rattle.std.specs.Prelude.{◌≡◌, ◌<◌, ◌≤◌, ℕ, List, length, map, All, None, Some, false};
+ghost use Rattle.std.specs.Prelude.{IfOk, IfSome, OnOk, IsTrue, IsFalse};
+ghost use Rattle.eo_term.specs.Tree.{Tree, is_tall};
+ghost use Rattle.eo_term.specs.Growth.{tree_in, trees_in};
 ghost use Rattle.eo_sig.specs.Reading.{CaseBelow, IsBelow, read_case, signature};
-ghost use Rattle.eo_sig.specs.Growth.{GrowsUnder};
 ghost use Rattle.eo_pattern.specs.Matching.{empty, matching};
-ghost use Rattle.eo_pattern.specs.Slots.{held, AreBelow, AreEmpty, HasRoom};
-ghost use Rattle.eo_eval.specs.Bodies.{FindsBody};
-ghost use Rattle.eo_eval.specs.Evaluation.{body_of, first_match};
+ghost use Rattle.eo_pattern.specs.Slots.{held, AreBelow, AreEmpty, HasRoom, SlotBelow};
+ghost use Rattle.eo_pattern.specs.Steps.{put_in};
+ghost use Rattle.eo_eval.specs.Bodies.{Finds, first_case, chosen_case};
+ghost use Rattle.eo_eval.specs.Scopes.{IsValueSlot, IsLightSlot};
 
-use eo_pattern::{Subst, match_terms, matching_law, substitute};
+use eo_pattern::{Subst, match_terms, matching_law, putting_law};
 use eo_sig::{Case, Signature};
-use eo_term::{Id, Table, TermRefused};
-use std::alloc::{AllocError, Global};
+use eo_term::{HEIGHT_LIMIT, Id, Table};
+use std::alloc::AllocError;
 
-/// The body of the first case whose patterns match these values, with the parameters put in.
-pub(crate) fn body(
-    alloc: Global,
+/// The body of the first case whose patterns match these values. What stands for its parameters is
+/// then held.
+pub(crate) fn find_body(
     sig: &Signature,
-    table: &mut Table,
+    table: &Table,
+    subst: &mut Subst,
     program: usize,
     args: &[Id],
-) -> Result<Option<Id>, TermRefused>
-    requires args { All (λ i. i < length table.old.trees) args.now }
-    requires below { IsBelow (length table.old.trees) sig.now }
-    ensures body { FindsBody table.new result (body_of (signature table.old.trees sig.now) (record {
+) -> Result<Option<Id>, AllocError>
+    requires args { All (λ i. i < length table.now.trees) args.now }
+    requires below { IsBelow (length table.now.trees) sig.now }
+    ensures found { IfOk result (λ o. Finds table.now subst.new o (chosen_case (signature table.now.trees sig.now) (record {
       program = program;
       arguments =
-          trees_in table.old args.now;
-    })) }
-    ensures grows { GrowsUnder sig.now table.old table.new }
+          trees_in table.now args.now;
+    }))) }
 {
     sig.laws();
     if program >= sig.programs() {
         return Ok(None);
     }
-    let mut subst = Subst::new(alloc)?;
-    first_body(
-        table,
-        &mut subst,
-        sig.program(program).cases.as_slice(),
-        args,
-    )
+    first_body(table, subst, sig.program(program).cases.as_slice(), args)
 }
 
 // The same, of these cases.
 fn first_body(
-    table: &mut Table,
+    table: &Table,
     subst: &mut Subst,
     cases: &[Case],
     args: &[Id],
-) -> Result<Option<Id>, TermRefused>
-    requires cases { All (CaseBelow (length table.old.trees)) cases.now }
-    requires args { All (λ i. i < length table.old.trees) args.now }
-    ensures body { FindsBody table.new result (first_match (map (read_case table.old.trees) cases.now) (trees_in table.old args.now)) }
-    ensures grows { Grows table.old table.new }
+) -> Result<Option<Id>, AllocError>
+    requires cases { All (CaseBelow (length table.now.trees)) cases.now }
+    requires args { All (λ i. i < length table.now.trees) args.now }
+    ensures found { IfOk result (λ o. Finds table.now subst.new o
+        (first_case (map (read_case table.now.trees) cases.now) (trees_in table.now args.now))) }
 {
     for case in cases {
         if is_match(table, subst, case.patterns.as_slice(), args)? {
-            return Ok(Some(substitute(table, subst, case.body)?));
+            return Ok(Some(case.body));
         }
     }
     Ok(None)
+}
+
+/// Whether the body of a call may be evaluated under what is held: what stands for parameters are
+/// values, and with them put in it is surely not too tall.
+pub(crate) fn is_light(table: &Table, subst: &Subst, body: Id) -> bool
+    requires live { body < length table.now.trees }
+    requires below { AreBelow (length table.now.trees) subst.now }
+    ensures low { IsTrue result → is_tall (put_in table.now subst.now body) ≡ false }
+    ensures values { IsTrue result → All (IsValueSlot table.now.trees) subst.now.values }
+{
+    putting_law();
+    let Some(tallest) = tallest_value(table, subst.slots()) else {
+        return false;
+    };
+    table.height(body) + tallest <= HEIGHT_LIMIT + 1
+}
+
+// The height of the tallest of the values that stand for parameters, or of a leaf; none, where any
+// is no value.
+fn tallest_value(table: &Table, slots: &[Option<Id>]) -> Option<u32>
+    requires below { All (SlotBelow (length table.now.trees)) slots.now }
+    ensures some { IfSome result (λ h. 1 ≤ h) }
+    ensures low { IfSome result (λ h. h ≤ HEIGHT_LIMIT) }
+    ensures all { IfSome result (λ h. All (IsLightSlot table.now.trees h) slots.now) }
+{
+    let mut tallest = 1;
+    for slot in slots {
+        let Some(height) = value_height(table, slot) else {
+            return None;
+        };
+        tallest = height.max(tallest);
+    }
+    Some(tallest)
+}
+
+// The height of the value that stands for a parameter, or of a leaf; none, where it is no value.
+fn value_height(table: &Table, slot: &Option<Id>) -> Option<u32>
+    requires { SlotBelow (length table.now.trees) slot.now }
+    ensures some { IfSome result (λ h. 1 ≤ h) }
+    ensures low { IfSome result (λ h. h ≤ HEIGHT_LIMIT) }
+    ensures light { IfSome result (λ h. IsLightSlot table.now.trees h slot.now) }
+{
+    let Some(id) = *slot else {
+        return Some(1);
+    };
+    if !table.is_value(id) {
+        return None;
+    }
+    Some(table.height(id).max(1))
 }
 
 // Whether these patterns match. What stands for their parameters is then held.

@@ -8,3 +8,11 @@ pub(crate) struct CallKey {
     pub(crate) program: usize,
     pub(crate) args: Vec<Id>,
 }
+
+/// A term in the body of a call that is evaluated with its parameters, by the number after the
+/// call's place and its own.
+#[derive(Clone, Copy, PartialEq, Eq, Hash)]
+pub(crate) struct LocalKey {
+    pub(crate) here: usize,
+    pub(crate) id: Id,
+}

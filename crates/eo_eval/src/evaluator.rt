@@ -69,7 +69,7 @@ impl Evaluator {
     /// An evaluator that takes its memory there.
     pub fn new(alloc: Global) -> Result<Evaluator, AllocError> {
         Ok(Evaluator {
-            machine: Machine::new(alloc),
+            machine: Machine::new(alloc)?,
         })
     }
 
@@ -78,6 +78,8 @@ impl Evaluator {
     ///
     /// A node evaluates its parts from left to right, and is stuck where one is. A call of a
     /// program goes on with the body of the first case that matches, and is stuck where none does.
+    /// The body is evaluated with its parameters, which have values: it is made only where with them
+    /// put in it may be too tall.
     /// At most [`CALL_DEPTH`] calls are open at once, and at most [`CALLS`] different ones are
     /// begun. A call that was finished is not evaluated again in the same evaluation. A term that
     /// is a value is answered at once, without memory.

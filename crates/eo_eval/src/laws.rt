@@ -1,9 +1,18 @@
 //! What holds of evaluation. A call costs nothing: it tells a proof what its clause says.
+ghost use Rattle.std.specs.Prelude.{◌≡◌, true};
+ghost use Rattle.eo_term.specs.Tree.{Tree, is_value};
 ghost use Rattle.eo_sig.specs.Signature.{Signature};
+ghost use Rattle.eo_sig.specs.Usable.{IsUsable};
+ghost use Rattle.eo_eval.specs.Evaluation.{Value, eval0};
 ghost use Rattle.eo_eval.specs.Settling.{SettlesAsEvaluated};
 
 /// A law: where the operators in a term are such that declared types may hold them, and it settles
 /// to a term without parameters, it is evaluated to that term if it is a value, and else is stuck.
 pub fn settling_law()
     ensures { (S : Signature) → SettlesAsEvaluated S }
+{}
+
+/// A law: where terminators are values, what an evaluation gives is a value.
+pub fn values_law()
+    ensures { (S : Signature) (t v : Tree) → IsUsable S → eval0 S t ≡ Value v → is_value v ≡ true }
 {}

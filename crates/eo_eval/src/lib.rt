@@ -7,10 +7,10 @@ mod evaluator;
 mod laws;
 mod machine;
 mod operators;
+mod scope;
 mod stack;
 #[cfg(test)]
 mod tests;
-mod turns;
 
 pub use evaluator::{EvalRefused, Evaluator, Outcome};
-pub use laws::settling_law;
+pub use laws::{settling_law, values_law};

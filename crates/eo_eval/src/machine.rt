@@ -8,9 +8,9 @@ ghost use Rattle.eo_sig.specs.Usable.{IsUsable};
 ghost use Rattle.eo_type.specs.Known.{Fit};
 ghost use Rattle.eo_sig.specs.Growth.{GrowsUnder};
 ghost use Rattle.eo_eval.specs.Evaluation.{eval0, eval};
-ghost use Rattle.eo_eval.specs.Reading.{outcome_in, NowBelow, OutcomeBelow};
+ghost use Rattle.eo_eval.specs.Reading.{outcome_in, is_par, IsWhole, NowBelow, OutcomeBelow};
 ghost use Rattle.eo_eval.specs.Outcomes.{GivesOutcome, outcome_of};
-ghost use Rattle.eo_term.specs.Tree.{Tree, is_value};
+ghost use Rattle.eo_term.specs.Tree.{Tree, Par, is_value};
 ghost use Rattle.eo_term.specs.Arguments.{argument_at, count_of};
 ghost use Rattle.eo_eval.specs.Machine.{parts_of, evals};
 ghost use Rattle.eo_eval.specs.declared.stack.Now.TheVariants as next;
@@ -20,18 +20,20 @@ ghost use Rattle.eo_eval.specs.Reading.{Remembers, IsKnown, begun};
 ghost use Rattle.eo_term.specs.Terms.{tree_at};
 ghost use Rattle.eo_eval.specs.Evaluation.{Begun};
 ghost use Rattle.eo_sig.specs.Signature as spec;
+ghost use Rattle.eo_eval.specs.Scopes.{entered};
 
 mod calling;
 mod entering;
+mod gathering;
 mod memory;
-mod parts;
 mod results;
 
-use crate::calls::CallKey;
+use crate::calls::{CallKey, LocalKey};
 use crate::evaluator::{EvalRefused, Outcome};
+use crate::scope::Scope;
 use crate::stack::{Frame, Known, Now, Stack};
-use crate::turns::begin_parts;
 use eo_base::limits::CALL_DEPTH;
+use eo_pattern::Subst;
 use eo_sig::Signature;
 use eo_term::{Id, Node, Table};
 use eo_type::Types;
@@ -43,23 +45,33 @@ use std::alloc::{AllocError, Global};
 pub(crate) struct Machine {
     alloc: Global,
     stack: Stack,
+    // What stands for the parameters in the bodies that are evaluated.
+    scope: Scope,
+    // What the patterns of the last call hold.
+    subst: Subst,
     // The different calls that were begun, in order, and what is known of each.
     calls: IndexMap<CallKey, Known>,
-    // What is known of terms that are no values.
+    // What is known of terms that are no values, where nothing stands for their parameters.
     terms: IndexMap<Id, Known>,
+    // What is known of terms with parameters, in the bodies of the calls that wait.
+    locals: IndexMap<LocalKey, Known>,
 }
 
 impl Machine {
     /// Nothing is begun, and nothing is remembered.
-    pub(crate) fn new(alloc: Global) -> Machine
-        ensures { IsFresh result }
+    pub(crate) fn new(alloc: Global) -> Result<Machine, AllocError>
+        ensures { IfOk result IsFresh }
     {
-        Machine {
+        let subst = Subst::new(alloc)?;
+        Ok(Machine {
             alloc,
             stack: Stack::new(alloc),
+            scope: Scope::new(alloc),
+            subst,
             calls: IndexMap::new(alloc),
             terms: IndexMap::new(alloc),
-        }
+            locals: IndexMap::new(alloc),
+        })
     }
 
     /// The outcome of a term, where nothing was begun before.
@@ -180,7 +192,7 @@ impl Machine {
         if table.is_value(id) {
             return Ok(Now::Value { id, deepest: 0 });
         }
-        match self.recalled(id, left) {
+        match self.recalled(table, id, left) {
             Some(known) => Ok(known),
             None => self.enter_node(sig, table, types, id, left),
         }
@@ -203,15 +215,59 @@ impl Machine {
         ensures grows { GrowsUnder sig.now table.old table.new }
     {
         match table.node(id) {
-            Node::Var { ty, .. } => begin_parts(table, &mut self.stack, id, ty, left),
-            Node::App { fun, .. } => begin_parts(table, &mut self.stack, id, fun, left),
-            Node::Arr { from, .. } => begin_parts(table, &mut self.stack, id, from, left),
-            Node::Op { code, count } => {
-                self.enter_op(sig, table, types, id, code, count as usize, left)
-            }
-            Node::Par(_) => Ok(Now::Stuck { deepest: 0 }),
+            Node::Var { .. } => self.enter_parts(sig, table, types, id, left),
+            Node::App { .. } => self.enter_parts(sig, table, types, id, left),
+            Node::Arr { .. } => self.enter_parts(sig, table, types, id, left),
+            Node::Op { code, .. } => self.enter_op(sig, table, types, id, code, left),
+            Node::Par(i) => Ok(self.enter_par(sig, table, types, id, i, left)),
             Node::Qar { .. } => Ok(Now::Stuck { deepest: 0 }),
             _ => unreachable!(),
+        }
+    }
+
+    // A node begins to collect the values of its parts.
+    pub(crate) fn enter_parts(
+        &mut self,
+        sig: &Signature,
+        table: &mut Table,
+        types: &mut Types,
+        id: Id,
+        left: usize,
+    ) -> Result<Now, AllocError>
+        requires ready { Ready sig.now table.old types.old self.old (next.Enter id left) }
+        requires node { is_par (tree_in table.old id) ≡ false }
+        requires whole { IsWhole (entered table.old.trees self.old.scope id) }
+        ensures told { IfOk result (λ n. told_in sig.now table.new self.new n ≡ told_in sig.now table.old self.old (next.Enter id left)) }
+        ensures ready { IfOk result (λ n. Ready sig.now table.new types.new self.new n) }
+        ensures fits { Fit sig.now table.new types.new }
+        ensures grows { GrowsUnder sig.now table.old table.new }
+    {
+        let base = self.stack.values.len();
+        self.gather(sig, table, types, id, base, 0, left)
+    }
+
+    // A parameter is evaluated to what stands for it.
+    fn enter_par(
+        &self,
+        sig: &Signature,
+        table: &Table,
+        types: &Types,
+        id: Id,
+        i: u8,
+        left: usize,
+    ) -> Now
+        requires ready { Ready sig.now table.now types.now self.now (next.Enter id left) }
+        requires parameter { Par i ≡ tree_in table.now id }
+        ensures told { told_in sig.now table.now self.now result ≡ told_in sig.now table.now self.now (next.Enter id left) }
+        ensures ready { Ready sig.now table.now types.now self.now result }
+    {
+        table.laws();
+        match self.scope.slot(i as usize) {
+            Some(value) => Now::Value {
+                id: value,
+                deepest: 0,
+            },
+            None => Now::Stuck { deepest: 0 },
         }
     }
 }

@@ -79,10 +79,14 @@ pub(crate) enum Frame {
         id: Id,
         deepest: usize,
     },
-    /// A call waits for its body.
+    /// A call waits for its body. Before it, what stood for parameters was that of the call before
+    /// `here`, from `base` on, and so many terms with parameters were remembered.
     Body {
         place: usize,
         body: Id,
+        base: usize,
+        here: usize,
+        kept: usize,
     },
 }
 
@@ -122,6 +126,14 @@ impl Frame {
             Frame::Missed { id, .. } => id,
             Frame::Handed { id, .. } => id,
             Frame::Body { body, .. } => body,
+        }
+    }
+
+    /// Whether a call waits for the body that is this term.
+    pub(crate) fn is_body(&self, id: Id) -> bool {
+        match *self {
+            Frame::Body { body, .. } => body == id,
+            _ => false,
         }
     }
 
@@ -246,14 +258,6 @@ impl Stack {
         ensures frames { self.new.frames.items ≡ self.old.frames.items }
     {
         self.values.truncate(base);
-    }
-
-    /// The value that was collected last goes.
-    pub(crate) fn forget(&mut self)
-        ensures values { (vs : List ℕ) (v : ℕ) → self.old.values.items ≡ vs ++ v ∷ [] → self.new.values.items ≡ vs }
-        ensures frames { self.new.frames.items ≡ self.old.frames.items }
-    {
-        self.values.pop();
     }
 
     /// The last thing that waits is taken off.

@@ -1,4 +1,5 @@
 mod Vectors
+pub mod FoldingLemmas
 pub mod PathLemmas
 pub mod SinkLemmas
 pub mod StoreLemmas

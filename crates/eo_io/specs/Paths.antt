@@ -1,7 +1,7 @@
 -- How the path of a file is folded.
-use Rattle.std.specs.Prelude.{◌≡◌, ℕ, Bool, false, ◌||◌, List, [], ◌∷◌, ◌++◌, reverse, length, Option, None, Some, nat_le, ◌==◌, if◌then◌else◌, bytes_eq, codes, fold}
+use Rattle.std.specs.Prelude.{◌≡◌, ℕ, ◌-◌, Bool, false, not, ◌||◌, List, [], ◌∷◌, ◌++◌, reverse, length, take, Option, None, Some, nat_le, ◌==◌, if◌then◌else◌, bytes_eq, codes, fold}
 use Rattle.std.specs.Str.{is_utf8}
-use Rattle.std.specs.List.{slice_split, join_with_byte, before_last, list_any}
+use Rattle.std.specs.List.{slice_split, join_with_byte, suffix_len, list_any}
 
 abbrev pub path_limit : ℕ
 path_limit = 4096
@@ -15,7 +15,7 @@ is_absolute (byte ∷ path) = is_slash byte
 
 -- the folder of a file, with the slash that ends it; nothing where the path has none
 abbrev pub folder : List ℕ → List ℕ
-folder path = if list_any is_slash path then before_last is_slash path ++ 47 ∷ [] else []
+folder path = take (length path - suffix_len (λ byte. not (is_slash byte)) path) path
 
 -- the path as the file that names it means it
 abbrev pub seen_from : (from name : List ℕ) → List ℕ
@@ -35,8 +35,8 @@ with_part absolute parts part =
 abbrev pub parts_of : List ℕ → List (List ℕ)
 parts_of path = reverse (fold (with_part (is_absolute path)) [] (slice_split is_slash path))
 
-abbrev pub rooted : Bool → List ℕ → List ℕ
-rooted absolute path = if absolute then 47 ∷ path else path
+abbrev pub root : Bool → List ℕ
+root absolute = if absolute then codes "/" else []
 
 abbrev pub if_short : List ℕ → Option (List ℕ)
 if_short path = if nat_le (length path) path_limit then Some path else None
@@ -44,7 +44,7 @@ if_short path = if nat_le (length path) path_limit then Some path else None
 -- the path of the parts; none where no part stayed
 abbrev pub path_of_parts : Bool → List (List ℕ) → Option (List ℕ)
 path_of_parts absolute [] = None
-path_of_parts absolute (part ∷ parts) = if_short (rooted absolute (join_with_byte 47 (part ∷ parts)))
+path_of_parts absolute (part ∷ parts) = if_short (root absolute ++ join_with_byte 47 (part ∷ parts))
 
 abbrev pub folded : List ℕ → Option (List ℕ)
 folded path = if is_utf8 path then path_of_parts (is_absolute path) (parts_of path) else None

@@ -8,6 +8,7 @@ ghost use Rattle.eo_io.specs.Sink.{Writes, WriteHasCause};
 mod call_plan;
 mod fault_count;
 mod file_store;
+mod folding;
 mod honest_library;
 mod memory_library;
 mod memory_sink;
@@ -17,11 +18,14 @@ mod system;
 mod tests;
 mod writing;
 
+pub use folding::fold_path;
 pub use honest_library::HonestLibrary;
 pub use memory_library::MemoryLibrary;
 pub use memory_sink::MemorySink;
 pub use path_table::Paths;
+use std::alloc::AllocError;
 pub use system::{DiskLibrary, StdSink};
+use thiserror::Error;
 pub use writing::write_all;
 
 /// How many files of a library may be open at once.
@@ -54,6 +58,17 @@ pub enum Put {
     Took(usize),
     /// The sink failed.
     Failed,
+}
+
+/// Why a path was not folded.
+#[derive(Debug, Drop, Error)]
+pub enum PathRefused {
+    /// The path is not UTF-8, no part of it stays, or it is too long.
+    #[error("no path of a file")]
+    Bad,
+    /// There was no memory left.
+    #[error("out of memory")]
+    Memory(AllocError),
 }
 
 /// Where files are read from: files by path, of which some are open, in the order in which they

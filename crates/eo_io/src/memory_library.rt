@@ -80,7 +80,8 @@ impl Library for MemoryLibrary {
     fn open(&mut self, path: &[u8]) -> Opened
         requires { length (map Some self.old.stored.unread) < 18 }
         ensures same { Some self.new.stored.told ≡ Some self.old.stored.told }
-        ensures opens { Opens result (Some self.old.stored.told) path.now (map Some self.old.stored.unread) (map Some self.new.stored.unread) }
+        ensures opens { Opens result (Some self.old.stored.told) path.now
+            (map Some self.old.stored.unread) (map Some self.new.stored.unread) }
         ensures cause { OpenHasCause result (Some self.old.stored.told) path.now self.old.plan.faults self.new.plan.faults }
         ensures later { self.old.plan.faults ≤ self.new.plan.faults }
         ensures answer { result ≡ open_answer self.old path.now }

@@ -115,6 +115,84 @@ fn paths(rt: HostRuntime) -> Result<(), Fail> {
     Ok(())
 }
 
+/// A path in a file, and its folding, if it has one.
+#[derive(Clone, Copy)]
+struct Folding<'a> {
+    from: &'a [u8],
+    name: &'a [u8],
+    path: Option<&'a str>,
+}
+
+fn row<'a>(from: &'a [u8], name: &'a [u8], path: Option<&'a str>) -> Folding<'a> {
+    Folding { from, name, path }
+}
+
+/// Whether the path is folded so.
+fn is_folded_so(alloc: Global, row: &Folding<'_>) -> Result<bool, AllocError> {
+    match fold_path(alloc, row.from, row.name) {
+        Ok(path) => Ok(row.path == Some(path.as_str())),
+        Err(PathRefused::Bad) => Ok(row.path.is_none()),
+        Err(PathRefused::Memory(e)) => Err(e),
+    }
+}
+
+/// The first name that is not folded so.
+fn wrong_folding<'a>(alloc: Global, rows: &[Folding<'a>]) -> Result<Option<&'a [u8]>, AllocError> {
+    for row in rows {
+        if !is_folded_so(alloc, row)? {
+            return Ok(Some(row.name));
+        }
+    }
+    Ok(None)
+}
+
+#[test]
+fn folded_paths(rt: HostRuntime) -> Result<(), Fail> {
+    let rows = [
+        row(b"", b"p.eo", Some("p.eo")),
+        row(b"a.eo", b"b.eo", Some("b.eo")),
+        row(b"lib/a.eo", b"b.eo", Some("lib/b.eo")),
+        row(b"/lib/a.eo", b"b.eo", Some("/lib/b.eo")),
+        row(b"lib/a.eo", b"/b.eo", Some("/b.eo")),
+        row(b"c.eo", b"x/../d.eo", Some("d.eo")),
+        row(b"lib/a.eo", b"./x//b.eo/", Some("lib/x/b.eo")),
+        row(b"lib/a.eo", b"../../b.eo", Some("../b.eo")),
+        row(b"", b"../..", Some("../..")),
+        row(b"../a.eo", b"../b.eo", Some("../../b.eo")),
+        row(b"lib/a.eo", b"/../b//./c", Some("/b/c")),
+        row(b"x/p.eo", b"", Some("x")),
+        row(b"", b"...", Some("...")),
+        row(b"", b"\xc3\xa9.eo", Some("é.eo")),
+        row(b"p.eo", b"", None),
+        row(b"lib/a.eo", b"..", None),
+        row(b"", b"/", None),
+        row(b"/a.eo", b"x/../../..", None),
+        row(b"", b"./.", None),
+        row(b"", b"\xff", None),
+        row(b"\xff/a.eo", b"b.eo", None),
+        row(b"\xff/a.eo", b"../b.eo", None),
+        row(b"\xff/a.eo", b"/b.eo", Some("/b.eo")),
+    ];
+    assert_eq!(rt; wrong_folding(rt.alloc(), &rows)?, None);
+    Ok(())
+}
+
+#[test]
+fn folded_paths_have_a_limit(rt: HostRuntime) -> Result<(), Fail> {
+    let name = "a".repeat(rt.alloc(), 4_097)?;
+    let longest = &name[1..];
+    let slashes = "/".repeat(rt.alloc(), 4_096)?;
+    let padded = format!(in rt.alloc(); "./{longest}{slashes}")?;
+    let rows = [
+        row(b"", longest.as_bytes(), Some(longest)),
+        row(b"", padded.as_bytes(), Some(longest)),
+        row(b"", name.as_bytes(), None),
+        row(b"/a", longest.as_bytes(), None),
+    ];
+    assert_eq!(rt; wrong_folding(rt.alloc(), &rows)?, None);
+    Ok(())
+}
+
 #[test]
 fn system(rt: HostRuntime) -> Result<(), Fail> {
     let name = format!(in rt.alloc(); "ethos_eo_io_{}", process::id(rt.process()))?;

@@ -7,12 +7,13 @@ use Rattle.eo_names.specs.declared.symbols.Word as code_word
 use Rattle.eo_names.specs.declared.symbols.Word.TheVariants as words
 use Rattle.eo_names.specs.declared.symbols.Meant as code_meant
 use Rattle.eo_names.specs.declared.symbols.Meant.TheVariants as meant
-use Rattle.eo_names.specs.Meanings.{Word, Underscore, Arrow, Let, Name, Meant, ATree, AMacro, AnOperator, Nothing, or_nothing}
+use Rattle.eo_names.specs.Meanings.{Word, Underscore, Arrow, Let, Annotation, Name, Meant, ATree, AMacro, AnOperator, Nothing, or_nothing}
 
 abbrev pub read_word : code_word.Word → Word
 read_word words.Underscore = Underscore
 read_word words.Arrow = Arrow
 read_word words.Let = Let
+read_word words.Annotation = Annotation
 read_word words.Name = Name
 
 abbrev pub read_meant : List Tree → Kept → code_meant.Meant → Meant

@@ -21,6 +21,6 @@ pub use binders::bind;
 pub use laws::names_law;
 pub use locals::{Bindings, LocalName, Locals};
 pub use refused::ElabRefused;
-pub use scope::Scope;
+pub use scope::{Scope, Setting};
 pub use symbols::{Meant, Word, name_meant, word_of};
 pub use usage::Use;

@@ -1,6 +1,6 @@
 //! The names that the place of a term gives a meaning: parameters, and what `let` and binders
 //! bind.
-ghost use Rattle.std.specs.Prelude.{◌≡◌, ℕ, ◌<◌, List, [], ◌∷◌, ◌++◌, map, length, false, ◌&&◌};
+ghost use Rattle.std.specs.Prelude.{◌≡◌, ℕ, ◌<◌, List, [], ◌∷◌, ◌++◌, map, take, length, false, ◌&&◌};
 ghost use Rattle.std.specs.Prelude.{IfOk, IfSome, OnOk, OnErr, Some, bytes_eq, option_map, slice_get};
 ghost use Rattle.std.specs.List.{list_any};
 ghost use Rattle.eo_term.specs.Tree.{Tree, tree_eq};
@@ -213,5 +213,11 @@ impl Bindings {
         let key = Name::new(self.alloc, name)?;
         self.names.insert(key, id)?;
         Ok(())
+    }
+    /// Drops the names behind the first n.
+    pub fn truncate(&mut self, n: usize)
+        ensures { self.new ≡ take n self.old }
+    {
+        self.names.truncate(n);
     }
 }

@@ -1,15 +1,16 @@
 //! What a symbol stands for.
-ghost use Rattle.std.specs.Prelude.{◌≡◌, ℕ, ◌<◌, List, length};
+ghost use Rattle.std.specs.Prelude.{◌≡◌, if◌then◌else◌, ℕ, ◌<◌, List, length};
 ghost use Rattle.eo_term.specs.Tree.{Tree};
 ghost use Rattle.eo_sig.specs.Reading.{programs_of, IsBelow};
+ghost use Rattle.eo_names.specs.Meanings as meanings;
 ghost use Rattle.eo_names.specs.Meanings.{word_of, program_meant};
-ghost use Rattle.eo_names.specs.Contexts.{InProof};
-ghost use Rattle.eo_names.specs.Scopes.{bound_in};
+ghost use Rattle.eo_names.specs.Contexts.{is_reference};
+ghost use Rattle.eo_names.specs.Scopes.{bound_in, read_setting, setting_in};
 ghost use Rattle.eo_names.specs.Ready.{context, IsReady};
 ghost use Rattle.eo_names.specs.Symbols.{read_word, read_meant, IsLive};
 ghost use Rattle.eo_names.specs.Worlds.{meant_over, global_meant_over, macro_meant_over};
 
-use crate::scope::Scope;
+use crate::scope::{Scope, Setting};
 use eo_sig::{Entry, SignatureView};
 use eo_term::{Id, OpCode, OpName};
 
@@ -22,6 +23,8 @@ pub enum Word {
     Arrow,
     /// `let`
     Let,
+    /// `!`, in a reference file.
+    Annotation,
     /// Any other symbol.
     Name,
 }
@@ -41,9 +44,9 @@ pub enum Meant {
     Nothing,
 }
 
-/// Which word the symbol is, in a signature or a proof.
-pub fn word_of(symbol: &[u8]) -> Word
-    ensures { read_word result ≡ word_of InProof symbol.now }
+/// Which word the symbol is in this kind of file.
+pub fn word_of(symbol: &[u8], scope: &Scope<'_>) -> Word
+    ensures { read_word result ≡ word_of (setting_in scope.now) symbol.now }
 {
     if symbol == b"_".as_slice() {
         return Word::Underscore;
@@ -54,7 +57,20 @@ pub fn word_of(symbol: &[u8]) -> Word
     if symbol == b"let".as_slice() {
         return Word::Let;
     }
+    if symbol == b"!".as_slice() {
+        return exclamation(scope.setting());
+    }
     Word::Name
+}
+
+// Which word `!` is.
+fn exclamation(setting: Setting) -> Word
+    ensures { read_word result ≡ (if is_reference (read_setting setting) then meanings.Annotation else meanings.Name) }
+{
+    match setting {
+        Setting::Proof => Word::Name,
+        Setting::Reference | Setting::Assert => Word::Annotation,
+    }
 }
 
 /// What the name stands for: an operator of the language, else the innermost local name, else a

@@ -75,7 +75,7 @@ mutual
 
 -- a tree with no assigned parameter stays
 mutual
-  put_nothing : (t : Tree) → put empty t ≡ t
+  pub put_nothing : (t : Tree) → put empty t ≡ t
   put_nothing (Con k) = refl
   put_nothing (Num z) = refl
   put_nothing (Bits w v) = refl

@@ -8,7 +8,7 @@ mod matching;
 mod subst;
 mod substitution;
 
-pub use laws::matching_law;
+pub use laws::{matching_law, putting_law};
 pub use matching::match_terms;
 pub use subst::Subst;
 pub use substitution::substitute;

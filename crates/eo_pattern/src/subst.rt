@@ -66,6 +66,13 @@ impl Subst {
         self.values.get(i).copied().flatten()
     }
 
+    /// What stands for each parameter that there is room for, by its number.
+    pub fn slots(&self) -> &[Option<Id>]
+        ensures { result.now ≡ self.now.values }
+    {
+        self.values.as_slice()
+    }
+
     /// The parameters below 64 for which something stands.
     pub(crate) fn assigned(&self) -> ParamSet
         ensures { IsAssigned result self.now }

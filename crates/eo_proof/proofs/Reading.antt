@@ -163,6 +163,13 @@ module _ (ts : List Tree) where
   pub live_is_named : (k : Kept) (name : List ℕ) → is_live (scopes ts k) name ≡ is_some (lookup (bytes_eq name) k.facts)
   live_is_named k name = ap is_some (fact_is k name) ∙ is_some_map (tree_at ts) (lookup (bytes_eq name) k.facts)
 
+  pub absent_name : (k : Kept) (name : List ℕ) → is_live (scopes ts k) name ≡ false → lookup (bytes_eq name) k.facts ≡ None
+  absent_name k name h = by (lookup (bytes_eq name) k.facts) (sym (live_is_named k name) ∙ h)
+    where
+      by : (o : Option ℕ) → is_some o ≡ false → o ≡ None
+      by None h = refl
+      by (Some i) h = absurd (true≢false h)
+
   pub depth_is : (k : Kept) → depth (scopes ts k) ≡ length k.begun
   unfolding scopes
   depth_is k = by k.facts k.begun
@@ -265,6 +272,9 @@ module _ (ts : List Tree) where
       let l = outer_within k h in
       let same : length (keys_of k.facts) ≡ length k.facts = length-map k.facts (λ (f : NamedId). f.0) in
       at_end (position_or_len (bytes_eq name) (keys_of k.facts)) (outer_count k) (omega (arith, l, same, beyond)) ∙ sym (free_outside k name l)
+
+pub same_names : (ts us : List Tree) (k : Kept) (name : List ℕ) → is_live (scopes ts k) name ≡ is_live (scopes us k) name
+same_names ts us k name = live_is_named ts k name ∙ sym (live_is_named us k name)
 
 -- ---- `false` outside all scopes
 

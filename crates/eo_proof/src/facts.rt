@@ -1,5 +1,5 @@
 //! Facts in scopes.
-ghost use Rattle.std.specs.Prelude.{◌≡◌, ℕ, ◌<◌, List, ◌∷◌, ◌++◌, [], map, length, None, is_some, option_map};
+ghost use Rattle.std.specs.Prelude.{◌≡◌, ℕ, ◌<◌, List, ◌∷◌, ◌++◌, [], false, map, length, None, is_some, option_map};
 ghost use Rattle.std.specs.Prelude.{IfOk, IfSome, OnOk, OnErr};
 ghost use Rattle.std.specs.Map.{lookup};
 ghost use Rattle.std.specs.Str.{bytes_eq};
@@ -108,10 +108,28 @@ impl Facts {
         if self.has(name) {
             return Err(FactRefused::Redeclared);
         }
+        self.add_new(name, id)?;
+        Ok(())
+    }
+
+    /// Adds a fact to the innermost scope, by a name that no fact has. The error is want of memory.
+    pub fn add_new(&mut self, name: &[u8], id: Id) -> Result<(), AllocError>
+        requires { (ts : List Tree) → scope.is_live (scopes ts self.old) name.now ≡ false }
+        ensures adds { OnOk result ((ts : List Tree) → scopes ts self.new ≡ scope.with_fact (scopes ts self.old) name.now (tree_at ts id)) }
+        ensures below { (m : ℕ) → AreBelow m self.old → id < m → AreBelow m self.new }
+        ensures same { OnErr result (self.new ≡ self.old) }
+    {
         let name = Name::new(self.alloc, name)?;
         self.put(name, id)?;
         Ok(())
     }
+
+    /// A law: which names facts have is the same over all lists of trees.
+    #[tactic(auto, using(crate::proofs::Reading::same_names))]
+    pub fn laws(&self)
+        ensures names { (ts us : List Tree) (name : List ℕ) →
+            scope.is_live (scopes ts self.now) name ≡ scope.is_live (scopes us self.now) name }
+    {}
 
     /// The fact with the name, in any scope.
     pub fn find(&self, name: &[u8]) -> Result<Id, UnknownPremise>

@@ -1,6 +1,6 @@
 -- The checks in order: the fault of each is that of the whole, and what passes goes on.
 use Rattle.std.proofs.Common.{◌≡◌, ℕ, zero, suc, ◌+◌, ◌<◌, ◌≤◌, true, false, not, List, [], ◌∷◌, length, drop, All, Option, Some, None, refl, sym, ap, ◌∙◌, subst, arith}
-use Rattle.std.specs.Prelude.{Result, Ok, Err, option_to_list, slice_get}
+use Rattle.std.specs.Prelude.{Result, Ok, Err, IfOk, option_to_list, slice_get}
 use Rattle.std.specs.Option.{option_flatten}
 use Rattle.std.proofs.lemmas.List.Elements.{All-head, All-tail}
 use Rattle.eo_base.specs.declared.FaultName.{FaultName}
@@ -20,6 +20,7 @@ use Rattle.eo_pattern.specs.Matching.{Assignment, empty, put, matching}
 use Rattle.eo_type.specs.Types.{settled}
 use Rattle.eo_eval.specs.Evaluation.{eval0}
 use Rattle.eo_eval.specs.Faults.{value_or_fault}
+use Rattle.eo_eval.specs.Outcomes.{IsValueOf}
 use Rattle.eo_rule.specs.declared.refused.RuleRefused.{RuleRefused}
 use Rattle.eo_rule.specs.declared.refused.RuleRefused.TheVariants as refused
 use Rattle.eo_rule.specs.Answers.{told, of_term, GivesTerm, AnswersOnly}
@@ -191,7 +192,7 @@ held_below n s i v b e = within s.values i b.slots e
 -- ---- the only formula
 
 -- what the checks give, where they give just the formulas of a kind
-pub answers_only : (t : Terms) (r : Result ℕ RuleRefused) (o : Checked Tree) (Is : Tree → Type 0) → ((x : Tree) → o ≡ Ok x → Is x) → ((x : Tree) → Is x → o ≡ Ok x) → GivesTerm t r o → AnswersOnly t r Is
-answers_only t (Ok i) o Is sound complete h = record { one = sound (tree_in t i) h.is; none_else = λ x k. ok_injective x (tree_in t i) (sym (complete x k) ∙ h.is) }
-answers_only t (Err (refused.Fault name)) o Is sound complete h = λ x k. err_is_not_ok name x (sym h ∙ complete x k)
-answers_only t (Err (refused.Memory e)) o Is sound complete h = tt
+pub answers_only : (t : Terms) (r : Result ℕ RuleRefused) (o : Checked Tree) (Is : Tree → Type 0) → ((x : Tree) → o ≡ Ok x → Is x) → ((x : Tree) → Is x → o ≡ Ok x) → IfOk r (IsValueOf t) → GivesTerm t r o → AnswersOnly t r Is
+answers_only t (Ok i) o Is sound complete value h = record { value = value; one = sound (tree_in t i) h.is; none_else = λ x k. ok_injective x (tree_in t i) (sym (complete x k) ∙ h.is) }
+answers_only t (Err (refused.Fault name)) o Is sound complete value h = λ x k. err_is_not_ok name x (sym h ∙ complete x k)
+answers_only t (Err (refused.Memory e)) o Is sound complete value h = tt

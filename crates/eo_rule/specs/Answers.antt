@@ -12,7 +12,7 @@ use Rattle.eo_eval.specs.declared.evaluator.EvalRefused.{EvalRefused}
 use Rattle.eo_eval.specs.declared.evaluator.EvalRefused.TheVariants as eval
 use Rattle.eo_eval.specs.declared.evaluator.Outcome as code_outcome
 use Rattle.eo_eval.specs.Faults.{value_or_fault}
-use Rattle.eo_eval.specs.Outcomes.{MayBeValue}
+use Rattle.eo_eval.specs.Outcomes.{IsValueOf, MayBeValue}
 use Rattle.eo_eval.specs.Reading.{outcome_in}
 use Rattle.eo_term.specs.Growth.{tree_in}
 use Rattle.eo_term.specs.Terms.{Terms}
@@ -58,12 +58,13 @@ GivesAssignment t r s o = Gives told (λ (u : Unit {0}). AreBelow (length t.tree
 abbrev pub GivesValue : code_outcome.Outcome → Result ℕ RuleRefused → Type 0
 GivesValue o r = (t : Terms) → MayBeValue t o → GivesTerm t r (value_or_fault (outcome_in t.trees o))
 
--- Among the formulas of a kind, there is that of the term alone.
+-- The term is a value, and among the formulas of a kind there is that of the term alone.
 pub record IsOnly (t : Terms) (Is : Tree → Type 0) (i : ℕ) : Type 0 where
+  pub value : IsValueOf t i
   pub one : Is (tree_in t i)
   pub none_else : (formula : Tree) → Is formula → formula ≡ tree_in t i
 
--- A call answers the only formula of a kind. Where it tells a fault, there is none.
+-- A call answers the only formula of a kind, which is a value. Where it tells a fault, there is none.
 abbrev pub AnswersOnly : Terms → Result ℕ RuleRefused → (Tree → Type 0) → Type 0
 AnswersOnly t (Ok i) Is = IsOnly t Is i
 AnswersOnly t (Err (refused.Fault name)) Is = (formula : Tree) → Is formula → ⊥

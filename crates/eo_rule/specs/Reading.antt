@@ -5,6 +5,8 @@ use Rattle.eo_term.specs.Terms.{Terms, tree_at}
 use Rattle.eo_term.specs.Tree.{Tree}
 use Rattle.eo_sig.specs.declared.records.RuleDecl.{RuleDecl}
 use Rattle.eo_sig.specs.Reading.{Kept, RuleBelow, SomeBelow, read_rule, signature}
+use Rattle.eo_sig.specs.Usable.{IsUsable}
+use Rattle.eo_type.specs.Known.{Fit}
 use Rattle.eo_rule.specs.declared.RuleUse.{RuleUse}
 use Rattle.eo_rule.specs.Uses.{Use, AreGiven, Concludes, conclusion}
 
@@ -27,6 +29,11 @@ pub record UseBelow (n : ℕ) (u : RuleUse) : Type 0 where
 -- the assumption, the premises and the arguments are values
 abbrev pub AreValuesIn : Terms → RuleUse → Type 0
 AreValuesIn t u = AreGiven (read_use t.trees u)
+
+-- What rules are used by: a signature that has what their uses need, a table in which all its terms are, and types that are those of their terms.
+pub record Serves (k : Kept) (t : Terms) (known : List (ℕ × ℕ)) : Type 0 where
+  pub usable : IsUsable (signature t.trees k)
+  pub fit : Fit k t known
 
 -- over the trees new a rule is what it was over old, and all its terms are there
 pub record RuleStays (d : RuleDecl) (old new : List Tree) : Type 0 where

@@ -10,7 +10,7 @@ ghost use Rattle.eo_rule.specs.Answers.{GivesTerm, Passes};
 ghost use Rattle.eo_rule.specs.Uses as spec;
 
 use crate::RuleRefused;
-use crate::values::type_of;
+use crate::values::value_type;
 use eo_base::FaultName;
 use eo_sig::Signature;
 use eo_term::{Id, Table};
@@ -49,7 +49,7 @@ pub(crate) fn check_formula(
     ensures fits { Fit sig.now table.new types.new }
     ensures grows { GrowsUnder sig.now table.old table.new }
 {
-    let ty = type_of(sig, table, types, id)?;
+    let ty = value_type(sig, table, types, id)?;
     if !is_constant(table, ty, BOOL_CONSTANT) {
         return Err(RuleRefused::Fault(FaultName::NotBool));
     }

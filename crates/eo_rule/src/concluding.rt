@@ -5,18 +5,18 @@ ghost use Rattle.eo_pattern.specs.Matching.{put};
 ghost use Rattle.eo_pattern.specs.Slots.{held, AreBelow};
 ghost use Rattle.eo_sig.specs.Growth.{GrowsUnder};
 ghost use Rattle.eo_sig.specs.Reading.{RuleBelow, read_rule, signature};
-ghost use Rattle.eo_sig.specs.Usable.{IsUsable};
 ghost use Rattle.eo_term.specs.Builds.{Builds};
 ghost use Rattle.eo_term.specs.Growth.{Grows};
 ghost use Rattle.eo_type.specs.Known.{Fit};
 ghost use Rattle.eo_rule.specs.Answers.{GivesTerm};
 ghost use Rattle.eo_rule.specs.Instance.{guarded_conclusion};
+ghost use Rattle.eo_rule.specs.Reading.{Serves};
 ghost use Rattle.eo_rule.specs.Uses as spec;
 
 use crate::RuleRefused;
 use crate::laws::growing_law;
 use crate::requirements::guarded_conclusion;
-use crate::values::evaluate;
+use crate::values::value_of;
 use eo_eval::Evaluator;
 use eo_pattern::{Subst, substitute};
 use eo_sig::{RuleDecl, Signature};
@@ -35,8 +35,7 @@ pub(crate) fn conclude_value(
 ) -> Result<Id, RuleRefused>
     requires rule { RuleBelow (length table.old.trees) rule.now }
     requires below { AreBelow (length table.old.trees) subst.now }
-    requires usable { IsUsable (signature table.old.trees sig.now) }
-    requires fit { Fit sig.now table.old types.old }
+    requires serves { Serves sig.now table.old types.old }
     ensures gives { GivesTerm table.new result (spec.conclude_value (signature table.old.trees sig.now)
         (put (held table.old.trees subst.now) (guarded_conclusion (read_rule table.old.trees rule.now)))) }
     ensures value { IfOk result (IsValueOf table.new) }
@@ -47,7 +46,7 @@ pub(crate) fn conclude_value(
     types.laws();
     let id = put_conclusion(table, subst, rule)?;
     table.laws();
-    evaluate(sig, table, types, eval, id)
+    value_of(sig, table, types, eval, id)
 }
 
 // The conclusion under the requirements with what is held put in.

@@ -1,5 +1,5 @@
 //! Laws of uses of rules. A call costs nothing: it tells a proof what its clauses say.
-ghost use Rattle.std.specs.Prelude.{◌≡◌, ◌<◌, ℕ, length, Ok, Some};
+ghost use Rattle.std.specs.Prelude.{◌≡◌, ◌<◌, ℕ, List, ◌++◌, length, Ok, Some, Contains};
 ghost use Rattle.eo_term.specs.Tree.{Tree};
 ghost use Rattle.eo_term.specs.Terms.{Terms, Since};
 ghost use Rattle.eo_sig.specs.declared.records.RuleDecl.{RuleDecl};
@@ -7,6 +7,7 @@ ghost use Rattle.eo_sig.specs.Reading.{RuleBelow};
 ghost use Rattle.eo_sig.specs.Signature.{Signature};
 ghost use Rattle.eo_sig.specs.Usable.{IsUsable};
 ghost use Rattle.eo_pattern.specs.Slots.{Slots, AreBelow, Holds};
+ghost use Rattle.eo_rule.specs.Derivability.{Derives};
 ghost use Rattle.eo_rule.specs.Reading.{RuleStays, UseBelow, UseStays};
 ghost use Rattle.eo_rule.specs.declared.RuleUse.{RuleUse};
 ghost use Rattle.eo_rule.specs.Uses.{Use, AreGiven, Concludes, conclusion};
@@ -18,6 +19,13 @@ pub fn conclusion_law()
         conclusion S number given ≡ Ok formula → Concludes S number given formula }
     ensures complete { (S : Signature) (number : ℕ) (given : Use) (formula : Tree) → IsUsable S → AreGiven given →
         Concludes S number given formula → conclusion S number given ≡ Ok formula }
+{}
+
+/// A law: what is derivable from formulas stays so from more of them, and where more is declared.
+pub fn derivability_law()
+    ensures formulas { (S : Signature) (Γ Δ : List Tree) (t : Tree) → ((x : Tree) → Contains Γ x → Contains Δ x) →
+        Derives S Γ t → Derives S Δ t }
+    ensures signature { (S later : Signature) (Γ : List Tree) (t : Tree) → Derives S Γ t → Derives (S ++ later) Γ t }
 {}
 
 /// A law: where the table grows, what is held, a rule and a use of one stay what they are.

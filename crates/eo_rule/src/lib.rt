@@ -15,9 +15,10 @@ mod using;
 mod values;
 
 use eo_term::{Id, Ids};
-pub use laws::conclusion_law;
+pub use laws::{conclusion_law, derivability_law};
 pub use refused::RuleRefused;
 pub use using::conclude;
+pub use values::{value_of, value_type};
 
 /// A use of a rule.
 #[derive(Debug, Drop)]

@@ -5,7 +5,7 @@ use eo_term::TermRefused;
 use eo_type::TypeRefused;
 use std::alloc::AllocError;
 
-/// Why a use of a rule is refused.
+/// Why a use of a rule is refused, or a term that it asks about has no value or no type.
 #[derive(Debug, Drop)]
 pub enum RuleRefused {
     /// The first check that fails.

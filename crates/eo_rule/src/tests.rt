@@ -1,4 +1,4 @@
-mod common;
+mod codes;
 mod order;
 mod rows;
 mod steps;

@@ -12,7 +12,7 @@ ghost use Rattle.eo_rule.specs.Uses as spec;
 use crate::RuleRefused;
 use crate::laws::growing_law;
 use crate::matching::match_list;
-use crate::values::{settled, type_of};
+use crate::values::{settled, value_type};
 use eo_base::FaultName;
 use eo_pattern::Subst;
 use eo_sig::{Param, Signature};
@@ -94,7 +94,7 @@ fn check_value(
 {
     sig.laws();
     growing_law();
-    let found = type_of(sig, table, types, value)?;
+    let found = value_type(sig, table, types, value)?;
     types.laws();
     let expected = settled(alloc, sig, table, subst, ty)?;
     match_list(table, subst, &[expected], &[found], FaultName::IllTyped)

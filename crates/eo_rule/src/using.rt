@@ -3,10 +3,9 @@ ghost use Rattle.std.specs.Prelude.{◌<◌, length, IfOk};
 ghost use Rattle.eo_eval.specs.Outcomes.{IsValueOf};
 ghost use Rattle.eo_sig.specs.Growth.{GrowsUnder};
 ghost use Rattle.eo_sig.specs.Reading.{RuleBelow, read_rule, rules_of, signature};
-ghost use Rattle.eo_sig.specs.Usable.{IsUsable};
 ghost use Rattle.eo_type.specs.Known.{Fit};
 ghost use Rattle.eo_rule.specs.Answers.{AnswersOnly, GivesTerm};
-ghost use Rattle.eo_rule.specs.Reading.{AreValuesIn, ConcludesIn, UseBelow, conclusion_in, read_use};
+ghost use Rattle.eo_rule.specs.Reading.{AreValuesIn, ConcludesIn, Serves, UseBelow, conclusion_in, read_use};
 ghost use Rattle.eo_rule.specs.Uses.{kind_conclusion, rule_conclusion};
 
 use crate::checks::{check_formula, check_kind, check_stated};
@@ -54,10 +53,8 @@ pub fn conclude(
     requires rule { rule < length (rules_of sig.now) }
     requires live { UseBelow (length table.old.trees) given.now }
     requires values { AreValuesIn table.old given.now }
-    requires usable { IsUsable (signature table.old.trees sig.now) }
-    requires fit { Fit sig.now table.old types.old }
+    requires serves { Serves sig.now table.old types.old }
     ensures gives { GivesTerm table.new result (conclusion_in sig.now table.old rule given.now) }
-    ensures value { IfOk result (IsValueOf table.new) }
     ensures instance { AnswersOnly table.new result (ConcludesIn sig.now table.old rule given.now) }
     ensures fits { Fit sig.now table.new types.new }
     ensures grows { GrowsUnder sig.now table.old table.new }
@@ -80,8 +77,7 @@ fn conclude_by(
 ) -> Result<Id, RuleRefused>
     requires rule { RuleBelow (length table.old.trees) rule.now }
     requires live { UseBelow (length table.old.trees) given.now }
-    requires usable { IsUsable (signature table.old.trees sig.now) }
-    requires fit { Fit sig.now table.old types.old }
+    requires serves { Serves sig.now table.old types.old }
     ensures gives { GivesTerm table.new result (rule_conclusion (signature table.old.trees sig.now)
         (read_rule table.old.trees rule.now) (read_use table.old.trees given.now)) }
     ensures value { IfOk result (IsValueOf table.new) }
@@ -105,8 +101,7 @@ fn conclude_checked(
 ) -> Result<Id, RuleRefused>
     requires rule { RuleBelow (length table.old.trees) rule.now }
     requires live { UseBelow (length table.old.trees) given.now }
-    requires usable { IsUsable (signature table.old.trees sig.now) }
-    requires fit { Fit sig.now table.old types.old }
+    requires serves { Serves sig.now table.old types.old }
     ensures gives { GivesTerm table.new result (kind_conclusion (signature table.old.trees sig.now)
         (read_rule table.old.trees rule.now) (read_use table.old.trees given.now)) }
     ensures value { IfOk result (IsValueOf table.new) }

@@ -6,12 +6,12 @@ ghost use Rattle.eo_pattern.specs.Matching.{put};
 ghost use Rattle.eo_pattern.specs.Slots.{held, AreBelow};
 ghost use Rattle.eo_sig.specs.Growth.{GrowsUnder};
 ghost use Rattle.eo_sig.specs.Reading.{signature};
-ghost use Rattle.eo_sig.specs.Usable.{IsUsable};
 ghost use Rattle.eo_term.specs.Growth.{Grows, tree_in};
 ghost use Rattle.eo_term.specs.Terms.{Terms};
 ghost use Rattle.eo_type.specs.Known.{Fit};
 ghost use Rattle.eo_type.specs.Types.{settled};
 ghost use Rattle.eo_rule.specs.Answers.{GivesTerm, GivesValue};
+ghost use Rattle.eo_rule.specs.Reading.{Serves};
 ghost use Rattle.eo_rule.specs.Uses.{typed, typed_or};
 
 use crate::RuleRefused;
@@ -23,8 +23,11 @@ use eo_term::{Id, Table};
 use eo_type::{Types, settle};
 use std::alloc::Global;
 
-/// The type of a value, which is `IllTyped` where it has none that is a value.
-pub(crate) fn type_of(
+/// The type of a value, as the checks of rules and commands ask for it.
+///
+/// `IllTyped`: it has none, or none that is a value. `NumberRange`, `TermHeight`: a number in it is
+/// out of range, or it is too tall. `Memory`: want of memory.
+pub fn value_type(
     sig: &Signature,
     table: &mut Table,
     types: &mut Types,
@@ -81,8 +84,11 @@ fn settled_type(
     Ok(found)
 }
 
-/// The value of a term. Where it has none, the fault says how its evaluation ends.
-pub(crate) fn evaluate(
+/// The value of a term, as the checks of rules and commands ask for it.
+///
+/// `Stuck`, `NumberRange`, `TermHeight`, `EvalDepth`, `EvalCalls`: it has none, and its evaluation
+/// ends so. `Memory`: want of memory.
+pub fn value_of(
     sig: &Signature,
     table: &mut Table,
     types: &mut Types,
@@ -90,8 +96,7 @@ pub(crate) fn evaluate(
     id: Id,
 ) -> Result<Id, RuleRefused>
     requires live { id < length table.old.trees }
-    requires usable { IsUsable (signature table.old.trees sig.now) }
-    requires fit { Fit sig.now table.old types.old }
+    requires serves { Serves sig.now table.old types.old }
     ensures gives { GivesTerm table.new result (value_or_fault (outcome_of sig.now table.old id)) }
     ensures value { IfOk result (IsValueOf table.new) }
     ensures fits { Fit sig.now table.new types.new }

@@ -42,7 +42,7 @@ present-typed_or Untyped = λ q. absurd cc
 present-typed_or TypeRange = λ q. absurd cc
 present-typed_or TypeTall = λ q. absurd cc
 
-present-ended : (o : Outcome Tree) → IsPresent (value_or_fault o)
+pub present-ended : (o : Outcome Tree) → IsPresent (value_or_fault o)
 present-ended (Value v) = tt
 present-ended Stuck = λ q. absurd cc
 present-ended Deep = λ q. absurd cc
@@ -51,7 +51,7 @@ present-ended Range = λ q. absurd cc
 present-ended Tall = λ q. absurd cc
 
 module _ (S : Signature) where
-  present-typed : (v : Tree) → IsPresent (typed S v)
+  pub present-typed : (v : Tree) → IsPresent (typed S v)
   unfolding typed
   present-typed v = present-typed_or _
 
@@ -117,7 +117,7 @@ module _ (S : Signature) where
   unfolding conclusion
   present-conclusion number given = present-then _ _ (present-value_or UnknownRule _ (λ q. absurd cc)) (λ r. present-rule r given)
 
--- the refusal of a use of a rule
+-- the refusal of a use of a rule, or of a value or a type
 pub refuses_rule : {A B : Type 0} (m : Checked A) (n : Checked B) (x : RuleRefused) → IsPresent m → Tells told x m → ((name : FaultName) → m ≡ Err name → n ≡ Err name) → Refuses n (of_rule x)
 refuses_rule {A} m n (rule.Fault name) p h f = (f name h, subst (λ (o : Checked A). IsPresent o) h p)
 refuses_rule m n (rule.Memory e) p h f = (tt, tt)

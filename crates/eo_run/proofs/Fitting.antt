@@ -22,7 +22,7 @@ MayFold (IsRule r) = Unit {0}
 MayFold (IsLiteralType class t) = Unit {0}
 
 -- one element more
-slice_get_more : {X : Type 0} (P : X → Type 0) (xs : List X) (y : X) (k : ℕ) (x : X) → ((j : ℕ) (z : X) → slice_get xs j ≡ Some z → P z) → P y → slice_get (xs ++ y ∷ []) k ≡ Some x → P x
+pub slice_get_more : {X : Type 0} (P : X → Type 0) (xs : List X) (y : X) (k : ℕ) (x : X) → ((j : ℕ) (z : X) → slice_get xs j ≡ Some z → P z) → P y → slice_get (xs ++ y ∷ []) k ≡ Some x → P x
 slice_get_more P [] y zero x h p e = subst P (same_Some y x e) p
 slice_get_more P [] y (suc k) x h p e = absurd (none-some x e)
 slice_get_more P (z ∷ zs) y zero x h p e = h zero x e

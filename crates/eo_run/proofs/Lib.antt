@@ -1,6 +1,7 @@
 pub mod Adding
 pub mod Computed
 pub mod Concluding
+pub mod Deriving
 pub mod Dispatch
 pub mod Ending
 pub mod Exits
@@ -13,6 +14,9 @@ pub mod Pieces
 pub mod Running
 pub mod Scoping
 pub mod Sessions
+pub mod SoundDeclarations
+pub mod SoundSteps
+pub mod Soundness
 pub mod Used
 mod ClosedVectors
 mod ScopeVectors

@@ -11,13 +11,10 @@ use Rattle.eo_shape.specs.Words.{symbol_of}
 use Rattle.eo_shape.specs.Shapes.{Command, command_of}
 use Rattle.eo_term.specs.Tree.{Tree, type_tree, bool_tree, truth, is_value, is_tall, tree_eq}
 use Rattle.eo_term.specs.Growth.{Grows}
-use Rattle.eo_type.specs.Types.{TypeOutcome, Typed, Untyped, TypeRange, TypeTall, on_typed, typed_if, type_of}
 use Rattle.eo_term.specs.Terms.{Terms, tree_at}
 use Rattle.eo_eval.specs.Evaluation.{Outcome, eval0}
 use Rattle.eo_eval.specs.Faults.{value_or_fault}
 use Rattle.eo_eval.specs.Outcomes.{IsValueOf}
-use Rattle.eo_eval.specs.declared.evaluator.EvalRefused.{EvalRefused}
-use Rattle.eo_eval.specs.declared.evaluator.EvalRefused.TheVariants as eval
 use Rattle.eo_elab.specs.Meaning.{meaning}
 use Rattle.eo_names.specs.Names.{read_locals}
 use Rattle.eo_names.specs.declared.locals.LocalName.{LocalName}
@@ -27,18 +24,15 @@ use Rattle.eo_names.specs.Refused.{told as elab_told}
 use Rattle.eo_run.specs.declared.held.Held.{Held}
 use Rattle.eo_run.specs.declared.refused.Refused.{Refused}
 use Rattle.eo_run.specs.declared.refused.Refused.TheVariants as refused
-use Rattle.eo_type.specs.Outcomes.{Answers}
-use Rattle.eo_type.specs.declared.refused.TypeRefused.{TypeRefused}
-use Rattle.eo_type.specs.declared.refused.TypeRefused.TheVariants as kind
-use Rattle.eo_run.specs.Stepping.{of_elab, of_eval, of_type, of_fact, Refuses, GivesTerm, Does}
+use Rattle.eo_run.specs.Stepping.{of_elab, of_fact, Refuses, GivesTerm, Does}
 use Rattle.std.proofs.lemmas.Bool.Decides.{nat_tests}
 use Rattle.eo_run.proofs.Exits.{at_exit}
 use Rattle.eo_proof.specs.Scopes.{Scopes, depth, has_false, is_live, scope_limit}
-use Rattle.eo_proof.specs.Outcomes.{Added, Pushed}
+use Rattle.eo_proof.specs.Outcomes.{Pushed}
 use Rattle.eo_proof.specs.declared.facts.FactRefused.{FactRefused}
 use Rattle.eo_proof.specs.declared.facts.FactRefused.TheVariants as fact
 use Rattle.eo_run.specs.State.{State, context, with_assertion, with_fact, with_scope, with_command, is_asserted, is_in_scope, begin_reference, end_fault}
-use Rattle.eo_run.specs.Step.{is_in_reference, is_free_fact, truth_of, asserted_truth, evaluated, value, typed_or, typed, type_value, formula, assume, assume_push, assert, by_command, may_be_in_scope, scoped_command, uncounted, step}
+use Rattle.eo_run.specs.Step.{is_in_reference, is_free_fact, truth_of, asserted_truth, evaluated, value, typed, type_value, formula, assume, assume_push, assert, by_command, may_be_in_scope, scoped_command, uncounted, step}
 use Rattle.eo_run.specs.declared.Origin.{Origin}
 
 -- ---- the formulas of a reference file
@@ -156,30 +150,6 @@ module _ (st : State) (t : Tree) where
   pub type-ok : (v k : Tree) → evaluated st t ≡ Ok v → typed st v ≡ Ok k → tree_eq k type_tree ≡ true → type_value st t ≡ Ok v
   unfolding type_value ◌>>=◌ require
   type-ok v k e h b = ap (λ m. m >>= λ v. type_by v (typed st v)) e ∙ ap (type_by v) h ∙ ap (type_if v) b
-
-module _ (st : State) (v : Tree) where
-  abbrev by_type : TypeOutcome Tree → Checked Tree
-  by_type o = typed_or (on_typed o (λ u. typed_if (is_value u) u))
-
-  pub typed-none : type_of st.signature v ≡ Untyped → typed st v ≡ Err IllTyped
-  unfolding typed
-  typed-none e = ap by_type e
-
-  pub typed-range : type_of st.signature v ≡ TypeRange → typed st v ≡ Err NumberRange
-  unfolding typed
-  typed-range e = ap by_type e
-
-  pub typed-tall : type_of st.signature v ≡ TypeTall → typed st v ≡ Err TermHeight
-  unfolding typed
-  typed-tall e = ap by_type e
-
-  pub typed-open : (u : Tree) → type_of st.signature v ≡ Typed u → is_value u ≡ false → typed st v ≡ Err IllTyped
-  unfolding typed
-  typed-open u e h = ap by_type e ∙ ap (λ b. typed_or (if b then Typed u else Untyped)) h
-
-  pub typed-ok : (u : Tree) → type_of st.signature v ≡ Typed u → is_value u ≡ true → typed st v ≡ Ok u
-  unfolding typed
-  typed-ok u e h = ap by_type e ∙ ap (λ b. typed_or (if b then Typed u else Untyped)) h
 
 -- where there are no local names
 pub no_locals : (st : State) (s : Sexp) (ts : List Tree) (ls : List LocalName) → ls ≡ [] → (m : Checked Tree) → meaning (context st) (read_locals ts ls) s ≡ m → meaning (context st) [] s ≡ m
@@ -314,17 +284,7 @@ refuses_elab m elab.Parameters h = (h, λ q. absurd cc)
 refuses_elab m elab.BadPattern h = (h, λ q. absurd cc)
 refuses_elab m (elab.Memory e) h = (tt, tt)
 
--- want of memory to evaluate a term
-pub refuses_eval : {B : Type 0} (m : Checked B) (x : EvalRefused) → Refuses m (of_eval x)
-refuses_eval m (eval.Memory e) = (tt, tt)
-
--- a fact is not refused where its name is free
-pub refuses_added : {B : Type 0} (m : Checked B) (x : FactRefused) (old new : Scopes) (name : List ℕ) (t : Tree) → is_live old name ≡ false → Added (Err x) old name t new → Refuses m (of_fact x)
-refuses_added m fact.Redeclared old new name t free h = absurd (true≢false (sym h ∙ free))
-refuses_added m fact.ScopeDepth old new name t free h = absurd h
-refuses_added m (fact.Memory e) old new name t free h = (tt, tt)
-
--- nor is a scope where there are few
+-- a scope is not refused where there are few, and its name is free
 pub refuses_pushed : {B : Type 0} (m : Checked B) (x : FactRefused) (old new : Scopes) (name : List ℕ) (t : Tree) → depth old < scope_limit → is_live old name ≡ false → Pushed (Err x) old name t new → Refuses m (of_fact x)
 refuses_pushed m fact.Redeclared old new name t few free h = absurd (true≢false (sym h.1 ∙ free))
 refuses_pushed m fact.ScopeDepth old new name t few free h = absurd (omega (arith, few, h))
@@ -377,15 +337,3 @@ module _ (st : State) where
     pub end-correct : st.has_reference ≡ true → has_false st.scopes ≡ true → end_fault st ≡ None
     unfolding end_fault
     end-correct e f = (λ i. by_end (o i) (e i) (f i))
-
--- a type that is not found
-pub refuses_type : (st : State) (v : Tree) (t : Terms) (x : TypeRefused) → Answers t (Err x) (type_of st.signature v) → Refuses (typed st v) (of_type x)
-refuses_type st v t kind.NumberRange h = (typed-range st v h, λ q. absurd cc)
-refuses_type st v t kind.Tall h = (typed-tall st v h, λ q. absurd cc)
-refuses_type st v t (kind.Memory e) h = (tt, tt)
-
-pub outcome-none : (t : Terms) (o : Option ℕ) (m : TypeOutcome Tree) → o ≡ None → Answers t (Ok o) m → m ≡ Untyped
-outcome-none t o m e h = subst (λ (x : Option ℕ). Answers t (Ok x) m) e h
-
-pub outcome-some : (t : Terms) (o : Option ℕ) (m : TypeOutcome Tree) (u : ℕ) → o ≡ Some u → Answers t (Ok o) m → m ≡ Typed (tree_at t.trees u)
-outcome-some t o m u e h = (subst (λ (x : Option ℕ). Answers t (Ok x) m) e h).typed

@@ -1,6 +1,6 @@
 -- What a rule is used on: terms that are there and are values.
 use Rattle.std.proofs.Common.{◌≡◌, refl, ℕ, zero, suc, ◌<◌, ◌≤◌, Bool, true, false, List, [], ◌∷◌, ◌++◌, length, map, All, Option, None, Some, option_map, sym, ap, subst, ◌∙◌, arith, cond}
-use Rattle.std.specs.Prelude.{Result, Ok, ◌&&◌, find, slice_get, option_to_list, bytes_eq}
+use Rattle.std.specs.Prelude.{Result, Ok, Err, IfOk, ◌&&◌, find, slice_get, option_to_list, bytes_eq}
 use Rattle.std.specs.List.{list_all}
 use Rattle.std.proofs.lemmas.Grind.{common_steps}
 use Rattle.std.proofs.lemmas.List.Folds.{list_all-append}
@@ -9,9 +9,11 @@ use Rattle.std.proofs.lemmas.Option.{none-some, same_Some}
 use Rattle.eo_base.proofs.Elements.{ids_more, push_below, push_same, map_same}
 use Rattle.eo_eval.specs.Outcomes.{IsValueOf}
 use Rattle.eo_proof.specs.Scopes.{Fact, Scope, Scopes, fact_named, formula_named, innermost_hypothesis, live_facts}
+use Rattle.eo_rule.specs.Answers.{AnswersOnly}
 use Rattle.eo_rule.specs.Reading.{UseBelow, read_use}
 use Rattle.eo_rule.specs.Uses.{Use}
 use Rattle.eo_rule.specs.declared.RuleUse.{RuleUse}
+use Rattle.eo_rule.specs.declared.refused.RuleRefused.{RuleRefused}
 use Rattle.eo_sig.specs.Reading.{SomeBelow}
 use Rattle.eo_term.specs.Growth.{tree_in, trees_in, Grows}
 use Rattle.eo_term.specs.Terms.{Terms, Since, tree_at}
@@ -143,3 +145,8 @@ concluded-same h r m n e g = subst (λ (k : Checked Concluded). GivesConcluded h
 -- a name that is free outside the innermost scope is free once that is closed
 pub free_outside : (st : State) (name : List ℕ) → is_free_outer_fact st name ≡ true → is_free_fact (without_scope st) name ≡ true
 free_outside st name e = e
+
+-- the only formula that a rule concludes is a value
+pub only_value : (t : Terms) (r : Result ℕ RuleRefused) (Is : Tree → Type 0) → AnswersOnly t r Is → IfOk r (IsValueOf t)
+only_value t (Ok i) Is h = h.value
+only_value t (Err e) Is h = tt

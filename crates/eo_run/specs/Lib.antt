@@ -14,3 +14,6 @@ pub mod Held
 pub mod Beginning
 pub mod StateCode
 pub mod Using
+pub mod Layers
+pub mod Refutation
+pub mod Soundness

@@ -1,7 +1,7 @@
 -- What each command does: the state after it, or its first fault.
 use Rattle.std.specs.Prelude.{ℕ, Bool, true, false, not, ◌&&◌, ◌||◌, nat_eq, nat_lt, if◌then◌else◌, List, [], ◌∷◌, length, Option, Some, None, slice_get, option_and_then, Ok, Err, bytes_eq, codes}
 use Rattle.std.specs.Option.{option_map_or}
-use Rattle.eo_base.specs.declared.FaultName.TheVariants.{Redeclared, ProofDeclares, IllTyped, NumberRange, TermHeight, UnknownSymbol, UnknownRule, UnknownPremise, NotBool, NotAsserted, NoReference, InScope, NoScope, ScopeDepth}
+use Rattle.eo_base.specs.declared.FaultName.TheVariants.{Redeclared, ProofDeclares, IllTyped, UnknownSymbol, UnknownRule, UnknownPremise, NotBool, NotAsserted, NoReference, InScope, NoScope, ScopeDepth}
 use Rattle.eo_base.specs.Checks.{Checked, Passed, ◌>>=◌, require, no_fault, value_or}
 use Rattle.eo_sexp.specs.Sexp.{Sexp}
 use Rattle.eo_lit.specs.declared.LiteralClass.{LiteralClass}
@@ -9,13 +9,13 @@ use Rattle.eo_sig.specs.Signature.{IsConstant, IsProgram, IsRule, IsLiteralType,
 use Rattle.eo_shape.specs.Words.{symbol_of}
 use Rattle.eo_shape.specs.Shapes.{ParameterShape, AttributeShape, ProgramShape, RuleShape, StepShape, Command, DeclareConst, DeclareFun, DeclareSort, DeclareParameterized, DeclareLiterals, Define, DefineProgram, DeclareRule, Assume, AssumePush, Step, StepPop, Assert, command_of}
 use Rattle.eo_term.specs.Tree.{Tree, type_tree, bool_tree, truth, tree_eq}
-use Rattle.eo_type.specs.Types.{TypeOutcome, Typed, Untyped, TypeRange, TypeTall, value_type}
 use Rattle.eo_eval.specs.Evaluation.{eval0}
 use Rattle.eo_eval.specs.Faults.{value_or_fault}
 use Rattle.eo_elab.specs.Meaning.{meaning}
 use Rattle.eo_elab.specs.Declarations.{is_reference_name, declared_const, declared_fun, declared_sort, declared_parameterized, declared_literals, defined, declared_program, declared_rule}
 use Rattle.eo_proof.specs.Scopes.{depth, scope_limit, is_live, is_free_outside, fact_named, innermost_hypothesis}
 use Rattle.eo_rule.specs.Uses.{Use, conclusion}
+use Rattle.eo_rule.specs.Uses as rule
 use Rattle.eo_run.specs.State.{State, context, with_entry, with_macro, with_assertion, with_fact, with_scope, without_scope, with_command, is_asserted, is_in_scope}
 use Rattle.eo_run.specs.declared.Origin.{Origin}
 use Rattle.eo_run.specs.declared.Origin.TheVariants as origin
@@ -42,15 +42,9 @@ value st s = do
   t ← meaning (context st) [] s
   evaluated st t
 
-abbrev pub typed_or : TypeOutcome Tree → Checked Tree
-typed_or (Typed t) = Ok t
-typed_or Untyped = Err IllTyped
-typed_or TypeRange = Err NumberRange
-typed_or TypeTall = Err TermHeight
-
 -- the type of a value, which is a value
-unfoldable pub typed : State → Tree → Checked Tree
-typed st v = typed_or (value_type st.signature v)
+abbrev pub typed : State → Tree → Checked Tree
+typed st v = rule.typed st.signature v
 
 -- the values of terms in order
 unfoldable pub values : State → List Sexp → Checked (List Tree)

@@ -10,16 +10,8 @@ use Rattle.eo_sig.specs.declared.refused.SigRefused.{SigRefused}
 use Rattle.eo_sig.specs.declared.refused.SigRefused.TheVariants as sig
 use Rattle.eo_proof.specs.declared.facts.FactRefused.{FactRefused}
 use Rattle.eo_proof.specs.declared.facts.FactRefused.TheVariants as fact
-use Rattle.eo_type.specs.declared.refused.TypeRefused.{TypeRefused}
-use Rattle.eo_type.specs.declared.refused.TypeRefused.TheVariants as kind
-use Rattle.eo_eval.specs.declared.evaluator.EvalRefused.{EvalRefused}
-use Rattle.eo_eval.specs.declared.evaluator.EvalRefused.TheVariants as eval
-use Rattle.eo_eval.specs.declared.evaluator.Outcome as code_outcome
 use Rattle.eo_rule.specs.declared.refused.RuleRefused.{RuleRefused}
 use Rattle.eo_rule.specs.declared.refused.RuleRefused.TheVariants as rule
-use Rattle.eo_eval.specs.Faults.{value_or_fault}
-use Rattle.eo_eval.specs.Outcomes.{MayBeValue}
-use Rattle.eo_eval.specs.Reading.{outcome_in}
 use Rattle.eo_term.specs.Growth.{tree_in}
 use Rattle.eo_term.specs.Tree.{Tree, Con, tree_eq}
 use Rattle.eo_run.specs.State.{State}
@@ -54,23 +46,13 @@ of_sig sig.BadPattern = refused.Fault fault.BadPattern
 of_sig sig.UnboundParam = refused.Fault fault.UnboundParam
 of_sig (sig.Memory e) = refused.Memory e
 
--- the refusal of a type
-abbrev pub of_type : TypeRefused → Refused
-of_type kind.NumberRange = refused.Fault fault.NumberRange
-of_type kind.Tall = refused.Fault fault.TermHeight
-of_type (kind.Memory e) = refused.Memory e
-
--- want of memory to evaluate a term
-abbrev pub of_eval : EvalRefused → Refused
-of_eval (eval.Memory e) = refused.Memory e
-
 -- the refusal of a fact or a scope
 abbrev pub of_fact : FactRefused → Refused
 of_fact fact.Redeclared = refused.Fault fault.Redeclared
 of_fact fact.ScopeDepth = refused.Fault fault.ScopeDepth
 of_fact (fact.Memory e) = refused.Memory e
 
--- the refusal of a use of a rule
+-- the refusal of a use of a rule, or of a value or a type
 abbrev pub of_rule : RuleRefused → Refused
 of_rule (rule.Fault name) = refused.Fault name
 of_rule (rule.Memory e) = refused.Memory e
@@ -95,10 +77,6 @@ Refuses m e = Tells told e m × IsOfCommand e
 abbrev pub GivesTerm : Held → Result ℕ Refused → Checked Tree → Type 0
 GivesTerm h (Ok i) m = IsGiven (λ (i : ℕ). i < length h.table.trees) (tree_in h.table) m i
 GivesTerm h (Err e) m = Refuses m e
-
--- the value with which an evaluation ended, or the fault that it ended with none
-abbrev pub GivesValue : code_outcome.Outcome → Result ℕ Refused → Type 0
-GivesValue o r = (h : Held) → MayBeValue h.table o → GivesTerm h r (value_or_fault (outcome_in h.table.trees o))
 
 -- a type was found, and whether it is the constant of this number
 abbrev pub GivesKind : ℕ → Result Bool Refused → Checked Tree → Type 0

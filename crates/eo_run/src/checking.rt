@@ -3,10 +3,12 @@ ghost use Rattle.std.specs.Prelude.{◌≡◌, ◌≢◌, ◌<◌, ◌≤◌, �
 ghost use Rattle.std.specs.Prelude.{Ok, unwrap_or, IsSome, IfOk, IfErr, OnOk, length};
 ghost use Rattle.eo_run.specs.Answer.{AnswerHasCause, FileInRange};
 ghost use Rattle.eo_run.specs.Reading.{LibraryStays};
+ghost use Rattle.eo_run.specs.Refutation.{CorrectRefutes};
 ghost use Rattle.eo_run.specs.Judging.{stop_verdict, IsPlainJob, IsCheckAnswer, RunsPath, IsPathAnswer, AnswersFiles, AnswersProof};
 ghost use Rattle.eo_run.specs.State.{first_state, begin_reference};
 ghost use Rattle.eo_run.specs.Stepping.{IsMemory};
 
+use crate::laws::soundness_law;
 use crate::reading::{Stop, check_file};
 use crate::{CheckJob, EndAnswer, Origin, Refused, Session, Verdict};
 use eo_base::{Fault, Place};
@@ -31,7 +33,8 @@ const PIECE: usize = 65_536;
 /// - `Refused` behind the last byte of the proof, with `ScopeOpen`: a scope is open, or
 ///   `NoRefutation`: `false` is no fact.
 /// - `Incomplete`: none of these, but a step used a rule that is marked as unproved.
-/// - `Correct`: none of these.
+/// - `Correct`: none of these. Then `false` is derivable from what the reference file asserts, by the
+///   rules of the proof's signature.
 /// - `ReadFault`: a call of the library failed.
 /// - `OutOfMemory`: there was no memory left.
 ///
@@ -47,11 +50,13 @@ pub fn check_files<L: Library>(
     requires no_paths { paths.old ≡ [] }
     requires none_open { L.open_files files.old ≡ [] }
     ensures verdict { AnswersFiles (L.told files.old) (unwrap_or job.now.reference []) job.now.proof paths.new result }
+    ensures sound { CorrectRefutes (L.told files.old) (unwrap_or job.now.reference []) job.now.proof result }
     ensures cause { AnswerHasCause result (L.told files.old) (L.faults files.old) (L.faults files.new) }
     ensures kind { IsCheckAnswer paths.new result }
     ensures place { FileInRange paths.new result }
     ensures stays { LibraryStays L.told L.open_files L.faults files.old files.new }
 {
+    soundness_law();
     match &job.reference {
         None => unreachable!(),
         Some(reference) => {

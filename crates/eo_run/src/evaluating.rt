@@ -1,17 +1,19 @@
-//! The values of terms.
+//! The values and the types of terms.
 ghost use Rattle.std.specs.Prelude.{◌<◌, length, IfOk};
-ghost use Rattle.eo_eval.specs.Outcomes.{GivesOutcome, outcome_of, IsValueOf, MayBeValue};
+ghost use Rattle.eo_eval.specs.Faults.{value_or_fault};
+ghost use Rattle.eo_eval.specs.Outcomes.{outcome_of, IsValueOf};
+ghost use Rattle.eo_rule.specs.Answers.{GivesTerm as GivesFound};
 ghost use Rattle.eo_term.specs.Growth.{tree_in};
-ghost use Rattle.eo_term.specs.Terms.{Terms};
 ghost use Rattle.eo_run.specs.Held.{state_of, IsWhole, Keeps};
-ghost use Rattle.eo_run.specs.Step.{evaluated, type_value};
-ghost use Rattle.eo_run.specs.Stepping.{GivesTerm, GivesValue};
+ghost use Rattle.eo_run.specs.Step.{evaluated, typed, type_value};
+ghost use Rattle.eo_run.specs.Stepping.{GivesKind, GivesTerm};
 
 use crate::Refused;
 use crate::held::{Held, TYPE_CONSTANT};
 use eo_base::FaultName;
-use eo_eval::{EvalRefused, Outcome};
+use eo_rule::{RuleRefused, value_of, value_type};
 use eo_term::Id;
+use eo_type::is_constant;
 
 impl Held {
     /// The value of a term. Where it has none, the fault says how its evaluation ends.
@@ -22,8 +24,8 @@ impl Held {
         ensures value { IfOk result (IsValueOf self.new.table) }
         ensures keeps { Keeps self.old self.new }
     {
-        let outcome = self.outcome(id)?;
-        value_or_fault(outcome)
+        let value = self.value_of(id)?;
+        Ok(value)
     }
 
     /// The value of a type, which is `IllTyped` where the type of the value is not `Type`.
@@ -41,32 +43,46 @@ impl Held {
         Ok(value)
     }
 
-    // How the evaluation of a term ends.
-    fn outcome(&mut self, id: Id) -> Result<Outcome, EvalRefused>
+    /// Whether the type of a value is the constant of this number. It is refused where the value
+    /// has no type that is a value.
+    pub(crate) fn has_kind(&mut self, id: Id, number: usize) -> Result<bool, Refused>
         requires whole { IsWhole self.old }
         requires live { id < length self.old.table.trees }
-        ensures gives { GivesOutcome self.new.table result (outcome_of self.old.signature self.old.table id) }
+        ensures gives { GivesKind number result (typed (state_of self.old) (tree_in self.old.table id)) }
         ensures keeps { Keeps self.old self.new }
     {
-        let outcome = self
-            .evaluator
-            .evaluate(&self.signature, &mut self.table, &mut self.types, id);
-        self.types.laws();
-        outcome
+        let ty = self.type_of(id)?;
+        Ok(is_constant(&self.table, ty, number))
     }
-}
 
-/// The value with which an evaluation ended, or the fault that says how it ended with none.
-fn value_or_fault(outcome: Outcome) -> Result<Id, Refused>
-    ensures gives { GivesValue outcome result }
-    ensures value { (t : Terms) → MayBeValue t outcome → IfOk result (IsValueOf t) }
-{
-    match outcome {
-        Outcome::Value(value) => Ok(value),
-        Outcome::Stuck => Err(Refused::Fault(FaultName::Stuck)),
-        Outcome::Deep => Err(Refused::Fault(FaultName::EvalDepth)),
-        Outcome::Calls => Err(Refused::Fault(FaultName::EvalCalls)),
-        Outcome::Range => Err(Refused::Fault(FaultName::NumberRange)),
-        Outcome::Tall => Err(Refused::Fault(FaultName::TermHeight)),
+    // The type of a value.
+    fn type_of(&mut self, id: Id) -> Result<Id, RuleRefused>
+        requires whole { IsWhole self.old }
+        requires live { id < length self.old.table.trees }
+        ensures gives { GivesFound self.new.table result (typed (state_of self.old) (tree_in self.old.table id)) }
+        ensures keeps { Keeps self.old self.new }
+    {
+        let ty = value_type(&self.signature, &mut self.table, &mut self.types, id);
+        self.types.laws();
+        ty
+    }
+
+    // The value of a term.
+    fn value_of(&mut self, id: Id) -> Result<Id, RuleRefused>
+        requires whole { IsWhole self.old }
+        requires live { id < length self.old.table.trees }
+        ensures gives { GivesFound self.new.table result (value_or_fault (outcome_of self.old.signature self.old.table id)) }
+        ensures value { IfOk result (IsValueOf self.new.table) }
+        ensures keeps { Keeps self.old self.new }
+    {
+        let value = value_of(
+            &self.signature,
+            &mut self.table,
+            &mut self.types,
+            &mut self.evaluator,
+            id,
+        );
+        self.types.laws();
+        value
     }
 }

@@ -3,14 +3,12 @@ ghost use Rattle.std.specs.Prelude.{◌≡◌, ◌<◌, [], false, Ok, not, if�
 ghost use Rattle.eo_term.specs.Tree.{truth as tree_of_truth};
 ghost use Rattle.eo_term.specs.Growth.{tree_in};
 ghost use Rattle.eo_elab.specs.Meaning.{meaning};
-ghost use Rattle.eo_type.specs.Known.{type_at};
-ghost use Rattle.eo_type.specs.Outcomes.{Answers};
 ghost use Rattle.eo_eval.specs.Outcomes.{IsValueOf};
 ghost use Rattle.eo_proof.specs.Scopes as proof;
 ghost use Rattle.eo_run.specs.Held.{state_of, IsWhole, Keeps};
 ghost use Rattle.eo_run.specs.State.{context, is_asserted, is_in_scope, with_assertion, with_fact};
-ghost use Rattle.eo_run.specs.Step.{is_free_fact, value, typed, formula, assume as assumed, assert as asserted, asserted_truth};
-ghost use Rattle.eo_run.specs.Stepping.{GivesTerm, GivesKind, Does};
+ghost use Rattle.eo_run.specs.Step.{is_free_fact, value, formula, assume as assumed, assert as asserted, asserted_truth};
+ghost use Rattle.eo_run.specs.Stepping.{GivesTerm, Does};
 
 use crate::Refused;
 use crate::assertions::Assertions;
@@ -24,7 +22,7 @@ use eo_sexp::Sexp;
 use eo_shape::symbol;
 use eo_sig::{Signature, is_reserved};
 use eo_term::{FALSE, Id, TRUE, Table};
-use eo_type::{TypeRefused, Types, is_constant};
+use eo_type::Types;
 use std::alloc::Global;
 
 /// The number of the constant `Type`.
@@ -88,7 +86,8 @@ impl Held {
         ensures whole { IsWhole self.new }
         ensures does { Does result (Ok (with_fact (state_of self.old) name.now (tree_in self.old.table formula))) self.new }
     {
-        self.facts.add(name, formula)?;
+        self.facts.laws();
+        self.facts.add_new(name, formula)?;
         Ok(())
     }
 
@@ -168,35 +167,6 @@ impl Held {
             return Err(Refused::Fault(FaultName::NotBool));
         }
         Ok(value)
-    }
-
-    /// Whether the type of a value is the constant of this number. It is refused where the value
-    /// has no type that is a value.
-    pub(crate) fn has_kind(&mut self, id: Id, number: usize) -> Result<bool, Refused>
-        requires whole { IsWhole self.old }
-        requires live { id < length self.old.table.trees }
-        ensures gives { GivesKind number result (typed (state_of self.old) (tree_in self.old.table id)) }
-        ensures keeps { Keeps self.old self.new }
-    {
-        let Some(ty) = self.type_of(id)? else {
-            return Err(Refused::Fault(FaultName::IllTyped));
-        };
-        if !self.table.is_value(ty) {
-            return Err(Refused::Fault(FaultName::IllTyped));
-        }
-        Ok(is_constant(&self.table, ty, number))
-    }
-
-    // The type of a term, if it has one.
-    fn type_of(&mut self, id: Id) -> Result<Option<Id>, TypeRefused>
-        requires whole { IsWhole self.old }
-        requires live { id < length self.old.table.trees }
-        ensures answers { Answers self.new.table result (type_at self.old.signature self.old.table id) }
-        ensures keeps { Keeps self.old self.new }
-    {
-        let ty = self.types.type_of(&self.signature, &mut self.table, id);
-        self.types.laws();
-        ty
     }
 
     /// The value of what a term means.

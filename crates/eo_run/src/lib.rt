@@ -11,6 +11,7 @@ mod checking;
 mod declaring;
 mod evaluating;
 mod held;
+mod laws;
 mod marks;
 mod premises;
 mod printing;
@@ -23,6 +24,7 @@ mod steps;
 
 pub use checking::check_files;
 use eo_base::{Fault, Text};
+pub use laws::soundness_law;
 pub use printing::{print_line, print_verdict};
 pub use refused::Refused;
 pub use session::{EndAnswer, Session};

@@ -1,12 +1,10 @@
 //! Why a command is not accepted.
 use eo_base::FaultName;
 use eo_elab::ElabRefused;
-use eo_eval::EvalRefused;
 use eo_proof::FactRefused;
 use eo_rule::RuleRefused;
 use eo_shape::ShapeRefused;
 use eo_sig::SigRefused;
-use eo_type::TypeRefused;
 use std::alloc::AllocError;
 
 /// Why a command is not accepted.
@@ -94,19 +92,6 @@ impl From<SigRefused> for Refused {
     }
 }
 
-impl From<EvalRefused> for Refused {
-    ghost use Rattle.std.specs.Prelude.{◌≡◌};
-    ghost use Rattle.eo_run.specs.Stepping.{of_eval};
-
-    ghost from_gives = { λ e r. r ≡ of_eval e };
-
-    fn from(e: EvalRefused) -> Refused {
-        match e {
-            EvalRefused::Memory(e) => Refused::Memory(e),
-        }
-    }
-}
-
 impl From<FactRefused> for Refused {
     ghost use Rattle.std.specs.Prelude.{◌≡◌};
     ghost use Rattle.eo_run.specs.Stepping.{of_fact};
@@ -118,21 +103,6 @@ impl From<FactRefused> for Refused {
             FactRefused::Redeclared => Refused::Fault(FaultName::Redeclared),
             FactRefused::ScopeDepth => Refused::Fault(FaultName::ScopeDepth),
             FactRefused::Memory(e) => Refused::Memory(e),
-        }
-    }
-}
-
-impl From<TypeRefused> for Refused {
-    ghost use Rattle.std.specs.Prelude.{◌≡◌};
-    ghost use Rattle.eo_run.specs.Stepping.{of_type};
-
-    ghost from_gives = { λ e r. r ≡ of_type e };
-
-    fn from(e: TypeRefused) -> Refused {
-        match e {
-            TypeRefused::NumberRange => Refused::Fault(FaultName::NumberRange),
-            TypeRefused::Tall => Refused::Fault(FaultName::TermHeight),
-            TypeRefused::Memory(e) => Refused::Memory(e),
         }
     }
 }

@@ -1,5 +1,5 @@
 //! S-expressions that borrow from the bytes of a command and a flat list of its parts.
-ghost use Rattle.std.specs.Prelude.{◌≡◌, ◌<◌, ◌≤◌, ◌∷◌, ℕ, length, drop, take};
+ghost use Rattle.std.specs.Prelude.{◌≡◌, ◌<◌, ◌≤◌, ◌∷◌, [], ℕ, length, drop, take};
 ghost use Rattle.eo_sexp.specs.Sexp.{sexp_text, sexp_children, sexp_span};
 ghost use Rattle.eo_sexp.specs.Kinds.{sexp_kind};
 ghost use Rattle.eo_sexp.specs.Pairs.{list_of};
@@ -182,6 +182,19 @@ fn behind_first<'b>(bytes: &[u8], nodes: &'b [Node]) -> &'b [Node]
         Some((Node::List { inside, .. }, rest)) => &rest[*inside as usize..],
         Some((_, rest)) => rest,
         None => nodes,
+    }
+}
+
+impl<'b> Children<'b> {
+    /// No part, as of an empty list.
+    pub fn empty() -> Children<'b>
+        ensures { result ≡ [] }
+    {
+        Children {
+            bytes: &[],
+            nodes: &[],
+            left: 0,
+        }
     }
 }
 

@@ -2,5 +2,4 @@ pub mod Every
 pub mod Places
 pub mod Texts
 pub mod ByWord
-pub mod Parts
 pub mod Behind

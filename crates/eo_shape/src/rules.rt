@@ -1,5 +1,5 @@
 //! The shape of a rule.
-ghost use Rattle.std.specs.Prelude.{◌≡◌, [], codes, option_map};
+ghost use Rattle.std.specs.Prelude.{◌≡◌, codes, option_map};
 ghost use Rattle.eo_shape.specs.Reading.{read_command, read_premises, read_rule};
 ghost use Rattle.eo_shape.specs.Rules.{read_premises_and};
 ghost use Rattle.eo_shape.specs.Shapes as shapes;
@@ -7,7 +7,7 @@ ghost use Rattle.eo_shape.specs.Shapes.{list_of};
 
 use crate::parameters::parameters;
 use crate::sequences::{no_pairs, pairs};
-use crate::words::{is_keyword, no_parts, symbol};
+use crate::words::{is_keyword, symbol};
 use crate::{Command, PairShapes, ParameterShapes, PremisesShape, RuleShape};
 use eo_sexp::{Children, Sexp};
 
@@ -15,8 +15,7 @@ pub(crate) fn declare_rule<'b>(parts: &Children<'b>) -> Option<Command<'b>>
     ensures { option_map read_command result ≡ shapes.declare_rule parts.now }
 {
     let (name, params, rest) = parts.split_two()?;
-    let none = no_parts(&name);
-    let rule = rule_of(symbol(&name)?, parameters(&params)?, &rest, &none)?;
+    let rule = rule_of(symbol(&name)?, parameters(&params)?, &rest)?;
     Some(Command::DeclareRule(rule))
 }
 
@@ -25,14 +24,12 @@ fn rule_of<'b>(
     name: &'b [u8],
     params: ParameterShapes<'b>,
     parts: &Children<'b>,
-    none: &Children<'b>,
 ) -> Option<RuleShape<'b>>
-    requires { none.now ≡ [] }
     ensures { option_map read_rule result ≡ shapes.rule_of name.now params.entry parts.now }
 {
     let (assumption, rest) = optional(parts, b":assumption");
-    let (premises, rest) = premises(&rest, none)?;
-    rule_with(name, params, assumption, premises, &rest, none)
+    let (premises, rest) = premises(&rest)?;
+    rule_with(name, params, assumption, premises, &rest)
 }
 
 /// The rule with these parts, by what follows its premises.
@@ -42,14 +39,12 @@ fn rule_with<'b>(
     assumption: Option<Sexp<'b>>,
     premises: PremisesShape<'b>,
     parts: &Children<'b>,
-    none: &Children<'b>,
 ) -> Option<RuleShape<'b>>
-    requires { none.now ≡ [] }
     ensures { option_map read_rule result ≡
         shapes.rule_with name.now params.entry assumption.entry (read_premises premises.entry) parts.now }
 {
-    let (args, rest) = terms_behind(b":args", parts, none)?;
-    let (requirements, rest) = pairs_behind(b":requires", &rest, none)?;
+    let (args, rest) = terms_behind(b":args", parts)?;
+    let (requirements, rest) = pairs_behind(b":requires", &rest)?;
     let (conclusion, sorry) = conclusion(&rest)?;
     Some(RuleShape {
         name,
@@ -77,52 +72,38 @@ fn optional<'b>(parts: &Children<'b>, word: &[u8]) -> (Option<Sexp<'b>>, Childre
 }
 
 /// The terms that are listed behind this keyword, where it comes first, or none; and what follows.
-fn terms_behind<'b>(
-    word: &[u8],
-    parts: &Children<'b>,
-    none: &Children<'b>,
-) -> Option<(Children<'b>, Children<'b>)>
-    requires { none.now ≡ [] }
+fn terms_behind<'b>(word: &[u8], parts: &Children<'b>) -> Option<(Children<'b>, Children<'b>)>
     ensures { result ≡ shapes.optional_list list_of word.now parts.now }
 {
     let Some((keyword, list, rest)) = parts.split_two() else {
-        return Some((none.again(), parts.again()));
+        return Some((Children::empty(), parts.again()));
     };
     if !is_keyword(&keyword, word) {
-        return Some((none.again(), parts.again()));
+        return Some((Children::empty(), parts.again()));
     }
     Some((list.list()?, rest))
 }
 
 /// The pairs that are listed behind this keyword, where it comes first, or none; and what follows.
-fn pairs_behind<'b>(
-    word: &[u8],
-    parts: &Children<'b>,
-    none: &Children<'b>,
-) -> Option<(PairShapes<'b>, Children<'b>)>
-    requires { none.now ≡ [] }
+fn pairs_behind<'b>(word: &[u8], parts: &Children<'b>) -> Option<(PairShapes<'b>, Children<'b>)>
     ensures { result ≡ shapes.optional_list shapes.pairs_of word.now parts.now }
 {
     let Some((keyword, list, rest)) = parts.split_two() else {
-        return Some((no_pairs(none), parts.again()));
+        return Some((no_pairs(), parts.again()));
     };
     if !is_keyword(&keyword, word) {
-        return Some((no_pairs(none), parts.again()));
+        return Some((no_pairs(), parts.again()));
     }
     Some((pairs(&list)?, rest))
 }
 
 /// What the premises are matched with: `:premises` with a list of patterns, `:premise-list` with a
 /// pattern and what joins them, or nothing; and what follows, of which there is something.
-fn premises<'b>(
-    parts: &Children<'b>,
-    none: &Children<'b>,
-) -> Option<(PremisesShape<'b>, Children<'b>)>
-    requires { none.now ≡ [] }
+fn premises<'b>(parts: &Children<'b>) -> Option<(PremisesShape<'b>, Children<'b>)>
     ensures { option_map read_premises_and result ≡ shapes.premises_of parts.now }
 {
     let Some((keyword, patterns, joiner, rest)) = parts.split_three() else {
-        return Some((PremisesShape::Each(none.again()), parts.again()));
+        return Some((PremisesShape::Each(Children::empty()), parts.again()));
     };
     if is_keyword(&keyword, b":premise-list") {
         return Some((
@@ -137,7 +118,7 @@ fn premises<'b>(
         let (_, _, rest) = parts.split_two()?;
         return Some((PremisesShape::Each(patterns.list()?), rest));
     }
-    Some((PremisesShape::Each(none.again()), parts.again()))
+    Some((PremisesShape::Each(Children::empty()), parts.again()))
 }
 
 /// The term behind `:conclusion`, and whether `:sorry` follows.

@@ -72,12 +72,11 @@ pub(crate) fn symbols_in<'b>(s: &Sexp<'b>) -> Option<Symbols<'b>>
 }
 
 /// No symbols.
-pub(crate) fn no_symbols<'b>(none: &Children<'b>) -> Symbols<'b>
-    requires { none.now ≡ [] }
+pub(crate) fn no_symbols<'b>() -> Symbols<'b>
     ensures { result ≡ [] }
 {
     Symbols {
-        items: none.again(),
+        items: Children::empty(),
     }
 }
 
@@ -154,12 +153,11 @@ pub(crate) fn pairs<'b>(s: &Sexp<'b>) -> Option<PairShapes<'b>>
 }
 
 /// No pairs.
-pub(crate) fn no_pairs<'b>(none: &Children<'b>) -> PairShapes<'b>
-    requires { none.now ≡ [] }
+pub(crate) fn no_pairs<'b>() -> PairShapes<'b>
     ensures { result ≡ [] }
 {
     PairShapes {
-        items: none.again(),
+        items: Children::empty(),
     }
 }
 

@@ -1,10 +1,10 @@
 //! The shape of a step.
-ghost use Rattle.std.specs.Prelude.{◌≡◌, [], option_map};
+ghost use Rattle.std.specs.Prelude.{◌≡◌, option_map};
 ghost use Rattle.eo_shape.specs.Reading.{read_command, read_step};
 ghost use Rattle.eo_shape.specs.Shapes as shapes;
 
 use crate::sequences::{no_symbols, symbols_in};
-use crate::words::{is_keyword, no_parts, symbol};
+use crate::words::{is_keyword, symbol};
 use crate::{Command, StepShape, Symbols};
 use eo_sexp::{Children, Sexp};
 
@@ -27,9 +27,8 @@ fn step_of<'b>(parts: &Children<'b>) -> Option<StepShape<'b>>
     ensures { option_map read_step result ≡ shapes.step_of parts.now }
 {
     let (name, rest) = parts.split_first()?;
-    let none = no_parts(&name);
     let (stated, rest) = stated(&rest);
-    step_by_rule(symbol(&name)?, stated, &rest, &none)
+    step_by_rule(symbol(&name)?, stated, &rest)
 }
 
 /// The first part as the formula that is stated, unless it is `:rule`; and what follows.
@@ -51,16 +50,14 @@ fn step_by_rule<'b>(
     name: &'b [u8],
     stated: Option<Sexp<'b>>,
     parts: &Children<'b>,
-    none: &Children<'b>,
 ) -> Option<StepShape<'b>>
-    requires { none.now ≡ [] }
     ensures { option_map read_step result ≡ shapes.step_by_rule name.now stated.entry parts.now }
 {
     let (keyword, rule, rest) = parts.split_two()?;
     if !is_keyword(&keyword, b":rule") {
         return None;
     }
-    step_with(name, stated, symbol(&rule)?, &rest, none)
+    step_with(name, stated, symbol(&rule)?, &rest)
 }
 
 /// The step with these parts, by what follows the name of its rule.
@@ -69,13 +66,11 @@ fn step_with<'b>(
     stated: Option<Sexp<'b>>,
     rule: &'b [u8],
     parts: &Children<'b>,
-    none: &Children<'b>,
 ) -> Option<StepShape<'b>>
-    requires { none.now ≡ [] }
     ensures { option_map read_step result ≡ shapes.step_with name.now stated.entry rule.now parts.now }
 {
-    let (premises, rest) = premises(parts, none)?;
-    let args = arguments(&rest, none)?;
+    let (premises, rest) = premises(parts)?;
+    let args = arguments(&rest)?;
     Some(StepShape {
         name,
         stated,
@@ -86,26 +81,24 @@ fn step_with<'b>(
 }
 
 /// The names that are listed behind `:premises`, where it comes first, or none; and what follows.
-fn premises<'b>(parts: &Children<'b>, none: &Children<'b>) -> Option<(Symbols<'b>, Children<'b>)>
-    requires { none.now ≡ [] }
+fn premises<'b>(parts: &Children<'b>) -> Option<(Symbols<'b>, Children<'b>)>
     ensures { result ≡ shapes.premise_names parts.now }
 {
     let Some((keyword, list, rest)) = parts.split_two() else {
-        return Some((no_symbols(none), parts.again()));
+        return Some((no_symbols(), parts.again()));
     };
     if !is_keyword(&keyword, b":premises") {
-        return Some((no_symbols(none), parts.again()));
+        return Some((no_symbols(), parts.again()));
     }
     Some((symbols_in(&list)?, rest))
 }
 
 /// The terms that are listed behind `:args`, where there is anything, and behind which nothing is.
-fn arguments<'b>(parts: &Children<'b>, none: &Children<'b>) -> Option<Children<'b>>
-    requires { none.now ≡ [] }
+fn arguments<'b>(parts: &Children<'b>) -> Option<Children<'b>>
     ensures { result ≡ shapes.last_arguments parts.now }
 {
     if parts.len() == 0 {
-        return Some(none.again());
+        return Some(Children::empty());
     }
     let (keyword, list) = parts.only_two()?;
     if !is_keyword(&keyword, b":args") {

@@ -1,12 +1,12 @@
 //! Atoms by their kind.
-ghost use Rattle.std.specs.Prelude.{◌≡◌, ℕ, List, [], option_and_then, nat_le, if◌then◌else◌, Some, None};
+ghost use Rattle.std.specs.Prelude.{◌≡◌, option_and_then, nat_le, if◌then◌else◌, Some, None};
 ghost use Rattle.std.specs.Option.{option_copied};
 ghost use Rattle.eo_lit.specs.Literals.{numeral};
 ghost use Rattle.eo_shape.specs.Shapes.{arity_of, class_named, is_keyword};
 ghost use Rattle.eo_shape.specs.Words.{symbol_of, keyword_of, is_some_word};
 
 use eo_lit::{LiteralClass, read_numeral};
-use eo_sexp::{Children, Kind, Sexp};
+use eo_sexp::{Kind, Sexp};
 
 /// The greatest arity of a sort.
 const ARITY: u128 = 64;
@@ -19,14 +19,6 @@ pub fn symbol<'b>(s: &Sexp<'b>) -> Option<&'b [u8]>
         Kind::Symbol => Some(s.text()),
         _ => None,
     }
-}
-
-/// No parts, which a symbol has.
-#[tactic(auto, using(crate::proofs::Parts::symbol_children))]
-pub(crate) fn no_parts<'b>(s: &Sexp<'b>) -> Children<'b>
-    ensures { (name : List ℕ) → symbol_of s.now ≡ Some name → result ≡ [] }
-{
-    s.children()
 }
 
 /// Whether it is this symbol.

@@ -1,5 +1,5 @@
 -- A signature: the kinds of declarations and their parts, looking them up by number or by name, and what a declaration may hold.
-use Rattle.std.specs.Prelude.{◌≡◌, ℕ, suc, Bool, true, false, not, ◌&&◌, ◌||◌, if◌then◌else◌, nat_eq, nat_lt, bytes_eq, codes, List, [], ◌∷◌, ◌++◌, drop, Option, Some, None, is_none, option_map, option_and_then, option_to_list, slice_get, filter_map, position}
+use Rattle.std.specs.Prelude.{◌≡◌, ℕ, suc, Bool, true, false, not, ◌&&◌, ◌||◌, if◌then◌else◌, nat_eq, nat_lt, bytes_eq, codes, List, [], ◌∷◌, ◌++◌, drop, Option, Some, None, is_some, is_none, option_map, option_and_then, option_to_list, slice_get, filter_map, position}
 use Rattle.std.specs.List.{list_all, list_any, starts_with}
 use Rattle.std.specs.Option.{option_or}
 use Rattle.eo_base.specs.declared.FaultName.{FaultName}
@@ -286,7 +286,7 @@ is_solved r = known (rule_patterns r) 0 r.parameters
 
 abbrev pub can_join : Signature → PremiseShape → Bool
 can_join S (Each ps) = true
-can_join S (Joined p f) = not (is_none (terminator S f))
+can_join S (Joined p f) = is_some (terminator S f)
 
 abbrev pub rule_may_hold : Signature → Rule → Bool
 rule_may_hold S r = list_all is_plain (rule_patterns r) && (may_type r.parameters && can_join S r.premises)

@@ -1,5 +1,5 @@
 //! What declared types and terminators may hold.
-ghost use Rattle.std.specs.Prelude.{◌≡◌, ℕ, ◌<◌, List, length, not, is_none, All};
+ghost use Rattle.std.specs.Prelude.{◌≡◌, ℕ, ◌<◌, List, length, is_some, All};
 ghost use Rattle.std.specs.List.{list_any};
 ghost use Rattle.eo_term.specs.Growth.{tree_in};
 ghost use Rattle.eo_term.specs.ParamSet.{has};
@@ -79,7 +79,7 @@ pub(crate) fn implicit_occur(table: &Table, ty: Id, params: &[Param]) -> bool
 
 /// Whether the attribute has a terminator at the right.
 pub(crate) fn ends_at_right(attribute: &Attribute) -> bool
-    ensures { (ts : List Tree) → result ≡ not (is_none (sig.terminator_of (read_attribute ts attribute.now))) }
+    ensures { (ts : List Tree) → result ≡ is_some (sig.terminator_of (read_attribute ts attribute.now)) }
 {
     matches!(attribute, Attribute::RightNil(_))
 }

@@ -147,6 +147,16 @@ impl Table {
         argument(args, i)
     }
 
+    /// The arguments of an operator, and none of any other term. They are older terms.
+    pub fn args(&self, id: Id) -> &[Id]
+        requires { id < length self.now.trees }
+        ensures trees { trees_at self.now.trees result.now ≡ arguments_of (tree_at self.now.trees id) }
+        ensures older { All (λ j. j < id) result.now }
+    {
+        let (_, args) = self.root(id);
+        args
+    }
+
     /// Whether two terms have the same tree.
     pub fn is_same(&self, a: Id, b: Id) -> bool
         requires first { a < length self.now.trees }

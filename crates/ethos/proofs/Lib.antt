@@ -2,3 +2,4 @@ mod WordLemmas
 mod EndLemmas
 mod AbsentLemmas
 mod WordVectors
+mod Refuting

@@ -4,13 +4,13 @@ ghost use Rattle.eo_run.specs.Judging.{IsPlainJob};
 ghost use Rattle.eo_run.specs.Printed.{usage_due};
 ghost use Rattle.ethos.specs.CheckWords.{first_words as read};
 ghost use Rattle.ethos.specs.Ends.{Ends, EndHasCause, UsageFits, AbsentHasCause};
-ghost use Rattle.ethos.specs.FirstProgram.{EndsAs, words_of};
+ghost use Rattle.ethos.specs.FirstProgram.{EndsAs, OkRefutes, words_of};
 ghost use Rattle.ethos.specs.Words.{paths_of};
 
 use crate::words::{FilePaths, read_words};
 use eo_base::{Status, Text};
 use eo_io::{HonestLibrary, Library, Paths, Sink};
-use eo_run::{CheckJob, check_files, print_line, print_verdict};
+use eo_run::{CheckJob, check_files, print_line, print_verdict, soundness_law};
 use std::alloc::{AllocError, Global};
 
 /// The line for words that have no reading.
@@ -26,7 +26,8 @@ const OUT_OF_MEMORY: &[u8] = b"out of memory\n";
 /// The words are `ethos check --reference=F PROOF`, as `read_words` says. Then the two files are
 /// checked, and the line of the verdict is written.
 ///
-/// - `Ok`, `Refused`: exactly as the verdict of the two files.
+/// - `Ok`, `Refused`: exactly as the verdict of the two files. With `Ok`, where `correct` is written,
+///   `false` is derivable from what the reference file asserts, by the rules of the proof's signature.
 /// - `Usage`: exactly where the words have no reading; the usage line is written.
 /// - `ReadFault`: only where the library's count of faults rose; `read fault` is written.
 /// - `WriteFault`: only where the sink's count of faults rose; a front of the line is written.
@@ -41,11 +42,13 @@ pub fn ethos_main<L: Library, W: Sink>(
 ) -> Status
     requires { L.open_files files.old ≡ [] }
     ensures exact { EndsAs (L.told files.old) result (read words.now) (W.written out.old) (W.written out.new) }
+    ensures refutes { OkRefutes (L.told files.old) result (read words.now) }
     ensures own { read words.now ≡ None → Ends result usage_due (W.written out.old) (W.written out.new) }
     ensures cause { EndHasCause result (L.faults files.old) (L.faults files.new) (W.faults out.old) (W.faults out.new) }
     ensures usage { UsageFits result (read words.now) }
     ensures absent { AbsentHasCause (L.told files.old) (W.written out.old) (W.written out.new) (L.faults files.old) (L.faults files.new) }
 {
+    soundness_law();
     match read_words(words) {
         None => print_line(out, Status::Usage, &[USAGE]),
         Some(paths) => check(alloc, paths, files, out),

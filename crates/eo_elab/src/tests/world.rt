@@ -6,14 +6,14 @@ ghost use Rattle.eo_elab.specs.Declaring.{IsCommand, DeclarationBelow};
 ghost use Rattle.eo_names.specs.Names.{AreBelow};
 
 use crate::parameters::parameter;
-use crate::{ElabRefused, Locals, declaration, term};
+use crate::{ElabRefused, Locals, Names, declaration, reference_term, term};
 use eo_sexp::{Collector, Fed, Sexp};
 use eo_shape::{ShapeRefused, command_of};
 use eo_sig::{
     ConstDecl, Declaration, Entry, LiteralClass, MacroDecl, PremiseShape, ProgramDecl, RuleDecl,
     SigRefused, Signature,
 };
-use eo_term::{Id, Table};
+use eo_term::{Id, Node, Table};
 use std::alloc::{AllocError, Global};
 use std::marker::Model;
 use std::test::Fail;
@@ -38,6 +38,17 @@ pub(super) enum Answer {
     Memory,
     /// It is no s-expression, or one that declares nothing.
     Unread,
+}
+
+/// What became of a term of a reference file.
+#[derive(Clone, Copy, PartialEq, Eq)]
+pub(super) enum Outcome {
+    /// It has a meaning, and this many names were given.
+    Names(usize),
+    /// It is this bit string.
+    Bits { width: u8, value: u128 },
+    /// It has no meaning.
+    Refused(Answer),
 }
 
 /// The parts of a rule that are terms, what joins its premises, and how many there are of the
@@ -124,6 +135,36 @@ impl World {
             }
         }
         Ok(None)
+    }
+
+    /// The first term of a reference file, in an assertion or outside, that becomes something else
+    /// than what stands beside it.
+    pub(super) fn other_reference(
+        &mut self,
+        in_assert: bool,
+        rows: &[(&str, Outcome)],
+    ) -> Result<Option<usize>, Fail> {
+        for (i, (text, want)) in rows.iter().enumerate() {
+            if self.outcome(text, in_assert)? != *want {
+                return Ok(Some(i));
+            }
+        }
+        Ok(None)
+    }
+
+    // What becomes of a term of a reference file.
+    fn outcome(&mut self, text: &str, in_assert: bool) -> Result<Outcome, Fail> {
+        match read(self.alloc, text.as_bytes())? {
+            Some(text) => Ok(self.outcome_of(&text.sexp(), in_assert)),
+            None => Ok(Outcome::Refused(Answer::Unread)),
+        }
+    }
+
+    fn outcome_of(&mut self, s: &Sexp<'_>, in_assert: bool) -> Outcome {
+        match self.reference_meaning(s, in_assert) {
+            Ok(outcome) => outcome,
+            Err(e) => Outcome::Refused(refused(&e)),
+        }
     }
 
     /// The first two terms of which one has no meaning, or another one than the other.
@@ -233,6 +274,21 @@ impl World {
         term(self.alloc, s, &locals, &self.sig, &mut self.table)
     }
 
+    fn reference_meaning(&mut self, s: &Sexp<'_>, in_assert: bool) -> Result<Outcome, ElabRefused> {
+        let locals = parameters(self.alloc, &mut self.table)?;
+        let mut names = Names::new(self.alloc);
+        let id = reference_term(
+            self.alloc,
+            s,
+            &locals,
+            &self.sig,
+            &mut self.table,
+            in_assert,
+            &mut names,
+        )?;
+        Ok(told(self.table.node(id), names.len()))
+    }
+
     fn declare_sexp(&mut self, s: &Sexp<'_>) -> Answer {
         if !is_command(s) {
             return Answer::Unread;
@@ -257,6 +313,14 @@ fn parameters(alloc: Global, table: &mut Table) -> Result<Locals, AllocError>
     locals.add(b"ys", ys, true)?;
     locals.add(b"z", z, false)?;
     Ok(locals)
+}
+
+// A bit string, or how many names were given.
+fn told(node: Node, names: usize) -> Outcome {
+    match node {
+        Node::Bits { width, value } => Outcome::Bits { width, value },
+        _ => Outcome::Names(names),
+    }
 }
 
 fn ids_of(rule: &RuleDecl) -> RuleIds {

@@ -1,22 +1,26 @@
 //! Calls of programs.
-ghost use Rattle.std.specs.Prelude.{◌≡◌, ◌<◌, ℕ, List, length, All, IfOk, IfSome, IfNone};
+ghost use Rattle.std.specs.Prelude.{◌≡◌, ◌<◌, ◌++◌, ◌∷◌, [], ℕ, List, length, All, Some, false, IfOk, IfSome, IfNone, OnOk};
 ghost use Rattle.eo_sig.specs.Growth.{GrowsUnder};
 ghost use Rattle.eo_sig.specs.Reading.{IsBelow, signature};
-ghost use Rattle.eo_eval.specs.Bodies.{FindsBody};
+ghost use Rattle.eo_eval.specs.Bodies.{Finds, MakesBody, chosen_case};
 ghost use Rattle.eo_eval.specs.Evaluation.{body_of};
 ghost use Rattle.eo_eval.specs.Ready.{Ready, Calling, Recalls, called_at, told_in, told_call, told_run};
 ghost use Rattle.eo_eval.specs.Machine.{calls};
 ghost use Rattle.eo_eval.specs.Reading.{read_call, call_at, begun, Remembers};
 ghost use Rattle.eo_eval.specs.declared.stack.Now.TheVariants as next;
 ghost use Rattle.eo_sig.specs.Signature as spec;
-ghost use Rattle.eo_term.specs.Tree.{Tree};
+ghost use Rattle.eo_term.specs.Tree.{Tree, is_tall};
+ghost use Rattle.eo_pattern.specs.Steps.{put_in};
+ghost use Rattle.eo_eval.specs.Scopes.{IsValueSlot};
+ghost use Rattle.eo_eval.specs.declared.stack.Frame.TheVariants as frame;
 
-use crate::bodies::body;
+use crate::bodies::{find_body, is_light};
 use crate::calls::CallKey;
 use crate::machine::Machine;
 use crate::machine::memory::used;
 use crate::stack::{Frame, Known, Now};
 use eo_base::limits::CALLS;
+use eo_pattern::substitute;
 use eo_sig::Signature;
 use eo_term::{Id, Table, TermRefused};
 use eo_type::Types;
@@ -108,7 +112,8 @@ impl Machine {
     // What is known of a call that was begun, where so many calls may open.
     fn known_call(&self, place: usize, left: usize) -> Option<Now>
         requires { place < length self.now.calls.entries }
-        ensures { (S : spec.Signature) (most : ℕ) (ts : List Tree) → Remembers S most ts self.now.calls.entries self.now.terms.entries →
+        ensures { (S : spec.Signature) (most : ℕ) (ts : List Tree) →
+            Remembers S most ts self.now.calls.entries self.now.terms.entries self.now.locals.entries →
             IfSome result (λ n. Recalls ts (begun ts self.now.calls.entries) (calls S most (call_at (begun ts
             self.now.calls.entries) place)) left n) }
     {
@@ -132,56 +137,169 @@ impl Machine {
         ensures ready { IfOk result (λ n. Ready sig.now table.new types.now self.new n) }
         ensures grows { GrowsUnder sig.now table.old table.new }
     {
-        types.laws();
-        let found = self.body_at(sig, table, place);
-        self.enter_body(sig, table, types, place, left, found)
+        sig.laws();
+        match self.find(sig, table, place)? {
+            Some(body) => self.enter_body(sig, table, types, place, left, body),
+            None => {
+                self.finish_call(place, Known::Stuck { deepest: 1 });
+                Ok(Now::Stuck { deepest: 1 })
+            }
+        }
     }
 
-    // The body of a call that was begun.
-    fn body_at(
-        &self,
+    // The body of a call that was begun. What stands for its parameters is then held.
+    fn find(
+        &mut self,
         sig: &Signature,
-        table: &mut Table,
+        table: &Table,
         place: usize,
-    ) -> Result<Option<Id>, TermRefused>
-        requires place { place < length self.now.calls.entries }
-        requires keys { All (λ c. All (λ i. i < length table.old.trees) c.0.args.items) self.now.calls.entries }
-        requires below { IsBelow (length table.old.trees) sig.now }
-        ensures body { FindsBody table.new result (body_of (signature table.old.trees sig.now) (called_at table.old self.now place)) }
-        ensures grows { GrowsUnder sig.now table.old table.new }
+    ) -> Result<Option<Id>, AllocError>
+        requires place { place < length self.old.calls.entries }
+        requires keys { All (λ c. All (λ i. i < length table.now.trees) c.0.args.items) self.old.calls.entries }
+        requires below { IsBelow (length table.now.trees) sig.now }
+        ensures found { IfOk result (λ o. Finds table.now self.new.subst o
+            (chosen_case (signature table.now.trees sig.now) (called_at table.now self.old place))) }
+        ensures stack { self.new.stack ≡ self.old.stack }
+        ensures scope { self.new.scope ≡ self.old.scope }
+        ensures calls { self.new.calls ≡ self.old.calls }
+        ensures terms { self.new.terms ≡ self.old.terms }
+        ensures locals { self.new.locals ≡ self.old.locals }
     {
         let (key, _) = self.calls.get_index(place).unwrap();
-        body(self.alloc, sig, table, key.program, key.args.as_slice())
+        find_body(
+            sig,
+            table,
+            &mut self.subst,
+            key.program,
+            key.args.as_slice(),
+        )
     }
 
     // A call goes on with the body that was found for it.
     fn enter_body(
         &mut self,
         sig: &Signature,
+        table: &mut Table,
+        types: &Types,
+        place: usize,
+        left: usize,
+        body: Id,
+    ) -> Result<Now, AllocError>
+        requires place { place < length self.old.calls.entries }
+        requires calling { Calling sig.now table.old types.now self.old (called_at table.old self.old place) }
+        requires found { Finds table.old self.old.subst (Some body)
+            (chosen_case (signature table.old.trees sig.now) (called_at table.old self.old place)) }
+        ensures told { IfOk result (λ n. told_in sig.now table.new self.new n
+            ≡ told_run sig.now table.old self.old (called_at table.old self.old place) left) }
+        ensures ready { IfOk result (λ n. Ready sig.now table.new types.now self.new n) }
+        ensures grows { GrowsUnder sig.now table.old table.new }
+    {
+        if is_light(table, &self.subst, body) {
+            return self.enter_light(sig, table, types, place, left, body);
+        }
+        self.make_body(sig, table, types, place, left, body)
+    }
+
+    // A call goes on with a body in which what is held is put in first: with it, it may be too tall.
+    fn make_body(
+        &mut self,
+        sig: &Signature,
+        table: &mut Table,
+        types: &Types,
+        place: usize,
+        left: usize,
+        body: Id,
+    ) -> Result<Now, AllocError>
+        requires place { place < length self.old.calls.entries }
+        requires calling { Calling sig.now table.old types.now self.old (called_at table.old self.old place) }
+        requires found { Finds table.old self.old.subst (Some body)
+            (chosen_case (signature table.old.trees sig.now) (called_at table.old self.old place)) }
+        ensures told { IfOk result (λ n. told_in sig.now table.new self.new n
+            ≡ told_run sig.now table.old self.old (called_at table.old self.old place) left) }
+        ensures ready { IfOk result (λ n. Ready sig.now table.new types.now self.new n) }
+        ensures grows { GrowsUnder sig.now table.old table.new }
+    {
+        sig.laws();
+        types.laws();
+        let made = substitute(table, &self.subst, body);
+        self.enter_made(sig, table, types, place, left, made)
+    }
+
+    // A call goes on with a body whose parameters are held.
+    fn enter_light(
+        &mut self,
+        sig: &Signature,
         table: &Table,
         types: &Types,
         place: usize,
         left: usize,
-        found: Result<Option<Id>, TermRefused>,
+        body: Id,
     ) -> Result<Now, AllocError>
         requires place { place < length self.old.calls.entries }
         requires calling { Calling sig.now table.now types.now self.old (called_at table.now self.old place) }
-        requires body { FindsBody table.now found (body_of (signature table.now.trees sig.now) (called_at table.now self.old place)) }
+        requires found { Finds table.now self.old.subst (Some body)
+            (chosen_case (signature table.now.trees sig.now) (called_at table.now self.old place)) }
+        requires low { is_tall (put_in table.now self.old.subst body) ≡ false }
+        requires values { All (IsValueSlot table.now.trees) self.old.subst.values }
         ensures told { IfOk result (λ n. told_in sig.now table.now self.new n
             ≡ told_run sig.now table.now self.old (called_at table.now self.old place) left) }
         ensures ready { IfOk result (λ n. Ready sig.now table.now types.now self.new n) }
     {
-        match found {
-            Ok(Some(body)) => {
-                self.stack.wait(Frame::Body { place, body })?;
+        // No list holds so many calls that this count ends.
+        let Some(here) = place.checked_add(1) else {
+            return Err(AllocError);
+        };
+        self.open(place, body)?;
+        self.scope.open(here, self.subst.slots())?;
+        Ok(Now::Enter { id: body, left })
+    }
+
+    // A call goes on with a body that was made, with its parameters put in.
+    fn enter_made(
+        &mut self,
+        sig: &Signature,
+        table: &Table,
+        types: &Types,
+        place: usize,
+        left: usize,
+        made: Result<Id, TermRefused>,
+    ) -> Result<Now, AllocError>
+        requires place { place < length self.old.calls.entries }
+        requires calling { Calling sig.now table.now types.now self.old (called_at table.now self.old place) }
+        requires body { MakesBody table.now made (body_of (signature table.now.trees sig.now) (called_at table.now self.old place)) }
+        ensures told { IfOk result (λ n. told_in sig.now table.now self.new n
+            ≡ told_run sig.now table.now self.old (called_at table.now self.old place) left) }
+        ensures ready { IfOk result (λ n. Ready sig.now table.now types.now self.new n) }
+    {
+        match made {
+            Ok(body) => {
+                self.open(place, body)?;
+                self.scope.open(0, &[])?;
                 Ok(Now::Enter { id: body, left })
-            }
-            Ok(None) => {
-                self.finish_call(place, Known::Stuck { deepest: 1 });
-                Ok(Now::Stuck { deepest: 1 })
             }
             Err(TermRefused::Tall) => Ok(Now::Tall),
             Err(TermRefused::Memory(e)) => Err(e),
         }
+    }
+
+    // A call waits for its body.
+    fn open(&mut self, place: usize, body: Id) -> Result<(), AllocError>
+        ensures frames { OnOk result (self.new.stack.frames.items ≡ self.old.stack.frames.items
+            ++ frame.Body place body self.old.scope.base self.old.scope.here (length self.old.locals.entries) ∷ []) }
+        ensures values { self.new.stack.values.items ≡ self.old.stack.values.items }
+        ensures scope { self.new.scope ≡ self.old.scope }
+        ensures subst { self.new.subst ≡ self.old.subst }
+        ensures calls { self.new.calls ≡ self.old.calls }
+        ensures terms { self.new.terms ≡ self.old.terms }
+        ensures locals { self.new.locals ≡ self.old.locals }
+    {
+        let frame = Frame::Body {
+            place,
+            body,
+            base: self.scope.base(),
+            here: self.scope.here(),
+            kept: self.locals.len(),
+        };
+        self.stack.wait(frame)
     }
 }

@@ -6,43 +6,39 @@ ghost use Rattle.eo_term.specs.Terms.{arity, HasArity};
 ghost use Rattle.eo_term.specs.Tree.{Op};
 ghost use Rattle.eo_term.specs.declared.OpCode.TheVariants as code;
 ghost use Rattle.eo_sig.specs.Growth.{GrowsUnder};
+ghost use Rattle.eo_type.specs.Known.{Fit};
 ghost use Rattle.eo_eval.specs.Ready.{Ready, told_in};
 ghost use Rattle.eo_eval.specs.declared.stack.Now.TheVariants as next;
 
-use crate::calls::CallKey;
 use crate::machine::Machine;
 use crate::stack::{Frame, Now};
-use crate::turns::begin_parts;
 use eo_sig::Signature;
 use eo_term::{Id, OpCode, OpName, Table};
 use eo_type::Types;
 use std::alloc::AllocError;
 
 impl Machine {
-    /// An operator or a program with so many arguments begins to be evaluated.
+    /// An operator or a program begins to be evaluated.
     pub(crate) fn enter_op(
         &mut self,
         sig: &Signature,
         table: &mut Table,
-        types: &Types,
+        types: &mut Types,
         id: Id,
         code: OpCode,
-        count: usize,
         left: usize,
     ) -> Result<Now, AllocError>
-        requires ready { Ready sig.now table.old types.now self.old (next.Enter id left) }
+        requires ready { Ready sig.now table.old types.old self.old (next.Enter id left) }
         requires operator { Op code (arguments_of (tree_in table.old id)) ≡ tree_in table.old id }
-        requires count { count_of (arguments_of (tree_in table.old id)) ≡ count }
-        requires arity { HasArity code count }
+        requires arity { HasArity code (count_of (arguments_of (tree_in table.old id))) }
         ensures told { IfOk result (λ n. told_in sig.now table.new self.new n ≡ told_in sig.now table.old self.old (next.Enter id left)) }
-        ensures ready { IfOk result (λ n. Ready sig.now table.new types.now self.new n) }
+        ensures ready { IfOk result (λ n. Ready sig.now table.new types.new self.new n) }
+        ensures fits { Fit sig.now table.new types.new }
         ensures grows { GrowsUnder sig.now table.old table.new }
     {
         match code {
             OpCode::Builtin(op) => self.enter_builtin(sig, table, types, id, op, left),
-            OpCode::Prog(program) => self.enter_program(
-                sig, table, types, id, program, count, left,
-            ),
+            OpCode::Prog(_) => self.enter_parts(sig, table, types, id, left),
         }
     }
 
@@ -50,17 +46,19 @@ impl Machine {
     fn enter_builtin(
         &mut self,
         sig: &Signature,
-        table: &Table,
-        types: &Types,
+        table: &mut Table,
+        types: &mut Types,
         id: Id,
         op: OpName,
         left: usize,
     ) -> Result<Now, AllocError>
-        requires ready { Ready sig.now table.now types.now self.old (next.Enter id left) }
-        requires operator { Op (code.Builtin op) (arguments_of (tree_in table.now id)) ≡ tree_in table.now id }
-        requires count { count_of (arguments_of (tree_in table.now id)) ≡ arity op }
-        ensures told { IfOk result (λ n. told_in sig.now table.now self.new n ≡ told_in sig.now table.now self.old (next.Enter id left)) }
-        ensures ready { IfOk result (λ n. Ready sig.now table.now types.now self.new n) }
+        requires ready { Ready sig.now table.old types.old self.old (next.Enter id left) }
+        requires operator { Op (code.Builtin op) (arguments_of (tree_in table.old id)) ≡ tree_in table.old id }
+        requires count { count_of (arguments_of (tree_in table.old id)) ≡ arity op }
+        ensures told { IfOk result (λ n. told_in sig.now table.new self.new n ≡ told_in sig.now table.old self.old (next.Enter id left)) }
+        ensures ready { IfOk result (λ n. Ready sig.now table.new types.new self.new n) }
+        ensures fits { Fit sig.now table.new types.new }
+        ensures grows { GrowsUnder sig.now table.old table.new }
     {
         let part = table.arg(id, 0);
         match op {
@@ -84,34 +82,7 @@ impl Machine {
             ),
             OpName::IsEq => self.begin(sig, table, types, id, Frame::Left { id, left }, part, left),
             OpName::IsOk => self.begin(sig, table, types, id, Frame::Tested { id }, part, left),
-            _ => begin_parts(table, &mut self.stack, id, part, left),
+            _ => self.enter_parts(sig, table, types, id, left),
         }
-    }
-
-    // A program begins to be evaluated.
-    fn enter_program(
-        &mut self,
-        sig: &Signature,
-        table: &mut Table,
-        types: &Types,
-        id: Id,
-        program: usize,
-        count: usize,
-        left: usize,
-    ) -> Result<Now, AllocError>
-        requires ready { Ready sig.now table.old types.now self.old (next.Enter id left) }
-        requires operator { Op (code.Prog program) (arguments_of (tree_in table.old id)) ≡ tree_in table.old id }
-        requires count { count_of (arguments_of (tree_in table.old id)) ≡ count }
-        ensures told { IfOk result (λ n. told_in sig.now table.new self.new n ≡ told_in sig.now table.old self.old (next.Enter id left)) }
-        ensures ready { IfOk result (λ n. Ready sig.now table.new types.now self.new n) }
-        ensures grows { GrowsUnder sig.now table.old table.new }
-    {
-        if count == 0 {
-            self.stack.wait(Frame::Handed { id, deepest: 0 })?;
-            let args = Vec::new(self.alloc);
-            return self.call(sig, table, types, CallKey { program, args }, left);
-        }
-        let part = table.arg(id, 0);
-        begin_parts(table, &mut self.stack, id, part, left)
     }
 }

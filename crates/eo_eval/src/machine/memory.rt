@@ -1,18 +1,20 @@
 //! What an evaluation remembers.
-ghost use Rattle.std.specs.Prelude.{◌≡◌, ◌<◌, [], ℕ, List, length, IfSome, OnOk};
-ghost use Rattle.eo_term.specs.Tree.{Tree};
+ghost use Rattle.std.specs.Prelude.{◌≡◌, ◌<◌, [], ℕ, List, length, take, IfSome, IsTrue};
 ghost use Rattle.eo_term.specs.Terms.{tree_at};
+ghost use Rattle.eo_term.specs.Tree.{Tree};
 ghost use Rattle.eo_sig.specs.Signature as spec;
 ghost use Rattle.indexmap.specs.Layout.{set_value_at};
 ghost use Rattle.eo_eval.specs.Evaluation.{Begun};
 ghost use Rattle.eo_eval.specs.Machine.{Family, evals};
 ghost use Rattle.eo_eval.specs.Reading.{Remembers, IsKnown, begun};
 ghost use Rattle.eo_eval.specs.Ready.{IsFresh, Keeps, Recalls};
+ghost use Rattle.eo_eval.specs.Scopes.{entered, outer, IsScope};
 
+use crate::calls::LocalKey;
 use crate::evaluator::Outcome;
 use crate::machine::Machine;
 use crate::stack::{Known, Now};
-use eo_term::Id;
+use eo_term::{Id, Table};
 use indexmap::IndexMap;
 use std::alloc::{AllocError, Global};
 use std::hash::Hash;
@@ -20,55 +22,104 @@ use std::hash::Hash;
 /// A map that held more keeps no memory: clearing one costs what it may hold.
 const KEPT: usize = 64;
 
+/// Of a term up to this height nothing is remembered: to evaluate it again takes few turns.
+const LOW: u32 = 3;
+
 impl Machine {
     /// Nothing is begun and remembered any more.
     pub(crate) fn clear(&mut self)
         ensures { IsFresh self.new }
     {
         self.stack.clear();
+        self.scope.clear();
         empty(self.alloc, &mut self.calls);
         empty(self.alloc, &mut self.terms);
+        empty(self.alloc, &mut self.locals);
     }
 
     // What is remembered of a term, where so many calls may open.
-    pub(crate) fn recalled(&self, id: Id, left: usize) -> Option<Now>
-        ensures { (S : spec.Signature) (most : ℕ) (ts : List Tree) →
-            Remembers S most ts self.now.calls.entries self.now.terms.entries →
-            IfSome result (λ n. Recalls ts (begun ts self.now.calls.entries) (evals S most (tree_at ts id)) left n) }
+    pub(crate) fn recalled(&self, table: &Table, id: Id, left: usize) -> Option<Now>
+        requires { id < length table.now.trees }
+        ensures { (S : spec.Signature) (most : ℕ) → let ts = table.now.trees in
+            Remembers S most ts self.now.calls.entries self.now.terms.entries self.now.locals.entries →
+            IsScope S ts (begun ts self.now.calls.entries) self.now.scope →
+            IfSome result (λ n. Recalls ts (begun ts self.now.calls.entries) (evals S most (entered ts self.now.scope id)) left n) }
     {
-        match self.known(id) {
+        if self.is_passed(table, id) {
+            return None;
+        }
+        match self.known(table, id) {
             Some(known) => used(known, left),
             None => None,
         }
     }
 
     // What is remembered of a term.
-    fn known(&self, id: Id) -> Option<Known>
-        ensures { (S : spec.Signature) (most : ℕ) (ts : List Tree) →
-            Remembers S most ts self.now.calls.entries self.now.terms.entries →
-            IfSome result (λ r. IsKnown ts (begun ts self.now.calls.entries) (evals S most (tree_at ts id)) r) }
+    fn known(&self, table: &Table, id: Id) -> Option<Known>
+        requires { id < length table.now.trees }
+        ensures { (S : spec.Signature) (most : ℕ) → let ts = table.now.trees in
+            Remembers S most ts self.now.calls.entries self.now.terms.entries self.now.locals.entries →
+            IsScope S ts (begun ts self.now.calls.entries) self.now.scope →
+            IfSome result (λ r. IsKnown ts (begun ts self.now.calls.entries) (evals S most (entered ts self.now.scope id)) r) }
     {
-        self.terms.get(&id).copied()
+        if self.is_itself(table, id) {
+            return self.terms.get(&id).copied();
+        }
+        let here = self.scope.here();
+        self.locals.get(&LocalKey { here, id }).copied()
     }
 
-    /// Keeps how a term ends, if it is with a value or with none.
+    // Whether a term is evaluated as it is: it has no parameter, or nothing stands for any.
+    fn is_itself(&self, table: &Table, id: Id) -> bool
+        requires { id < length table.now.trees }
+        ensures { (S : spec.Signature) (b : Begun) → let ts = table.now.trees in
+            IsScope S ts b self.now.scope → IsTrue result → entered ts self.now.scope id ≡ tree_at ts id }
+    {
+        if self.scope.here() == 0 {
+            return true;
+        }
+        table.is_closed(id)
+    }
+
+    // Whether nothing is kept of a term: it has few parts, or it is the body of the last call, of
+    // which its result is kept.
+    fn is_passed(&self, table: &Table, id: Id) -> bool
+        requires { id < length table.now.trees }
+    {
+        if table.height(id) <= LOW {
+            return true;
+        }
+        let Some(frame) = self.stack.frames.last() else {
+            return false;
+        };
+        frame.is_body(id)
+    }
+
+    /// Keeps how a term ends, if it is with a value or with none and anything is kept of it.
     pub(crate) fn keep(
         &mut self,
+        table: &Table,
         id: Id,
         outcome: &Outcome,
         deepest: usize,
     ) -> Result<(), AllocError>
+        requires { id < length table.now.trees }
         ensures frames { self.new.stack.frames.items ≡ self.old.stack.frames.items }
         ensures values { self.new.stack.values.items ≡ self.old.stack.values.items }
+        ensures scope { self.new.scope ≡ self.old.scope }
         ensures calls { self.new.calls.entries ≡ self.old.calls.entries }
-        ensures remembers { (S : spec.Signature) (most : ℕ) (ts : List Tree) →
-            Remembers S most ts self.old.calls.entries self.old.terms.entries →
-            Keeps S most ts (begun ts self.old.calls.entries) id outcome.now deepest →
-            Remembers S most ts self.new.calls.entries self.new.terms.entries }
+        ensures remembers { (S : spec.Signature) (most : ℕ) → let ts = table.now.trees in
+            Remembers S most ts self.old.calls.entries self.old.terms.entries self.old.locals.entries →
+            IsScope S ts (begun ts self.old.calls.entries) self.old.scope →
+            Keeps S most ts (begun ts self.old.calls.entries) self.old.scope id outcome.now deepest →
+            Remembers S most ts self.new.calls.entries self.new.terms.entries self.new.locals.entries }
     {
+        if self.is_passed(table, id) {
+            return Ok(());
+        }
         match *outcome {
-            Outcome::Value(value) => self.remember(id, Known::Value { id: value, deepest }),
-            Outcome::Stuck => self.remember(id, Known::Stuck { deepest }),
+            Outcome::Value(value) => self.remember(table, id, Known::Value { id: value, deepest }),
+            Outcome::Stuck => self.remember(table, id, Known::Stuck { deepest }),
             _ => Ok(()),
         }
     }
@@ -78,24 +129,48 @@ impl Machine {
         requires { place < length self.old.calls.entries }
         ensures calls { self.new.calls.entries ≡ set_value_at self.old.calls.entries place known }
         ensures terms { self.new.terms.entries ≡ self.old.terms.entries }
+        ensures locals { self.new.locals.entries ≡ self.old.locals.entries }
         ensures frames { self.new.stack.frames.items ≡ self.old.stack.frames.items }
         ensures values { self.new.stack.values.items ≡ self.old.stack.values.items }
+        ensures scope { self.new.scope ≡ self.old.scope }
     {
         *self.calls.get_index_mut(place).unwrap() = known;
     }
 
     // Keeps what is known of a term.
-    fn remember(&mut self, id: Id, known: Known) -> Result<(), AllocError>
+    fn remember(&mut self, table: &Table, id: Id, known: Known) -> Result<(), AllocError>
+        requires { id < length table.now.trees }
         ensures frames { self.new.stack.frames.items ≡ self.old.stack.frames.items }
         ensures values { self.new.stack.values.items ≡ self.old.stack.values.items }
+        ensures scope { self.new.scope ≡ self.old.scope }
         ensures calls { self.new.calls.entries ≡ self.old.calls.entries }
-        ensures remembers { (S : spec.Signature) (most : ℕ) (ts : List Tree) →
-            Remembers S most ts self.old.calls.entries self.old.terms.entries →
-            id < length ts → IsKnown ts (begun ts self.old.calls.entries) (evals S most (tree_at ts id)) known →
-            Remembers S most ts self.new.calls.entries self.new.terms.entries }
+        ensures remembers { (S : spec.Signature) (most : ℕ) → let ts = table.now.trees in
+            Remembers S most ts self.old.calls.entries self.old.terms.entries self.old.locals.entries →
+            IsScope S ts (begun ts self.old.calls.entries) self.old.scope →
+            IsKnown ts (begun ts self.old.calls.entries) (evals S most (entered ts self.old.scope id)) known →
+            Remembers S most ts self.new.calls.entries self.new.terms.entries self.new.locals.entries }
     {
-        self.terms.insert(id, known)?;
+        if self.is_itself(table, id) {
+            self.terms.insert(id, known)?;
+            return Ok(());
+        }
+        let here = self.scope.here();
+        self.locals.insert(LocalKey { here, id }, known)?;
         Ok(())
+    }
+
+    /// A call that was taken off has ended: what stood for parameters before it stands again, and
+    /// what was remembered of terms with its parameters goes.
+    pub(crate) fn close(&mut self, base: usize, here: usize, kept: usize)
+        ensures frames { self.new.stack.frames.items ≡ self.old.stack.frames.items }
+        ensures values { self.new.stack.values.items ≡ self.old.stack.values.items }
+        ensures scope { self.new.scope ≡ outer self.old.scope base here }
+        ensures calls { self.new.calls.entries ≡ self.old.calls.entries }
+        ensures terms { self.new.terms.entries ≡ self.old.terms.entries }
+        ensures locals { self.new.locals.entries ≡ take kept self.old.locals.entries }
+    {
+        self.scope.close(base, here);
+        self.locals.truncate(kept);
     }
 }
 

@@ -17,13 +17,9 @@ ghost use Rattle.eo_eval.specs.Ready.{Ready, PoppedReady, Concludes, Proceeds, B
 ghost use Rattle.eo_eval.specs.declared.stack.Now.TheVariants as next;
 ghost use Rattle.eo_eval.specs.declared.stack.Frame.TheVariants as frame;
 
-use crate::calls::CallKey;
 use crate::evaluator::Outcome;
 use crate::machine::Machine;
-use crate::machine::parts::part_of;
-use crate::operators::made;
 use crate::stack::{Frame, Now};
-use crate::turns::next_part;
 use eo_sig::Signature;
 use eo_term::{FALSE, Id, Node, OpCode, TRUE, Table};
 use eo_type::{Types, is_constant};
@@ -97,7 +93,13 @@ impl Machine {
             }
             Frame::Missed { .. } => self.conclude(sig, table, types, frame, now, Outcome::Stuck),
             Frame::Handed { .. } => self.conclude(sig, table, types, frame, now, given(now)),
-            Frame::Body { place, body } => self.end_call(sig, table, types, place, body, now),
+            Frame::Body {
+                place,
+                body,
+                base,
+                here,
+                kept,
+            } => self.end_call(sig, table, types, place, body, base, here, kept, now),
         }
     }
 
@@ -121,144 +123,21 @@ impl Machine {
         ensures fits { Fit sig.now table.new types.new }
         ensures grows { GrowsUnder sig.now table.old table.new }
     {
-        let frame = Frame::Parts {
-            id,
-            base,
-            deepest: before,
-            left,
-        };
         match *now {
             Now::Value { id: value, deepest } => {
-                self.give_part(sig, table, types, id, base, before, left, value, deepest)
+                self.stack.collect(value)?;
+                self.gather(sig, table, types, id, base, before.max(deepest), left)
             }
-            _ => self.conclude(sig, table, types, &frame, now, Outcome::Stuck),
+            _ => {
+                let frame = Frame::Parts {
+                    id,
+                    base,
+                    deepest: before,
+                    left,
+                };
+                self.conclude(sig, table, types, &frame, now, Outcome::Stuck)
+            }
         }
-    }
-
-    // A node gets the value of its next part.
-    fn give_part(
-        &mut self,
-        sig: &Signature,
-        table: &mut Table,
-        types: &mut Types,
-        node: Id,
-        base: usize,
-        before: usize,
-        left: usize,
-        id: Id,
-        deepest: usize,
-    ) -> Result<Now, AllocError>
-        requires ready { PoppedReady sig.now table.old types.old self.old (frame.Parts node base before left) (next.Value id deepest) }
-        ensures told { IfOk result (λ n. told_in sig.now table.new self.new n
-            ≡ told_popped sig.now table.old self.old (frame.Parts node base before left) (next.Value id deepest)) }
-        ensures ready { IfOk result (λ n. Ready sig.now table.new types.new self.new n) }
-        ensures fits { Fit sig.now table.new types.new }
-        ensures grows { GrowsUnder sig.now table.old table.new }
-    {
-        let done = self.stack.values.len() - base + 1;
-        match part_of(table, node, done) {
-            Some(part) => next_part(
-                table,
-                &mut self.stack,
-                node,
-                base,
-                part,
-                id,
-                deepest,
-                before,
-                left,
-            ),
-            None => match program_of(table, node) {
-                Some(program) => {
-                    self.give_call(
-                        sig, table, types, program, node, base, before, left, id, deepest,
-                    )
-                }
-                None => self.give_last(sig, table, types, node, base, before, left, id, deepest),
-            },
-        }
-    }
-
-    // A program call gets the value of its last argument.
-    fn give_call(
-        &mut self,
-        sig: &Signature,
-        table: &mut Table,
-        types: &Types,
-        program: usize,
-        node: Id,
-        base: usize,
-        before: usize,
-        left: usize,
-        id: Id,
-        deepest: usize,
-    ) -> Result<Now, AllocError>
-        requires program { Op (code.Prog program) (arguments_of (tree_in table.old node)) ≡ tree_in table.old node }
-        requires base { base ≤ length self.old.stack.values.items }
-        requires last { length (drop base self.old.stack.values.items) + 1 ≡ count_of (parts_of (tree_in table.old node)) }
-        requires ready { PoppedReady sig.now table.old types.now self.old (frame.Parts node base before left) (next.Value id deepest) }
-        ensures told { IfOk result (λ n. told_in sig.now table.new self.new n
-            ≡ told_popped sig.now table.old self.old (frame.Parts node base before left) (next.Value id deepest)) }
-        ensures ready { IfOk result (λ n. Ready sig.now table.new types.now self.new n) }
-        ensures grows { GrowsUnder sig.now table.old table.new }
-    {
-        self.stack.collect(id)?;
-        let args = self.stack.values.as_slice()[base..].to_vec(self.alloc)?;
-        self.stack.cut(base);
-        self.stack.wait(Frame::Handed {
-            id: node,
-            deepest: before.max(deepest),
-        })?;
-        self.call(sig, table, types, CallKey { program, args }, left)
-    }
-
-    // A node other than a program call gets the value of its last part.
-    fn give_last(
-        &mut self,
-        sig: &Signature,
-        table: &mut Table,
-        types: &mut Types,
-        node: Id,
-        base: usize,
-        before: usize,
-        left: usize,
-        id: Id,
-        deepest: usize,
-    ) -> Result<Now, AllocError>
-        requires kind { is_call (tree_in table.old node) ≡ false }
-        requires base { base ≤ length self.old.stack.values.items }
-        requires last { length (drop base self.old.stack.values.items) + 1 ≡ count_of (parts_of (tree_in table.old node)) }
-        requires ready { PoppedReady sig.now table.old types.old self.old (frame.Parts node base before left) (next.Value id deepest) }
-        ensures told { IfOk result (λ n. told_in sig.now table.new self.new n
-            ≡ told_popped sig.now table.old self.old (frame.Parts node base before left) (next.Value id deepest)) }
-        ensures ready { IfOk result (λ n. Ready sig.now table.new types.new self.new n) }
-        ensures fits { Fit sig.now table.new types.new }
-        ensures grows { GrowsUnder sig.now table.old table.new }
-    {
-        self.stack.collect(id)?;
-        let outcome = made(
-            self.alloc,
-            sig,
-            table,
-            types,
-            node,
-            &self.stack.values.as_slice()[base..],
-        )?;
-        self.stack.forget();
-        let frame = Frame::Parts {
-            id: node,
-            base,
-            deepest: before,
-            left,
-        };
-        self.conclude(
-            sig,
-            table,
-            types,
-            &frame,
-            &Now::Value { id, deepest },
-            outcome,
-        )
     }
 
     // A choice is given its condition.
@@ -455,13 +334,16 @@ impl Machine {
         types: &Types,
         place: usize,
         body: Id,
+        base: usize,
+        here: usize,
+        kept: usize,
         now: &Now,
     ) -> Result<Now, AllocError>
         requires result { IsResult now.now }
         requires place { place < length self.old.calls.entries }
-        requires ready { PoppedReady sig.now table.now types.now self.old (frame.Body place body) now.now }
+        requires ready { PoppedReady sig.now table.now types.now self.old (frame.Body place body base here kept) now.now }
         ensures told { IfOk result (λ n. told_in sig.now table.now self.new n
-            ≡ told_popped sig.now table.now self.old (frame.Body place body) now.now) }
+            ≡ told_popped sig.now table.now self.old (frame.Body place body base here kept) now.now) }
         ensures ready { IfOk result (λ n. Ready sig.now table.now types.now self.new n) }
     {
         // No stack holds so many calls that this count ends.
@@ -469,6 +351,7 @@ impl Machine {
             return Err(AllocError);
         };
         self.finish_call(place, now.known(deepest));
+        self.close(base, here, kept);
         Ok(now.deeper(deepest))
     }
 
@@ -491,7 +374,7 @@ impl Machine {
     {
         self.stack.leave(frame);
         let deepest = frame.deepest().max(now.deepest());
-        self.keep(frame.node(), &outcome, deepest)?;
+        self.keep(table, frame.node(), &outcome, deepest)?;
         Ok(ended(&outcome, deepest))
     }
 
@@ -511,7 +394,8 @@ impl Machine {
         requires after { HasNoValues other }
         requires result { IsResult now.now }
         requires ready { PoppedReady sig.now table.now types.now self.old frame.now now.now }
-        requires proceeds { Proceeds (signature table.now.trees sig.now) calls_limit table.now.trees frame.now now.now other part left }
+        requires proceeds { Proceeds (signature table.now.trees sig.now) calls_limit table.now.trees self.old.scope frame.now
+            now.now other part left }
         ensures told { IfOk result (λ n. told_in sig.now table.now self.new n ≡ told_popped sig.now table.now self.old frame.now now.now) }
         ensures ready { IfOk result (λ n. Ready sig.now table.now types.now self.new n) }
     {
@@ -532,7 +416,8 @@ impl Machine {
     ) -> Result<Now, AllocError>
         requires frame { HasNoValues frame }
         requires ready { Ready sig.now table.now types.now self.old (next.Enter id left) }
-        requires begins { Begins (signature table.now.trees sig.now) calls_limit table.now.trees id left frame part }
+        requires begins { Begins (signature table.now.trees sig.now) calls_limit table.now.trees self.old.scope id left
+            frame part }
         ensures told { IfOk result (λ n. told_in sig.now table.now self.new n ≡ told_in sig.now table.now self.old (next.Enter id left)) }
         ensures ready { IfOk result (λ n. Ready sig.now table.now types.now self.new n) }
     {
@@ -542,7 +427,7 @@ impl Machine {
 }
 
 // What is done next after a node has ended so.
-fn ended(outcome: &Outcome, deepest: usize) -> Now
+pub(crate) fn ended(outcome: &Outcome, deepest: usize) -> Now
     ensures { result ≡ now_of outcome.now deepest }
 {
     match *outcome {
@@ -606,7 +491,7 @@ fn is_given(table: &Table, now: &Now, id: Id) -> bool
 }
 
 // The program that a term calls, if it is a program call.
-fn program_of(table: &Table, id: Id) -> Option<usize>
+pub(crate) fn program_of(table: &Table, id: Id) -> Option<usize>
     requires { id < length table.now.trees }
     ensures some { IfSome result (λ p. Op (code.Prog p) (arguments_of (tree_in table.now id)) ≡ tree_in table.now id) }
     ensures none { IfNone result (is_call (tree_in table.now id) ≡ false) }

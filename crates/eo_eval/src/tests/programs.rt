@@ -189,9 +189,81 @@ fn negation_of(w: &mut World, evaluator: &mut Evaluator, id: Id) -> Result<Outco
 }
 
 #[test]
+fn what_stands_for_parameters_is_that_of_the_call(rt: HostRuntime) -> Result<(), Fail> {
+    assert_eq!(rt; tell(rt.alloc(), nested_calls)?, None);
+    assert_eq!(rt; tell(rt.alloc(), doubled_bodies)?, None);
+    Ok(())
+}
+
+// `same` gives its argument. `outer` on x and y asks for `same` on y, and then for x: both have
+// the parameter 0.
+fn nested_calls(w: &mut World) -> Result<Option<usize>, Fail> {
+    let x = w.par(0)?;
+    let y = w.par(1)?;
+    let same = w.program(b"same", &[([x], x)])?;
+    let inner = w.call(same, &[y])?;
+    let is_inner = w.op(OpName::IsEq, &[inner, y])?;
+    let body = w.op(OpName::Ite, &[is_inner, x, y])?;
+    let outer = w.program(b"outer", &[([x, y], body)])?;
+    let first = w.call(outer, &[TRUE, FALSE])?;
+    let second = w.call(outer, &[FALSE, TRUE])?;
+    let inside = w.call(outer, &[first, second])?;
+    w.wrong(&[
+        (first, Value(TRUE)),
+        (second, Value(FALSE)),
+        (inside, Value(TRUE)),
+    ])
+}
+
+// The body of `d` is the conjunction of a term with itself, 60 times over, with a parameter in it.
+fn doubled_bodies(w: &mut World) -> Result<Option<usize>, Fail> {
+    let x = w.par(0)?;
+    let same = w.program(b"same", &[([x], x)])?;
+    let inner = w.call(same, &[x])?;
+    let mut body = w.op(OpName::Not, &[inner])?;
+    for _ in 0..60 {
+        body = w.op(OpName::And, &[body, body])?;
+    }
+    let d = w.program(b"d", &[([x], body)])?;
+    let first = w.call(d, &[FALSE])?;
+    let second = w.call(d, &[TRUE])?;
+    let both = w.op(OpName::Or, &[first, second])?;
+    w.wrong(&[
+        (first, Value(TRUE)),
+        (second, Value(FALSE)),
+        (both, Value(TRUE)),
+    ])
+}
+
+#[test]
 fn a_body_may_be_too_tall(rt: HostRuntime) -> Result<(), Fail> {
     assert_eq!(rt; tell(rt.alloc(), tall_bodies)?, None);
+    assert_eq!(rt; tell(rt.alloc(), perhaps_tall_bodies)?, None);
     Ok(())
+}
+
+// `u` compares its argument with `same` on `true`, below three negations: a tall argument stands
+// high in the body, so that this is not too tall.
+fn perhaps_tall_bodies(w: &mut World) -> Result<Option<usize>, Fail> {
+    let x = w.par(0)?;
+    let same = w.program(b"same", &[([x], x)])?;
+    let mut other = w.call(same, &[TRUE])?;
+    for _ in 0..3 {
+        other = w.op(OpName::Not, &[other])?;
+    }
+    let body = w.op(OpName::IsEq, &[x, other])?;
+    let u = w.program(b"u", &[([x], body)])?;
+    let tall = applied(w, TRUE, 1998)?;
+    let fits = w.call(u, &[tall])?;
+    let low = w.call(u, &[FALSE])?;
+    let inside = w.call(u, &[x])?;
+    let v = w.program(b"v", &[([x], inside)])?;
+    let fits_inside = w.call(v, &[tall])?;
+    w.wrong(&[
+        (fits, Value(FALSE)),
+        (low, Value(TRUE)),
+        (fits_inside, Value(FALSE)),
+    ])
 }
 
 // `t` applies a constant to its argument twice. A term has at most the height 2,000.

@@ -1,29 +1,29 @@
-//! Rules to be declared, and uses of them with what they give.
+//! Rules to be declared, and uses of them with what they give. Terms stand as codes (`codes`).
 use eo_base::FaultName;
 use eo_term::Id;
 
-/// A rule to be declared: the types of its parameters, its patterns and its conclusion. Where it
-/// joins the premises by a constant, the first pattern is that of the list.
-#[derive(Clone, Copy)]
-pub(super) struct Form<'a> {
-    pub(super) types: &'a [Id],
-    pub(super) assumption: Option<Id>,
-    pub(super) premises: &'a [Id],
-    pub(super) with: Option<usize>,
-    pub(super) args: &'a [Id],
-    pub(super) requirement: Option<(Id, Id)>,
-    pub(super) conclusion: Id,
-}
+/// A rule: its name, the types of its parameters, its assumption if it has one, its premises, its
+/// arguments, the two terms that it requires to be equal if it does, and its conclusion. Behind a
+/// `*` stands what the list of all premises, joined by `and`, is matched with.
+pub(super) type RuleRow<'a> = (
+    &'a str,
+    &'a str,
+    &'a str,
+    &'a str,
+    &'a str,
+    &'a str,
+    &'a str,
+);
 
-/// A use of a rule, by its name, and what it gives: a formula or a fault.
+/// A use of a rule: its name, the assumption that it discharges if it does, the premises, the
+/// arguments, the formula that it is said to conclude if any is, and what it gives.
+pub(super) type UseRow<'a> = (&'a str, &'a str, &'a str, &'a str, &'a str, Want<'a>);
+
+/// What a use of a rule is to give: a formula, as a code, or a fault.
 #[derive(Clone, Copy)]
-pub(super) struct Row<'a> {
-    pub(super) rule: &'a [u8],
-    pub(super) assumption: Option<Id>,
-    pub(super) premises: &'a [Id],
-    pub(super) args: &'a [Id],
-    pub(super) stated: Option<Id>,
-    pub(super) want: Told,
+pub(super) enum Want<'a> {
+    Formula(&'a str),
+    Fault(FaultName),
 }
 
 /// What a use of a rule gives.
@@ -33,64 +33,24 @@ pub(super) enum Told {
     Fault(FaultName),
 }
 
-/// A rule on premises.
-pub(super) fn on_premises<'a>(types: &'a [Id], premises: &'a [Id], conclusion: Id) -> Form<'a> {
-    Form {
-        types,
-        assumption: None,
-        premises,
-        with: None,
-        args: &[],
-        requirement: None,
-        conclusion,
-    }
+/// The terms of a rule.
+#[derive(Drop)]
+pub(super) struct Form {
+    pub(super) types: Vec<Id>,
+    pub(super) assumption: Option<Id>,
+    pub(super) premises: Vec<Id>,
+    /// Whether there is one pattern, for the list of all premises.
+    pub(super) joins: bool,
+    pub(super) args: Vec<Id>,
+    pub(super) requirement: Option<(Id, Id)>,
+    pub(super) conclusion: Id,
 }
 
-/// A rule on arguments.
-pub(super) fn on_args<'a>(types: &'a [Id], args: &'a [Id], conclusion: Id) -> Form<'a> {
-    Form {
-        types,
-        assumption: None,
-        premises: &[],
-        with: None,
-        args,
-        requirement: None,
-        conclusion,
-    }
-}
-
-/// A use of a rule on premises and arguments.
-pub(super) fn of<'a>(rule: &'a [u8], premises: &'a [Id], args: &'a [Id], want: Told) -> Row<'a> {
-    Row {
-        rule,
-        assumption: None,
-        premises,
-        args,
-        stated: None,
-        want,
-    }
-}
-
-/// The same, which is said to conclude a formula.
-pub(super) fn as_stated<'a>(rule: &'a [u8], premises: &'a [Id], stated: Id, want: Told) -> Row<'a> {
-    Row {
-        rule,
-        assumption: None,
-        premises,
-        args: &[],
-        stated: Some(stated),
-        want,
-    }
-}
-
-/// A use of a rule that discharges an assumption.
-pub(super) fn of_assumption<'a>(rule: &'a [u8], id: Id, premises: &'a [Id], want: Told) -> Row<'a> {
-    Row {
-        rule,
-        assumption: Some(id),
-        premises,
-        args: &[],
-        stated: None,
-        want,
-    }
+/// The terms that a use of a rule gives to it.
+#[derive(Drop)]
+pub(super) struct Given {
+    pub(super) assumption: Option<Id>,
+    pub(super) premises: Vec<Id>,
+    pub(super) args: Vec<Id>,
+    pub(super) stated: Option<Id>,
 }

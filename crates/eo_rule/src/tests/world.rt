@@ -14,7 +14,7 @@ ghost use Rattle.eo_sig.specs.Signature.{are_ordered};
 ghost use Rattle.eo_sig.specs.Usable.{AreOrdered, IsUsable};
 ghost use Rattle.eo_rule.specs.Reading.{AreValuesIn, UseBelow};
 
-use super::rows::{Form, Row, Told};
+use super::rows::{Form, Given, RuleRow, Told, UseRow, Want};
 use crate::{RuleRefused, RuleUse, conclude};
 use eo_base::Name;
 use eo_eval::Evaluator;
@@ -28,6 +28,9 @@ use eo_type::Types;
 use std::alloc::Global;
 use std::marker::Model;
 use std::test::Fail;
+
+/// The number of the constant `and`.
+pub(super) const AND: usize = 7;
 
 /// A table and a signature over it. It declares the constants `p` and `q` of type `Bool`, 4 and 5,
 /// `not`, 6, `and` with the terminator `true`, 7, `Int`, 8, which is the type of numerals, and `c`
@@ -184,7 +187,7 @@ impl World {
 
     /// The item before the conjunction.
     pub(super) fn and(&mut self, first: Id, rest: Id) -> Result<Id, Fail> {
-        let and = self.con(7)?;
+        let and = self.con(AND)?;
         let front = self.app(and, first)?;
         self.app(front, rest)
     }
@@ -246,8 +249,47 @@ impl World {
         Ok(())
     }
 
-    /// Declares a rule.
-    pub(super) fn rule(&mut self, name: &[u8], form: &Form<'_>) -> Result<(), Fail> {
+    /// Where its memory comes from.
+    pub(super) fn alloc(&self) -> Global {
+        self.alloc
+    }
+
+    // Adds the program 0, with these cases, each a pattern and a body.
+    fn declare_program(&mut self, rows: &[(&str, &str)]) -> Result<(), Fail> {
+        let mut cases = Vec::new(self.alloc);
+        for (pattern, body) in rows {
+            let case = (self.term(pattern)?, self.term(body)?);
+            cases.push(case)?;
+        }
+        self.program(b"u", cases.as_slice())
+    }
+
+    // Declares rules.
+    fn declare_rules(&mut self, rows: &[RuleRow<'_>]) -> Result<(), Fail> {
+        for row in rows {
+            let form = self.form(row)?;
+            self.rule(row.0.as_bytes(), &form)?;
+        }
+        Ok(())
+    }
+
+    // The terms of a rule.
+    fn form(&mut self, row: &RuleRow<'_>) -> Result<Form, Fail> {
+        let (_, types, assumption, premises, args, requirement, conclusion) = *row;
+        let list = premises.strip_prefix("*");
+        Ok(Form {
+            types: self.terms(types)?,
+            assumption: self.optional(assumption)?,
+            premises: self.terms(list.unwrap_or(premises))?,
+            joins: list.is_some(),
+            args: self.terms(args)?,
+            requirement: self.pair(requirement)?,
+            conclusion: self.term(conclusion)?,
+        })
+    }
+
+    // Declares a rule.
+    fn rule(&mut self, name: &[u8], form: &Form) -> Result<(), Fail> {
         let d = ordered_rule(self.alloc, &self.table, name, form)?;
         if !self.sig.is_free_rule(d.name.as_bytes()) {
             return Err(Fail::new("no free name"));
@@ -256,38 +298,66 @@ impl World {
         Ok(())
     }
 
-    /// The first row that gives another answer than it says, if one does. What stands for the
-    /// parameters is held in one assignment for all rows.
-    pub(super) fn wrong(&mut self, rows: &[Row<'_>]) -> Result<Option<usize>, Fail> {
+    // The first row that gives another answer than it says, if one does. What stands for the
+    // parameters is held in one assignment for all rows.
+    fn wrong(&mut self, rows: &[UseRow<'_>]) -> Result<Option<usize>, Fail> {
         let mut subst = Subst::new(self.alloc)?;
-        for i in 0..rows.len() {
-            if self.told(&mut subst, &rows[i])? != rows[i].want {
+        for (i, row) in rows.iter().enumerate() {
+            if !self.is_right(&mut subst, row)? {
                 return Ok(Some(i));
             }
         }
         Ok(None)
     }
 
+    // Whether a row gives what it says.
+    fn is_right(&mut self, subst: &mut Subst, row: &UseRow<'_>) -> Result<bool, Fail> {
+        let given = self.given(row)?;
+        let want = self.wanted(row.5)?;
+        Ok(self.told(subst, row.0.as_bytes(), &given)? == want)
+    }
+
+    // The terms that a row gives.
+    fn given(&mut self, row: &UseRow<'_>) -> Result<Given, Fail> {
+        let (_, assumption, premises, args, stated, _) = *row;
+        Ok(Given {
+            assumption: self.optional(assumption)?,
+            premises: self.terms(premises)?,
+            args: self.terms(args)?,
+            stated: self.optional(stated)?,
+        })
+    }
+
+    // What is wanted, with its term.
+    fn wanted(&mut self, want: Want<'_>) -> Result<Told, Fail> {
+        match want {
+            Want::Formula(code) => Ok(Told::Formula(self.term(code)?)),
+            Want::Fault(name) => Ok(Told::Fault(name)),
+        }
+    }
+
     // What a use of a rule gives.
-    fn told(&mut self, subst: &mut Subst, row: &Row<'_>) -> Result<Told, Fail> {
-        let given = given(self.alloc, &self.table, row)?;
-        let Some(rule) = self.sig.rule(row.rule) else {
+    fn told(&mut self, subst: &mut Subst, name: &[u8], given: &Given) -> Result<Told, Fail> {
+        let given = values_given(self.alloc, &self.table, given)?;
+        let Some(rule) = self.sig.rule(name) else {
             return Err(Fail::new("no such rule"));
         };
         told_by(self.alloc, &self.sig, &mut self.table, subst, rule, &given)
     }
 }
 
-/// What a function tells of a new world. It alone owns one: each way out of a function that does
-/// is dear to prove.
-pub(super) fn tell<T, F: FnOnce(&mut World) -> Result<T, Fail>>(
+/// The first use of a rule that gives another answer than its row says, if one does, in a new world
+/// with these rules, and with a program of these cases, each a pattern and a body.
+pub(super) fn wrong(
     alloc: Global,
-    f: F,
-) -> Result<T, Fail>
-    requires { F.IsAlwaysCallable f }
-{
+    cases: &[(&str, &str)],
+    rules: &[RuleRow<'_>],
+    rows: &[UseRow<'_>],
+) -> Result<Option<usize>, Fail> {
     let mut w = World::new(alloc)?;
-    f(&mut w)
+    w.declare_program(cases)?;
+    w.declare_rules(rules)?;
+    w.wrong(rows)
 }
 
 // What a use of the rule of this number gives.
@@ -437,12 +507,7 @@ fn param(alloc: Global, table: &Table, ty: Id) -> Result<Param, Fail>
 }
 
 // A rule of which the type of each parameter uses earlier ones only.
-fn ordered_rule(
-    alloc: Global,
-    table: &Table,
-    name: &[u8],
-    form: &Form<'_>,
-) -> Result<RuleDecl, Fail>
+fn ordered_rule(alloc: Global, table: &Table, name: &[u8], form: &Form) -> Result<RuleDecl, Fail>
     ensures below { IfOk result (RuleBelow (length table.now.trees)) }
     ensures ordered { IfOk result (λ (d : RuleDecl). AreOrdered table.now.trees d.params) }
 {
@@ -528,15 +593,15 @@ fn program(
 }
 
 // A rule.
-fn rule(alloc: Global, table: &Table, name: &[u8], form: &Form<'_>) -> Result<RuleDecl, Fail>
+fn rule(alloc: Global, table: &Table, name: &[u8], form: &Form) -> Result<RuleDecl, Fail>
     ensures { IfOk result (RuleBelow (length table.now.trees)) }
 {
     Ok(RuleDecl {
         name: Name::new(alloc, name)?,
-        params: params(alloc, table, form.types)?,
+        params: params(alloc, table, form.types.as_slice())?,
         assumption: live_or_none(table, form.assumption)?,
         premises: shape(alloc, table, form)?,
-        args: terms(alloc, table, form.args)?,
+        args: terms(alloc, table, form.args.as_slice())?,
         requirements: requirements(alloc, table, form.requirement)?,
         conclusion: live(table, form.conclusion)?,
         sorry: false,
@@ -544,18 +609,19 @@ fn rule(alloc: Global, table: &Table, name: &[u8], form: &Form<'_>) -> Result<Ru
 }
 
 // What its premises are matched with.
-fn shape(alloc: Global, table: &Table, form: &Form<'_>) -> Result<PremiseShape, Fail>
+fn shape(alloc: Global, table: &Table, form: &Form) -> Result<PremiseShape, Fail>
     ensures { IfOk result (PremisesBelow (length table.now.trees)) }
 {
-    let Some(with) = form.with else {
-        return Ok(PremiseShape::Each(terms(alloc, table, form.premises)?));
-    };
-    let Some(pattern) = form.premises.first() else {
+    let premises = form.premises.as_slice();
+    if !form.joins {
+        return Ok(PremiseShape::Each(terms(alloc, table, premises)?));
+    }
+    let Some(pattern) = premises.first() else {
         return Err(Fail::new("no pattern"));
     };
     Ok(PremiseShape::Joined {
         pattern: live(table, *pattern)?,
-        with,
+        with: AND,
     })
 }
 
@@ -570,16 +636,16 @@ fn requirements(alloc: Global, table: &Table, pair: Option<(Id, Id)>) -> Result<
     Ok(list)
 }
 
-// What a row gives to its rule, if that are values.
-fn given(alloc: Global, table: &Table, row: &Row<'_>) -> Result<RuleUse, Fail>
+// What is given to a rule, if that are values.
+fn values_given(alloc: Global, table: &Table, given: &Given) -> Result<RuleUse, Fail>
     ensures live { IfOk result (UseBelow (length table.now.trees)) }
     ensures values { IfOk result (AreValuesIn table.now) }
 {
     Ok(RuleUse {
-        assumption: value_or_none(table, row.assumption)?,
-        premises: values(alloc, table, row.premises)?,
-        args: values(alloc, table, row.args)?,
-        stated: live_or_none(table, row.stated)?,
+        assumption: value_or_none(table, given.assumption)?,
+        premises: values(alloc, table, given.premises.as_slice())?,
+        args: values(alloc, table, given.args.as_slice())?,
+        stated: live_or_none(table, given.stated)?,
     })
 }
 

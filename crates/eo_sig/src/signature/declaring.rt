@@ -1,5 +1,5 @@
 //! Calls that declare.
-ghost use Rattle.std.specs.Prelude.{◌≡◌, ℕ, ◌<◌, List, length, map, true, None, not, is_none, IfOk, OnOk, OnErr};
+ghost use Rattle.std.specs.Prelude.{◌≡◌, ℕ, ◌<◌, List, length, map, true, None, is_some, IfOk, OnOk, OnErr};
 ghost use Rattle.eo_term.specs.Tree.{Tree};
 ghost use Rattle.eo_term.specs.Terms.{tree_at};
 ghost use Rattle.eo_sig.specs.Signature as sig;
@@ -168,9 +168,9 @@ impl Signature {
         }
     }
 
-    // Whether the number is that of a constant with a terminator at the right.
-    fn has_terminator(&self, n: usize) -> bool
-        ensures { (ts : List Tree) → result ≡ not (is_none (sig.terminator (signature ts self.now) n)) }
+    /// Whether the number is that of a constant with a terminator at the right.
+    pub fn has_terminator(&self, n: usize) -> bool
+        ensures { (ts : List Tree) → result ≡ is_some (sig.terminator (signature ts self.now) n) }
     {
         n < self.constants.len() && ends_at_right(&self.constant(n).attribute)
     }

@@ -1,26 +1,25 @@
-use Rattle.std.proofs.Common.{sym, ◌∙◌, ap, Some, None, []}
+use Rattle.std.proofs.Common.{sym, ◌∙◌, ap, Some, None}
 use Rattle.eo_shape.specs.Words.{symbol_of}
 use Rattle.eo_elab.specs.Forms.{application}
-use Rattle.eo_names.specs.Worlds.{world}
-use Rattle.eo_elab.specs.Worlds.{sexps, application_in, word_in}
+use Rattle.eo_elab.specs.Worlds.{place, sexps, application_in, word_in}
 use Rattle.eo_elab.proofs.Giving.{formed_on}
 use Rattle.eo_elab.proofs.PlanLemmas.{some_given, none_counted}
 use Rattle.eo_elab.proofs.plan.form_of.Goals as goal
 
 pub returns-then-len-eq0-clause-form : goal.returns-then-len-eq0-clause-form
-returns-then-len-eq0-clause-form c = λ parts.
-    let w = world c.args.table.now c.args.sig.now c.args.scope.now in
-    none_counted w.names w.locals c.args.args.now parts (symbol_of c.args.head.now) (sym c.len.ensures.value ∙ c.if-len-eq0.true)
+returns-then-len-eq0-clause-form c = λ parts labels.
+    let w = place c.args.table.now c.args.sig.now c.args.scope.now in
+    none_counted w.names w.locals c.args.args.now parts labels (symbol_of c.args.head.now) (sym c.len.ensures.value ∙ c.if-len-eq0.true)
 
 pub returns-in-Some-clause-form : goal.returns-in-Some-clause-form
 returns-in-Some-clause-form c =
-    let w = world c.args.table.now c.args.sig.now c.args.scope.now in
+    let w = place c.args.table.now c.args.sig.now c.args.scope.now in
     formed_on w c.args.table.now c.args.args.now c.form_by_word.result (application_in w c.args.head.now c.args.args.now) (word_in w c.in-Some.name.now c.args.args.now)
-    (λ parts. ap (λ x. application w.names w.locals (sexps c.args.args.now) parts x []) (sym c.in-Some.ensures) ∙ some_given w.names w.locals c.args.args.now parts (Some c.in-Some.name.now) (λ e. c.if-len-eq0.false (c.len.ensures.value ∙ e)))
+    (λ parts labels. ap (λ x. application w.names w.locals (sexps c.args.args.now) parts x labels) (sym c.in-Some.ensures) ∙ some_given w.names w.locals c.args.args.now parts labels (Some c.in-Some.name.now) (λ e. c.if-len-eq0.false (c.len.ensures.value ∙ e)))
     c.form_by_word.ensures.form
 
 pub returns-in-None-clause-form : goal.returns-in-None-clause-form
-returns-in-None-clause-form c = λ parts.
-    let w = world c.args.table.now c.args.sig.now c.args.scope.now in
-    ap (λ x. application w.names w.locals (sexps c.args.args.now) parts x []) (sym c.in-None.ensures)
-    ∙ some_given w.names w.locals c.args.args.now parts None (λ e. c.if-len-eq0.false (c.len.ensures.value ∙ e))
+returns-in-None-clause-form c = λ parts labels.
+    let w = place c.args.table.now c.args.sig.now c.args.scope.now in
+    ap (λ x. application w.names w.locals (sexps c.args.args.now) parts x labels) (sym c.in-None.ensures)
+    ∙ some_given w.names w.locals c.args.args.now parts labels None (λ e. c.if-len-eq0.false (c.len.ensures.value ∙ e))

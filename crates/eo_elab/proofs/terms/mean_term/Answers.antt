@@ -1,21 +1,18 @@
-use Rattle.std.proofs.Common.{length, ap, subst, rules, []}
-use Rattle.eo_names.specs.declared.scope.Scope.{the_lemmas}
+use Rattle.std.proofs.Common.{length, ap, sym, subst, ◌<◌, ◌∙◌, []}
+use Rattle.std.proofs.lemmas.List.Elements.{All-nil}
+use Rattle.eo_names.specs.Names.{Binding, BindingsBelow, read_locals}
+use Rattle.eo_names.specs.Ready.{context}
 use Rattle.eo_elab.specs.Meaning.{means, meaning, without_labels}
-use Rattle.eo_names.specs.Names.{read_locals}
-use Rattle.eo_names.specs.Ready.{context, IsReady}
+use Rattle.eo_elab.specs.Worlds.{labels_in}
 use Rattle.eo_elab.proofs.Giving.{unlabelled}
 use Rattle.eo_elab.proofs.terms.mean_term.Goals as goal
 
-pub mean-requires : goal.mean-requires
-mean-requires c = record { ready = subst (λ ls. IsReady (length c.args.table.now.trees) c.args.sig.now ls) (search (rules, the_lemmas)) c.requires.ready }
+pub mean_at-requires-clause-labels : goal.mean_at-requires-clause-labels
+mean_at-requires-clause-labels c = subst (BindingsBelow (length c.args.table.now.trees)) (sym c.new-labels.ensures) (All-nil (λ (b : Binding). b.1 < length c.args.table.now.trees))
 
 pub returns-clause-gives : goal.returns-clause-gives
 unfolding meaning
 returns-clause-gives c =
-    unlabelled c.mean.new.table c.mean.result _ _
-    (ap (λ ls. without_labels (means (context c.args.table.now.trees c.args.sig.now) (read_locals c.args.table.now.trees ls) c.args.s.now [])) (search (rules, the_lemmas))) c.mean.ensures.gives
-
-pub returns-clause-keeps : goal.returns-clause-keeps
-returns-clause-keeps c =
-    let v = c.names_law.ensures.stays c.args.sig.now c.args.locals.now c.args.table.now c.mean.new.table c.requires.ready c.mean.ensures.grows in
-    record { context = λ i. (v.world i).names; names = λ i. (v.world i).locals; ready = v.ready }
+    let t = c.args.table.now in
+    unlabelled c.mean_at.new.table c.mean_at.new.labels c.mean_at.result _ _
+    (ap (λ bs. without_labels (means (context t.trees c.args.sig.now) (read_locals t.trees c.args.locals.now) c.args.s.now (labels_in t bs))) (sym c.new-labels.ensures)) c.mean_at.ensures.gives

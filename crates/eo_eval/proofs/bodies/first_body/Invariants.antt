@@ -1,11 +1,11 @@
 use Rattle.std.proofs.Common.{◌≡◌, map, drop}
 use Rattle.eo_term.specs.Growth.{trees_in}
 use Rattle.eo_sig.specs.Reading.{read_case}
-use Rattle.eo_eval.specs.Evaluation.{first_match}
+use Rattle.eo_eval.specs.Bodies.{first_case}
 use Rattle.eo_eval.proofs.bodies.first_body.Given as goal
 
 abbrev pub invariant-loop-case : goal.invariant-loop-case
 invariant-loop-case l = record {
   same : l.table ≡ l.fn.table;
-  rest : first_match (map (read_case l.fn.table.trees) (drop l.case-index l.cases)) (trees_in l.fn.table l.args) ≡ first_match (map (read_case l.fn.table.trees) l.cases) (trees_in l.fn.table l.args);
+  rest : first_case (map (read_case l.fn.table.trees) (drop l.case-index l.cases)) (trees_in l.fn.table l.args) ≡ first_case (map (read_case l.fn.table.trees) l.cases) (trees_in l.fn.table l.args);
 }

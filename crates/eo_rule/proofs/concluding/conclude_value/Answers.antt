@@ -29,8 +29,8 @@ returns-clause-gives c =
     let mid = c.put_conclusion.new.table in
     let e = c.in_ok-id.ensures in
     let tree = e.gives.tree in
-    let same = (c.laws.ensures t mid c.requires.fit.below e.grows).stays.signature in
+    let same = (c.laws.ensures t mid c.requires.serves.fit.below e.grows).stays.signature in
     let low = ap is_tall (sym tree) ∙ c.laws-3.ensures.low c.in_ok-id.id e.gives.live in
-    subst (λ (o : Checked Tree). GivesTerm c.evaluate.new.table c.evaluate.result o)
+    subst (λ (o : Checked Tree). GivesTerm c.value_of.new.table c.value_of.result o)
     ((λ k. value_or_fault (eval0 (same k) (tree k))) ∙ sym (conclude-low S u low))
-    c.evaluate.ensures.gives
+    c.value_of.ensures.gives

@@ -21,7 +21,7 @@ returns-in_err-found-clause-gives c =
     let σ = held t.trees c.args.subst.now in
     let d = tree_at t.trees c.args.ty in
     let v = tree_at t.trees c.args.value in
-    assignment_fails c.type_of.new.table c.args.subst.now _ (check_value S σ d v) c.in_err-found.field-0.0 (typed S v) c.from_residual.ensures.1 (value-first S σ d v) c.in_err-found.ensures.gives
+    assignment_fails c.value_type.new.table c.args.subst.now _ (check_value S σ d v) c.in_err-found.field-0.0 (typed S v) c.from_residual.ensures.1 (value-first S σ d v) c.in_err-found.ensures.gives
 
 pub returns-in_err-expected-clause-gives : goal.returns-in_err-expected-clause-gives
 returns-in_err-expected-clause-gives c =
@@ -31,7 +31,7 @@ returns-in_err-expected-clause-gives c =
     let σ = held t.trees s in
     let d = tree_at t.trees c.args.ty in
     let v = tree_at t.trees c.args.value in
-    let mid = c.type_of.new.table in
+    let mid = c.value_type.new.table in
     let g = c.in_ok-found.ensures.grows.table.now in
     let same : held mid.trees s ≡ σ = (c.growing_law.ensures.holds s t mid c.requires.below g).held in
     let tree : tree_at mid.trees c.args.ty ≡ d = g.tree c.args.ty c.requires.ty in
@@ -47,7 +47,7 @@ returns-clause-gives c =
     let σ = held t.trees s in
     let d = tree_at t.trees c.args.ty in
     let v = tree_at t.trees c.args.value in
-    let mid = c.type_of.new.table in
+    let mid = c.value_type.new.table in
     let new = c.settled.new.table in
     let g = c.in_ok-found.ensures.grows.table.now in
     let h = c.in_ok-expected.ensures.grows.now in

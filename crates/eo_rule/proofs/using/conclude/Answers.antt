@@ -20,9 +20,10 @@ returns-clause-instance c =
     let S = signature t.trees c.args.sig.now in
     let u = read_use t.trees c.args.given.now in
     answers_only c.conclude_by.new.table c.conclude_by.result (conclusion_in c.args.sig.now t c.args.rule c.args.given.now) (ConcludesIn c.args.sig.now t c.args.rule c.args.given.now)
-    (λ x e. c.conclusion_law.ensures.sound S c.args.rule u x c.requires.usable c.requires.values e)
-    (λ x k. c.conclusion_law.ensures.complete S c.args.rule u x c.requires.usable c.requires.values k)
+    (λ x e. c.conclusion_law.ensures.sound S c.args.rule u x c.requires.serves.usable c.requires.values e)
+    (λ x k. c.conclusion_law.ensures.complete S c.args.rule u x c.requires.serves.usable c.requires.values k)
+    c.conclude_by.ensures.value
     (returns-clause-gives c)
 
 pub conclude_by-requires-clause-rule : goal.conclude_by-requires-clause-rule
-conclude_by-requires-clause-rule c = c.rule_of-rule.ensures.below _ c.requires.fit.below
+conclude_by-requires-clause-rule c = c.rule_of-rule.ensures.below _ c.requires.serves.fit.below

@@ -51,8 +51,8 @@ returns-clause-calling c =
     let count : length b ≡ c.len-place.result = begun_count t.trees e.calls.entries ∙ sym c.len-place.ensures.len in
     let room = below_test (length b) calls_limit (omega (arith, count, c.if-place-ge-CALLS.false)) in
     let added = c.in_ok-insert.ensures.entries ∙ insert_entry-new key_eq.ghosts.eq e.calls key known.Open (none_of (get key_eq.ghosts.eq e.calls key) absent) in
-    subst (Calling k t typed later) (sym (ap (called_at t later) c.len-place.ensures.len ∙ began_called k t typed e later key c.requires.key c.requires.calling refl refl added refl fresh room))
-    (began_calling k t typed e later key c.requires.key c.requires.calling refl refl added refl fresh room)
+    subst (Calling k t typed later) (sym (ap (called_at t later) c.len-place.ensures.len ∙ began_called k t typed e later key c.requires.key c.requires.calling refl refl refl added refl refl fresh room))
+    (began_calling k t typed e later key c.requires.key c.requires.calling refl refl refl added refl refl fresh room)
 
 pub returns-clause-told : goal.returns-clause-told
 returns-clause-told c =
@@ -68,5 +68,5 @@ returns-clause-told c =
     let count : length b ≡ c.len-place.result = begun_count t.trees e.calls.entries ∙ sym c.len-place.ensures.len in
     let room = below_test (length b) calls_limit (omega (arith, count, c.if-place-ge-CALLS.false)) in
     let added = c.in_ok-insert.ensures.entries ∙ insert_entry-new key_eq.ghosts.eq e.calls key known.Open (none_of (get key_eq.ghosts.eq e.calls key) absent) in
-    ap (λ y. told_call k t later y c.args.left) (ap (called_at t later) c.len-place.ensures.len ∙ began_called k t typed e later key c.requires.key c.requires.calling refl refl added refl fresh room)
-    ∙ began_told k t typed e later key c.requires.key c.requires.calling refl refl added refl fresh room c.args.left c.requires.left
+    ap (λ y. told_call k t later y c.args.left) (ap (called_at t later) c.len-place.ensures.len ∙ began_called k t typed e later key c.requires.key c.requires.calling refl refl refl added refl refl fresh room)
+    ∙ began_told k t typed e later key c.requires.key c.requires.calling refl refl refl added refl refl fresh room c.args.left c.requires.left

@@ -19,7 +19,7 @@ returns-in-Some-clause-told c =
     let ts = c.args.table.now.trees in
     let S = signature ts c.args.sig.now in
     let e = c.args.self.now in
-    recalls_told S calls_limit ts (begun ts e.calls.entries) e.stack.frames.items e.stack.values.items (calls S calls_limit (called_at c.args.table.now e c.args.place)) c.args.left c.in-Some.now (c.in-Some.ensures S calls_limit ts c.requires.calling.held.remembers)
+    recalls_told S calls_limit ts (begun ts e.calls.entries) e.scope e.stack.frames.items e.stack.values.items (calls S calls_limit (called_at c.args.table.now e c.args.place)) c.args.left c.in-Some.now (c.in-Some.ensures S calls_limit ts c.requires.calling.held.remembers)
 
 pub returns-in-Some-clause-ready : goal.returns-in-Some-clause-ready
 returns-in-Some-clause-ready c =
@@ -29,7 +29,7 @@ returns-in-Some-clause-ready c =
     let h = c.requires.calling in
     record {
       held = h.held;
-      stands = recalls_stands S calls_limit ts (begun ts e.calls.entries) e.stack.frames.items e.stack.values.items (calls S calls_limit (called_at c.args.table.now e c.args.place)) c.args.left c.in-Some.now next.Deep (c.in-Some.ensures S calls_limit ts h.held.remembers) h.waits h.stands;
+      stands = recalls_stands S calls_limit ts (begun ts e.calls.entries) e.scope e.stack.frames.items e.stack.values.items (calls S calls_limit (called_at c.args.table.now e c.args.place)) c.args.left c.in-Some.now next.Deep (c.in-Some.ensures S calls_limit ts h.held.remembers) h.waits h.stands;
     }
 
 pub returns-in-None-clause-told : goal.returns-in-None-clause-told

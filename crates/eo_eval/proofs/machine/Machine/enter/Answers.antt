@@ -1,51 +1,67 @@
-use Rattle.std.proofs.Common.{◌∙◌, sym, ap, reverse}
+use Rattle.std.proofs.Common.{◌∙◌, reverse, sym, refl}
 use Rattle.eo_base.specs.Limits.{calls_limit}
 use Rattle.eo_term.specs.Terms.{tree_at}
 use Rattle.eo_sig.specs.Reading.{signature}
-use Rattle.eo_eval.specs.Evaluation.{call_within}
-use Rattle.eo_eval.specs.Machine.{evals, finish}
-use Rattle.eo_eval.specs.Reading.{begun, waiting}
-use Rattle.eo_eval.proofs.Itself.{value_itself, value_again, recalls_told, recalls_stands}
+use Rattle.eo_eval.specs.Evaluation.{Value}
+use Rattle.eo_eval.specs.Machine.{evals}
+use Rattle.eo_eval.specs.Reading.{begun}
+use Rattle.eo_eval.specs.Scopes.{entered}
 use Rattle.eo_eval.specs.declared.stack.Now.TheVariants as next
+use Rattle.eo_eval.proofs.Entered.{entered_value}
+use Rattle.eo_eval.proofs.Itself.{value_told, value_stands, value_entered, recalls_told, recalls_stands}
+use Rattle.eo_eval.proofs.Same.{scope_of}
 use Rattle.eo_eval.proofs.machine.Machine.enter.Goals as goal
 
 pub returns-then-is_value-clause-told : goal.returns-then-is_value-clause-told
 returns-then-is_value-clause-told c =
     let ts = c.args.table.now.trees in
     let S = signature ts c.args.sig.now in
-    let b = begun ts c.args.self.now.calls.entries in
-    ap (finish S calls_limit (waiting ts b (reverse c.args.self.now.stack.frames.items) c.args.self.now.stack.values.items))
-    (sym (value_itself S (call_within S calls_limit c.args.left) (tree_at ts c.args.id) b (sym c.is_value.ensures.value ∙ c.if-is_value.true) (c.is_value.ensures.low c.args.id c.requires.ready.stands.now_live)))
+    let e = c.args.self.now in
+    let b = begun ts e.calls.entries in
+    let fs = e.stack.frames.items in
+    let vs = e.stack.values.items in
+    let s = c.requires.ready.stands in
+    let i = c.args.id in
+    let value = sym c.is_value.ensures.value ∙ c.if-is_value.true in
+    let h = value_entered S calls_limit ts e.scope i i (entered_value ts e.scope i value) value (c.is_value.ensures.low i s.now_live) in
+    value_told S calls_limit ts b e.scope fs vs i c.args.left (Value (tree_at ts i)) h i refl
 
 pub returns-then-is_value-clause-ready : goal.returns-then-is_value-clause-ready
 returns-then-is_value-clause-ready c =
     let ts = c.args.table.now.trees in
     let S = signature ts c.args.sig.now in
-    let b = begun ts c.args.self.now.calls.entries in
+    let e = c.args.self.now in
+    let b = begun ts e.calls.entries in
+    let fs = e.stack.frames.items in
+    let vs = e.stack.values.items in
     let s = c.requires.ready.stands in
-    record {
-      held = c.requires.ready.held;
-      stands = record {
-        now_live = s.now_live;
-        frames_live = s.frames_live;
-        placed = s.placed;
-        values_live = s.values_live;
-        based = s.based;
-        waits = (evals S calls_limit (tree_at ts c.args.id), (s.waits, value_again S calls_limit (tree_at ts c.args.id) b (sym c.is_value.ensures.value ∙ c.if-is_value.true) (c.is_value.ensures.low c.args.id s.now_live)));
-      };
-    }
+    let i = c.args.id in
+    let value = sym c.is_value.ensures.value ∙ c.if-is_value.true in
+    let h = value_entered S calls_limit ts e.scope i i (entered_value ts e.scope i value) value (c.is_value.ensures.low i s.now_live) in
+    record { held = c.requires.ready.held; stands = value_stands S calls_limit ts b e.scope fs vs i c.args.left (Value (tree_at ts i)) h i refl s.now_live s }
 
 pub returns-in-Some-clause-told : goal.returns-in-Some-clause-told
 returns-in-Some-clause-told c =
     let ts = c.args.table.now.trees in
     let S = signature ts c.args.sig.now in
-    recalls_told S calls_limit ts (begun ts c.args.self.now.calls.entries) c.args.self.now.stack.frames.items c.args.self.now.stack.values.items (evals S calls_limit (tree_at ts c.args.id)) c.args.left c.in-Some.known (c.in-Some.ensures S calls_limit ts c.requires.ready.held.remembers)
+    let e = c.args.self.now in
+    let b = begun ts e.calls.entries in
+    let fs = e.stack.frames.items in
+    let vs = e.stack.values.items in
+    let s = c.requires.ready.stands in
+    let F = evals S calls_limit (entered ts e.scope c.args.id) in
+    let recalls = c.in-Some.ensures S calls_limit c.requires.ready.held.remembers (scope_of S ts b e.scope (reverse fs) s.scoped) in
+    recalls_told S calls_limit ts b e.scope fs vs F c.args.left c.in-Some.known recalls
 
 pub returns-in-Some-clause-ready : goal.returns-in-Some-clause-ready
 returns-in-Some-clause-ready c =
     let ts = c.args.table.now.trees in
     let S = signature ts c.args.sig.now in
-    record {
-      held = c.requires.ready.held;
-      stands = recalls_stands S calls_limit ts (begun ts c.args.self.now.calls.entries) c.args.self.now.stack.frames.items c.args.self.now.stack.values.items (evals S calls_limit (tree_at ts c.args.id)) c.args.left c.in-Some.known (next.Enter c.args.id c.args.left) (c.in-Some.ensures S calls_limit ts c.requires.ready.held.remembers) c.requires.ready.stands.waits c.requires.ready.stands;
-    }
+    let e = c.args.self.now in
+    let b = begun ts e.calls.entries in
+    let fs = e.stack.frames.items in
+    let vs = e.stack.values.items in
+    let s = c.requires.ready.stands in
+    let F = evals S calls_limit (entered ts e.scope c.args.id) in
+    let recalls = c.in-Some.ensures S calls_limit c.requires.ready.held.remembers (scope_of S ts b e.scope (reverse fs) s.scoped) in
+    record { held = c.requires.ready.held; stands = recalls_stands S calls_limit ts b e.scope fs vs F c.args.left c.in-Some.known (next.Enter c.args.id c.args.left) recalls s.waits s }

@@ -1,25 +1,55 @@
-use Rattle.std.proofs.Common.{subst}
+use Rattle.std.proofs.Common.{sym, ap, refl}
 use Rattle.eo_base.specs.Limits.{calls_limit}
 use Rattle.eo_term.specs.Terms.{tree_at, text_at}
 use Rattle.eo_sig.specs.Reading.{signature}
-use Rattle.eo_eval.specs.Reading.{IsWhole, begun}
-use Rattle.eo_eval.proofs.Steps.{whole_var, whole_app, whole_arr}
+use Rattle.eo_eval.specs.Evaluation.{Stuck}
+use Rattle.eo_eval.specs.Reading.{begun, is_par}
+use Rattle.eo_eval.specs.Scopes.{standing}
+use Rattle.eo_eval.proofs.Entered.{whole_put_var, whole_put_app, whole_put_arr}
+use Rattle.eo_eval.proofs.Itself.{arrow_entered, stuck_told, stuck_stands}
 use Rattle.eo_eval.proofs.machine.Machine.enter_node.Goals as goal
 
-pub begin_parts-requires-clause-whole : goal.begin_parts-requires-clause-whole
-begin_parts-requires-clause-whole c = subst IsWhole c.in-Var.ensures.tree (λ S call b. whole_var S call (text_at c.args.table.now.texts c.in-Var.name) (tree_at c.args.table.now.trees c.in-Var.ty) b)
+pub enter_parts-requires-clause-node : goal.enter_parts-requires-clause-node
+enter_parts-requires-clause-node c = ap is_par (sym c.in-Var.ensures.tree)
 
-pub returns-in-Var-clause-told : goal.returns-in-Var-clause-told
-returns-in-Var-clause-told c = c.begin_parts.ensures.told (signature c.args.table.now.trees c.args.sig.now) calls_limit (begun c.args.table.now.trees c.args.self.now.calls.entries)
+pub enter_parts-requires-clause-whole : goal.enter_parts-requires-clause-whole
+enter_parts-requires-clause-whole c =
+    let t = c.args.table.now in
+    whole_put_var (standing t.trees c.args.self.now.scope) (text_at t.texts c.in-Var.name) (tree_at t.trees c.in-Var.ty) (tree_at t.trees c.args.id) c.in-Var.ensures.tree
 
-pub begin_parts-requires-in-App-clause-whole : goal.begin_parts-requires-in-App-clause-whole
-begin_parts-requires-in-App-clause-whole c = subst IsWhole c.in-App.ensures.tree (λ S call b. whole_app S call (tree_at c.args.table.now.trees c.in-App.fun) (tree_at c.args.table.now.trees c.in-App.arg) b)
+pub enter_parts-requires-in-App-clause-node : goal.enter_parts-requires-in-App-clause-node
+enter_parts-requires-in-App-clause-node c = ap is_par (sym c.in-App.ensures.tree)
 
-pub returns-in-App-clause-told : goal.returns-in-App-clause-told
-returns-in-App-clause-told c = c.begin_parts-in-App.ensures.told (signature c.args.table.now.trees c.args.sig.now) calls_limit (begun c.args.table.now.trees c.args.self.now.calls.entries)
+pub enter_parts-requires-in-App-clause-whole : goal.enter_parts-requires-in-App-clause-whole
+enter_parts-requires-in-App-clause-whole c =
+    let t = c.args.table.now in
+    whole_put_app (standing t.trees c.args.self.now.scope) (tree_at t.trees c.in-App.fun) (tree_at t.trees c.in-App.arg) (tree_at t.trees c.args.id) c.in-App.ensures.tree
 
-pub begin_parts-requires-in-Arr-clause-whole : goal.begin_parts-requires-in-Arr-clause-whole
-begin_parts-requires-in-Arr-clause-whole c = subst IsWhole c.in-Arr.ensures.tree (λ S call b. whole_arr S call (tree_at c.args.table.now.trees c.in-Arr.from) (tree_at c.args.table.now.trees c.in-Arr.to) b)
+pub enter_parts-requires-in-Arr-clause-node : goal.enter_parts-requires-in-Arr-clause-node
+enter_parts-requires-in-Arr-clause-node c = ap is_par (sym c.in-Arr.ensures.tree)
 
-pub returns-in-Arr-clause-told : goal.returns-in-Arr-clause-told
-returns-in-Arr-clause-told c = c.begin_parts-in-Arr.ensures.told (signature c.args.table.now.trees c.args.sig.now) calls_limit (begun c.args.table.now.trees c.args.self.now.calls.entries)
+pub enter_parts-requires-in-Arr-clause-whole : goal.enter_parts-requires-in-Arr-clause-whole
+enter_parts-requires-in-Arr-clause-whole c =
+    let t = c.args.table.now in
+    whole_put_arr (standing t.trees c.args.self.now.scope) (tree_at t.trees c.in-Arr.from) (tree_at t.trees c.in-Arr.to) (tree_at t.trees c.args.id) c.in-Arr.ensures.tree
+
+pub returns-in-Qar-clause-told : goal.returns-in-Qar-clause-told
+returns-in-Qar-clause-told c =
+    let ts = c.args.table.now.trees in
+    let S = signature ts c.args.sig.now in
+    let e = c.args.self.now in
+    let b = begun ts e.calls.entries in
+    let fs = e.stack.frames.items in
+    let vs = e.stack.values.items in
+    stuck_told S calls_limit ts b e.scope fs vs c.args.id c.args.left Stuck (arrow_entered S calls_limit ts e.scope c.args.id _ _ _ c.in-Qar.ensures.tree) refl
+
+pub returns-in-Qar-clause-ready : goal.returns-in-Qar-clause-ready
+returns-in-Qar-clause-ready c =
+    let ts = c.args.table.now.trees in
+    let S = signature ts c.args.sig.now in
+    let e = c.args.self.now in
+    let b = begun ts e.calls.entries in
+    let fs = e.stack.frames.items in
+    let vs = e.stack.values.items in
+    let s = c.requires.ready.stands in
+    record { held = c.requires.ready.held; stands = stuck_stands S calls_limit ts b e.scope fs vs c.args.id c.args.left Stuck (arrow_entered S calls_limit ts e.scope c.args.id _ _ _ c.in-Qar.ensures.tree) refl s }

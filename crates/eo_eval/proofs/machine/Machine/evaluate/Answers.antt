@@ -13,8 +13,8 @@ pub loop-init : goal.loop-init
 loop-init c =
     let fresh = c.requires.fresh in
     record {
-      told = first_told c.args.sig.now c.args.table.now c.args.self.now c.args.id fresh.frames fresh.values fresh.calls;
-      ready = first_ready c.args.sig.now c.args.table.now c.args.types.now c.args.self.now c.args.id fresh.frames fresh.values fresh.calls fresh.terms c.requires.usable c.requires.fit c.requires.live;
+      told = first_told c.args.sig.now c.args.table.now c.args.self.now c.args.id fresh.frames fresh.values fresh.scope fresh.calls;
+      ready = first_ready c.args.sig.now c.args.table.now c.args.types.now c.args.self.now c.args.id fresh c.requires.usable c.requires.fit c.requires.live;
       same = refl;
       grows = grows_under c.args.sig.now c.args.table.now c.args.table.now c.requires.fit.below (grows_refl c.args.table.now);
     }

@@ -1,52 +1,29 @@
-use Rattle.std.proofs.Common.{◌≡◌, ◌∙◌, sym, ap, subst}
-use Rattle.std.proofs.lemmas.Result.{IfOk-weaker}
-use Rattle.eo_term.specs.Tree.{Tree}
+use Rattle.std.proofs.Common.{◌≡◌, ◌∙◌, Ok, None, ap, subst, rules}
+use Rattle.std.specs.Prelude.{IfOk}
+use Rattle.indexmap.specs.Layout.{set_value_at}
 use Rattle.eo_sig.specs.Reading.{signature}
-use Rattle.eo_eval.specs.Bodies.{FindsBody}
-use Rattle.eo_eval.specs.Evaluation.{Ended, body_of}
-use Rattle.eo_eval.specs.Ready.{Calling, called_at, told_in, told_run}
-use Rattle.eo_eval.specs.declared.stack.Now as code_now
-use Rattle.eo_eval.proofs.Grown.{calling_grown, called_grown, run_told_grown}
+use Rattle.eo_eval.specs.Bodies.{Finds, chosen_case}
+use Rattle.eo_eval.specs.Ready.{called_at}
+use Rattle.eo_eval.specs.declared.stack.Known.TheVariants as known
+use Rattle.eo_eval.proofs.Running.{run_none_told, run_none_ready}
 use Rattle.eo_eval.proofs.machine.Machine.run.Goals as goal
 
-pub enter_body-requires-clause-calling : goal.enter_body-requires-clause-calling
-enter_body-requires-clause-calling c =
-    let k = c.args.sig.now in
-    let old = c.args.table.now in
-    let new = c.body_at-found.new.table in
-    let u = c.body_at-found.ensures.grows in
+pub returns-in-None-clause-told : goal.returns-in-None-clause-told
+returns-in-None-clause-told c =
+    let t = c.args.table.now in
     let e = c.args.self.now in
-    let typed = c.args.types.now in
-    let h = c.requires.calling in
-    let fit = c.laws.ensures.grown k old new u.table.now h.held.fit in
-    subst (Calling k new typed e) (sym (called_grown k old new u e typed typed fit h.held c.args.place)) (calling_grown k old new u e typed typed fit (called_at old e c.args.place) h)
+    let none : c.find.result ≡ Ok None = search rules in
+    let without = subst (λ r. IfOk r (λ o. Finds t c.find.new.self.subst o (chosen_case (signature t.trees c.args.sig.now) (called_at t e c.args.place)))) none c.find.ensures.found in
+    run_none_told c.args.sig.now t c.args.types.now e c.args.place c.requires.place c.requires.calling c.finish_call.new.self
+    (c.finish_call.ensures.frames ∙ ap (λ s. s.frames.items) c.find.ensures.stack) (c.finish_call.ensures.values ∙ ap (λ s. s.values.items) c.find.ensures.stack) (c.finish_call.ensures.scope ∙ c.find.ensures.scope)
+    (c.finish_call.ensures.calls ∙ ap (λ m. set_value_at m.entries c.args.place (known.Stuck 1)) c.find.ensures.calls) without c.args.left
 
-pub enter_body-requires-clause-body : goal.enter_body-requires-clause-body
-enter_body-requires-clause-body c =
-    let k = c.args.sig.now in
-    let old = c.args.table.now in
-    let new = c.body_at-found.new.table in
-    let u = c.body_at-found.ensures.grows in
+pub returns-in-None-clause-ready : goal.returns-in-None-clause-ready
+returns-in-None-clause-ready c =
+    let t = c.args.table.now in
     let e = c.args.self.now in
-    let typed = c.args.types.now in
-    let h = c.requires.calling in
-    let fit = c.laws.ensures.grown k old new u.table.now h.held.fit in
-    let r = c.body_at-found.result in
-    subst (λ S. FindsBody new r (body_of S (called_at new e c.args.place))) (sym u.stays.signature)
-    (subst (λ x. FindsBody new r (body_of (signature old.trees k) x)) (sym (called_grown k old new u e typed typed fit h.held c.args.place)) c.body_at-found.ensures.body)
-
-pub returns-clause-told : goal.returns-clause-told
-returns-clause-told c =
-    let k = c.args.sig.now in
-    let old = c.args.table.now in
-    let new = c.body_at-found.new.table in
-    let u = c.body_at-found.ensures.grows in
-    let e = c.args.self.now in
-    let typed = c.args.types.now in
-    let h = c.requires.calling in
-    let x = called_at old e c.args.place in
-    let fit = c.laws.ensures.grown k old new u.table.now h.held.fit in
-    let same : told_run k new e (called_at new e c.args.place) c.args.left ≡ told_run k old e x c.args.left =
-    ap (λ y. told_run k new e y c.args.left) (called_grown k old new u e typed typed fit h.held c.args.place) ∙ run_told_grown k old new u e typed typed fit x c.args.left h in
-    let P : Ended Tree → code_now.Now → Type 0 = λ r n. told_in k new c.enter_body.new.self n ≡ r in
-    IfOk-weaker c.enter_body.result (P (told_run k new e (called_at new e c.args.place) c.args.left)) (P (told_run k old e x c.args.left)) (λ n g. g ∙ same) c.enter_body.ensures.told
+    let none : c.find.result ≡ Ok None = search rules in
+    let without = subst (λ r. IfOk r (λ o. Finds t c.find.new.self.subst o (chosen_case (signature t.trees c.args.sig.now) (called_at t e c.args.place)))) none c.find.ensures.found in
+    run_none_ready c.args.sig.now t c.args.types.now e c.args.place c.requires.place c.requires.calling c.finish_call.new.self
+    (c.finish_call.ensures.frames ∙ ap (λ s. s.frames.items) c.find.ensures.stack) (c.finish_call.ensures.values ∙ ap (λ s. s.values.items) c.find.ensures.stack) (c.finish_call.ensures.scope ∙ c.find.ensures.scope)
+    (c.finish_call.ensures.calls ∙ ap (λ m. set_value_at m.entries c.args.place (known.Stuck 1)) c.find.ensures.calls) without (c.finish_call.ensures.terms ∙ ap (λ m. m.entries) c.find.ensures.terms) (c.finish_call.ensures.locals ∙ ap (λ m. m.entries) c.find.ensures.locals)

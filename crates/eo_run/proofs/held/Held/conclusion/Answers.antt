@@ -1,4 +1,6 @@
+use Rattle.eo_rule.specs.Reading.{ConcludesIn}
 use Rattle.eo_run.proofs.Holding.{keeps_types}
+use Rattle.eo_run.proofs.Used.{only_value}
 use Rattle.eo_run.proofs.held.Held.conclusion.Goals as goal
 
 pub returns-clause-keeps : goal.returns-clause-keeps
@@ -21,3 +23,8 @@ returns-clause-keeps c =
       signature = k.signature;
       grows = k.grows;
     }
+
+pub returns-clause-value : goal.returns-clause-value
+returns-clause-value c =
+    let h = c.args.self.now in
+    only_value c.conclude-formula.new.table c.conclude-formula.result (ConcludesIn h.signature h.table c.args.rule c.args.given.now) c.conclude-formula.ensures.instance

@@ -1,5 +1,5 @@
-use Rattle.std.proofs.Common.{◌≡◌, ◌<◌, ◌≤◌, not, length, sym, ap, ◌∙◌, subst, arith}
-use Rattle.std.specs.Prelude.{is_none, option_and_then}
+use Rattle.std.proofs.Common.{◌≡◌, ◌<◌, ◌≤◌, length, sym, ap, ◌∙◌, subst, arith}
+use Rattle.std.specs.Prelude.{is_some, option_and_then}
 use Rattle.std.proofs.lemmas.Bool.{le-ltb}
 use Rattle.std.proofs.lemmas.Option.{slice_get_past}
 use Rattle.eo_sig.specs.Signature as sig
@@ -16,7 +16,7 @@ constant-requires c =
 
 pub returns-then-n-len : goal.returns-then-n-len
 returns-then-n-len c = λ ts.
-    c.ends_at_right.ensures ts ∙ ap (λ o. not (is_none (option_and_then (λ (d : sig.Constant). sig.terminator_of d.attribute) o))) (sym (c.constant.ensures.value ts))
+    c.ends_at_right.ensures ts ∙ ap (λ o. is_some (option_and_then (λ (d : sig.Constant). sig.terminator_of d.attribute) o)) (sym (c.constant.ensures.value ts))
 
 pub returns-else-n-len : goal.returns-else-n-len
 returns-else-n-len c = λ ts.
@@ -24,4 +24,4 @@ returns-else-n-len c = λ ts.
     let past : length (constants_of c.args.self.now) ≤ c.args.n = subst (λ (k : Kept). length (constants_of k) ≤ c.args.n) c.self.view_is (omega (arith, c.if-n-len.false, c.len.ensures.len, count)) in
     let numbered : length (sig.constants (signature ts c.args.self.now)) ≡ length (constants_of c.args.self.now) = ap length (constants_read ts c.args.self.now.entries) ∙ length-map (constants_of c.args.self.now) (read_constant ts) in
     let absent = slice_get_past (sig.constants (signature ts c.args.self.now)) c.args.n (omega (arith, past, numbered)) in
-    le-ltb c.args.n c.len.result c.if-n-len.false ∙ ap (λ o. not (is_none (option_and_then (λ (d : sig.Constant). sig.terminator_of d.attribute) o))) (sym absent)
+    le-ltb c.args.n c.len.result c.if-n-len.false ∙ ap (λ o. is_some (option_and_then (λ (d : sig.Constant). sig.terminator_of d.attribute) o)) (sym absent)

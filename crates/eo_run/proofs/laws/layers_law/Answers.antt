@@ -1,0 +1,11 @@
+use Rattle.eo_run.proofs.laws.layers_law.Goals as goal
+
+pub returns : goal.returns
+returns c = record {
+  rules = c.ordering_law.ensures.rules;
+  macros = c.ordering_law.ensures.macros;
+  values = c.values_law.ensures;
+  concludes = c.conclusion_law.ensures.sound;
+  weakens = c.derivability_law.ensures.formulas;
+  lasts = c.derivability_law.ensures.signature;
+}

@@ -1,0 +1,21 @@
+-- What the layers below say of declarations, of evaluation, of the uses of rules and of derivability.
+use Rattle.std.specs.Prelude.{◌≡◌, ℕ, true, List, ◌++◌, Ok, Contains}
+use Rattle.eo_elab.specs.Declarations.{declared_rule, defined}
+use Rattle.eo_elab.specs.Fitting.{FitsTerms, macro_is_bound}
+use Rattle.eo_eval.specs.Evaluation.{Value, eval0}
+use Rattle.eo_names.specs.Contexts.{Context}
+use Rattle.eo_rule.specs.Derivability.{Derives}
+use Rattle.eo_rule.specs.Uses.{Use, AreGiven, Concludes, conclusion}
+use Rattle.eo_sexp.specs.Sexp.{Sexp}
+use Rattle.eo_shape.specs.Shapes.{ParameterShape, RuleShape}
+use Rattle.eo_sig.specs.Signature.{Signature, Macro, Rule, are_ordered}
+use Rattle.eo_sig.specs.Usable.{IsUsable}
+use Rattle.eo_term.specs.Tree.{Tree, is_value}
+
+pub record Layers : Type 0 where
+  pub rules : (c : Context) (s : RuleShape) (r : Rule) → FitsTerms c → declared_rule c s ≡ Ok r → are_ordered 0 r.parameters ≡ true
+  pub macros : (c : Context) (name : List ℕ) (params : List ParameterShape) (body : Sexp) (m : Macro) → FitsTerms c → defined c name params body ≡ Ok m → macro_is_bound m ≡ true
+  pub values : (S : Signature) (t v : Tree) → IsUsable S → eval0 S t ≡ Value v → is_value v ≡ true
+  pub concludes : (S : Signature) (number : ℕ) (given : Use) (formula : Tree) → IsUsable S → AreGiven given → conclusion S number given ≡ Ok formula → Concludes S number given formula
+  pub weakens : (S : Signature) (Γ Δ : List Tree) (t : Tree) → ((x : Tree) → Contains Γ x → Contains Δ x) → Derives S Γ t → Derives S Δ t
+  pub lasts : (S later : Signature) (Γ : List Tree) (t : Tree) → Derives S Γ t → Derives (S ++ later) Γ t
