@@ -1,6 +1,6 @@
 -- Attributes, one at a time, and the names that terms give themselves.
-use Rattle.std.proofs.Common.{◌≡◌, ◌<◌, ℕ, Bool, true, false, ◌&&◌, ◌||◌, List, [], ◌∷◌, ◌++◌, length, map, All, Option, None, Some, refl, sym, ap, subst, ◌∙◌, arith}
-use Rattle.std.specs.Prelude.{Ok, Err, not, option_map, is_some, unwrap_or, bytes_eq, codes, if◌then◌else◌, take}
+use Rattle.std.proofs.Common.{◌≡◌, ◌<◌, ℕ, Bool, true, false, ◌&&◌, ◌||◌, List, [], ◌∷◌, ◌++◌, length, Option, None, Some, refl, sym, ap, ◌∙◌}
+use Rattle.std.specs.Prelude.{Err, not, option_map, is_some, bytes_eq, codes, if◌then◌else◌, take}
 use Rattle.std.specs.List.{list_any}
 use Rattle.std.proofs.lemmas.List.{map-append, append_assoc}
 use Rattle.std.proofs.lemmas.List.Elements.{All-append, All-cons, All-nil}
@@ -17,7 +17,6 @@ use Rattle.eo_names.specs.Readers.{Label}
 use Rattle.eo_elab.specs.Gives.{NamesGrow}
 use Rattle.eo_elab.specs.Meaning.{are_attributes, names_given, name_before, is_free_label, label}
 use Rattle.eo_elab.specs.Worlds.{labels_in}
-use Rattle.eo_elab.proofs.Giving.{names_join}
 
 -- ---- attributes
 

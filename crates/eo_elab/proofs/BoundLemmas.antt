@@ -1,6 +1,6 @@
 -- Parameters that are read one after another.
 use Rattle.std.proofs.Common.{◌≡◌, ℕ, ◌<◌, ◌≤◌, Bool, true, false, not, ◌||◌, List, [], ◌∷◌, ◌++◌, map, length, All, refl, sym, ap, subst, ◌∙◌, arith}
-use Rattle.std.specs.Prelude.{Result, Ok, Err, bytes_eq}
+use Rattle.std.specs.Prelude.{Result, Ok, Err, bytes_eq, take}
 use Rattle.std.specs.Result.{IsErrAnd}
 use Rattle.std.specs.List.{list_any}
 use Rattle.std.proofs.lemmas.List.{map-append, length-map}
@@ -11,20 +11,22 @@ use Rattle.eo_base.specs.Checks.{Checked, ◌>>=◌, require}
 use Rattle.eo_sig.specs.declared.records.Param.{Param}
 use Rattle.eo_sig.specs.Reading.{read_parameter, Kept}
 use Rattle.eo_shape.specs.Shapes.{ParameterShape}
-use Rattle.eo_term.specs.Terms.{Terms, tree_at, Since}
-use Rattle.eo_term.specs.Tree.{Tree, Par}
+use Rattle.eo_term.specs.Terms.{Terms, tree_at, first_trees, Since}
+use Rattle.eo_term.specs.Tree.{Tree, Par, type_tree}
 use Rattle.eo_elab.specs.declared.parameters.Bound as code
 use Rattle.eo_base.specs.Answers.{Tells}
 use Rattle.eo_base.proofs.Answering.{tells_on}
 use Rattle.eo_names.specs.declared.refused.ElabRefused.{ElabRefused}
 use Rattle.eo_elab.specs.Gives.{ReadsParameter}
+use Rattle.eo_names.specs.declared.scope.Setting.{Setting}
 use Rattle.eo_names.specs.Refused.{told}
-use Rattle.eo_elab.specs.Worlds.{context_in}
-use Rattle.eo_elab.specs.Declarations.{Bound, bind, is_bound, with_parameter}
+use Rattle.eo_elab.specs.Worlds.{context_at}
+use Rattle.eo_elab.specs.Declarations.{Bound, bind, bind_types, is_bound, with_parameter}
 use Rattle.eo_elab.specs.Declaring.{read_bound}
 use Rattle.eo_names.specs.Contexts.{Context}
 use Rattle.eo_elab.specs.Meaning.{meaning}
-use Rattle.eo_names.specs.Names.{local, read_locals}
+use Rattle.eo_names.specs.Names.{local, read_locals, AreBelow}
+use Rattle.eo_names.specs.declared.locals.LocalName.{LocalName}
 
 -- ---- one parameter
 
@@ -64,6 +66,16 @@ parameters-grown n ts us (p ∷ ps) same h =
 pub parameters-more : (n m : ℕ) (ps : List Param) → n ≤ m → All (λ (p : Param). p.ty < n) ps → All (λ (p : Param). p.ty < m) ps
 parameters-more n m ps l h = All-weaker (λ (x : Param). x.ty < n) (λ (x : Param). x.ty < m) (λ x q. omega arith) ps h
 
+pub locals-grown : (n : ℕ) (ts us : List Tree) (ls : List LocalName) → ((i : ℕ) → i < n → tree_at us i ≡ tree_at ts i) → AreBelow n ls → read_locals us ls ≡ read_locals ts ls
+locals-grown n ts us [] same h = refl
+locals-grown n ts us (l ∷ ls) same h =
+    let own = same l.id (All-head (λ (x : LocalName). x.id < n) l ls h) in
+    let rest = locals-grown n ts us ls same (All-tail (λ (x : LocalName). x.id < n) l ls h) in
+    λ k. record { name = l.name; tree = own k; list = l.list } ∷ rest k
+
+pub locals-more : (n m : ℕ) (ls : List LocalName) → n ≤ m → AreBelow n ls → AreBelow m ls
+locals-more n m ls l h = All-weaker (λ (x : LocalName). x.id < n) (λ (x : LocalName). x.id < m) (λ x q. omega arith) ls h
+
 pub bound-grown : (b : code.Bound) (old new : Terms) → All (λ (p : Param). p.ty < length old.trees) b.params → read_locals new.trees b.locals ≡ read_locals old.trees b.locals → Since old new → read_bound new.trees b ≡ read_bound old.trees b
 bound-grown b old new below ls g =
     let ps = parameters-grown (length old.trees) old.trees new.trees b.params g.tree below in
@@ -82,8 +94,29 @@ bound-more b ts p id t e n =
 
 -- ---- one more, or a fault
 
-pub reads_fault : (k : Kept) (old new : Terms) (p : ParameterShape) (before after : code.Bound) (r : Result (Unit {0}) ElabRefused) (e : ElabRefused) (m : Checked Tree) → IsErrAnd r (λ x. x ≡ e)
-    → ((rest : List ParameterShape) (f : FaultName) → m ≡ Err f → bind (context_in old k) (read_bound old.trees before) (p ∷ rest) ≡ Err f) → Tells told e m → ReadsParameter k old new p before after r
-reads_fault k old new p before after (Ok x) e m q step h = absurd q
-reads_fault k old new p before after (Err x) e m q step h =
-    subst (λ y. (rest : List ParameterShape) → Tells told y (bind (context_in old k) (read_bound old.trees before) (p ∷ rest))) (sym q) (λ rest. tells_on told e (bind (context_in old k) (read_bound old.trees before) (p ∷ rest)) m (step rest) h)
+pub reads_fault : (k : Kept) (x : Setting) (old new : Terms) (p : ParameterShape) (before after : code.Bound) (r : Result (Unit {0}) ElabRefused) (e : ElabRefused) (m : Checked Tree) → IsErrAnd r (λ y. y ≡ e)
+    → ((rest : List ParameterShape) (f : FaultName) → m ≡ Err f → bind (context_at old k x) (read_bound old.trees before) (p ∷ rest) ≡ Err f) → Tells told e m → ReadsParameter k x old new p before after r
+reads_fault k x old new p before after (Ok u) e m q step h = absurd q
+reads_fault k x old new p before after (Err r) e m q step h =
+    subst (λ y. (rest : List ParameterShape) → Tells told y (bind (context_at old k x) (read_bound old.trees before) (p ∷ rest))) (sym q) (λ rest. tells_on told e (bind (context_at old k x) (read_bound old.trees before) (p ∷ rest)) m (step rest) h)
+
+-- ---- parameters that stand for types
+
+pub type-is-first : (ts : List Tree) → take 4 ts ≡ first_trees → (0 < length ts) × (tree_at ts 0 ≡ type_tree)
+type-is-first [] e = absurd cc
+type-is-first (t ∷ ts) e = (omega arith, cc)
+
+module _ (b : Bound) (name : List ℕ) (names : List (List ℕ)) where
+  abbrev named_type : Bound
+  named_type = with_parameter b (record { name = name; type = type_tree; implicit = false; list = false })
+
+  abbrev name_step : Bool → Checked Bound
+  name_step has = require (not has) Redeclared >>= λ _. bind_types named_type names
+
+  pub types-known : is_bound b name ≡ true → bind_types b (name ∷ names) ≡ Err Redeclared
+  unfolding ◌>>=◌ require
+  types-known e = ap name_step e
+
+  pub types-taken : (new : Bound) → is_bound b name ≡ false → new ≡ named_type → bind_types b (name ∷ names) ≡ bind_types new names
+  unfolding ◌>>=◌ require
+  types-taken new e n = ap name_step e ∙ ap (λ z. bind_types z names) (sym n)

@@ -1,5 +1,6 @@
 -- The parameters of a rule are in order, and what is defined uses its own parameters alone.
-use Rattle.std.specs.Prelude.{◌≡◌, ◌<◌, ℕ, suc, ◌+◌, Bool, true, nat_lt, List, [], ◌∷◌, ◌++◌, length, Ok, refl}
+use Rattle.std.specs.Prelude.{◌≡◌, ◌<◌, ℕ, suc, ◌+◌, Bool, true, false, nat_lt, List, [], ◌∷◌, ◌++◌, length, Ok, refl}
+use Rattle.std.specs.List.{list_all}
 use Rattle.std.proofs.Common.{subst, ap, arith}
 use Rattle.std.proofs.lemmas.Bool.Decides.{Decides-ltb}
 use Rattle.eo_base.proofs.ChecksLemmas.{ok_injective, bind_ok, require_then}
@@ -7,14 +8,16 @@ use Rattle.eo_base.proofs.Tests.{both}
 use Rattle.eo_sexp.specs.Sexp.{Sexp}
 use Rattle.eo_shape.specs.Shapes.{ParameterShape, RuleShape}
 use Rattle.eo_sig.specs.Signature.{Parameter, Macro, Rule, are_ordered}
-use Rattle.eo_term.specs.Tree.{Tree, uses_only}
+use Rattle.eo_term.specs.Tree.{Tree, type_tree, uses_only}
 use Rattle.eo_names.specs.Contexts.{Context, Local}
-use Rattle.eo_elab.specs.Meaning.{meaning}
-use Rattle.eo_elab.specs.Declarations.{Bound, unbound, with_parameter, bind, defined, declared_rule}
-use Rattle.eo_elab.specs.Fitting.{FitsTerms, macro_is_bound}
+use Rattle.eo_names.specs.Readers.{Label}
+use Rattle.eo_elab.specs.Meaning.{meaning, means}
+use Rattle.eo_elab.specs.Declarations.{Bound, unbound, with_parameter, bind, bind_types, defined, defined_fun, defined_sort, declared_rule}
+use Rattle.eo_elab.specs.Fitting.{FitsTerms, macro_is_bound, label_is_closed, are_free}
 use Rattle.eo_elab.proofs.Uses.{join, uses_more}
 use Rattle.eo_elab.proofs.SymbolUses.{LocalsWithin}
-use Rattle.eo_elab.proofs.MeansUses.{meaning_uses}
+use Rattle.eo_elab.proofs.MeansUses.{meaning_uses, means_reads}
+use Rattle.eo_elab.proofs.ReadingUses.{no_labels}
 
 -- the first n parameters
 abbrev below : ℕ → ℕ → Bool
@@ -59,6 +62,13 @@ parameter_fits b p h u =
       locals = join ((Decides-ltb n more).1 (omega (arith, longer))) (locals_more n more (omega (arith, longer)) b.locals h.locals);
     }
 
+types_fit : (names : List (List ℕ)) (b d : Bound) → BoundFits b → bind_types b names ≡ Ok d → BoundFits d
+types_fit [] b d h e = subst BoundFits (ok_injective b d e) h
+types_fit (name ∷ names) b d h e =
+    let free = require_then _ _ _ d e in
+    let q : Parameter = record { name = name; type = type_tree; implicit = false; list = false } in
+    types_fit names (with_parameter b q) d (parameter_fits b q h refl) free.1
+
 module _ (c : Context) (fits : FitsTerms c) where
   body_fits : (b : Bound) → BoundFits b → (s : Sexp) (t : Tree) → meaning c b.locals s ≡ Ok t →
       uses_only (below (length b.parameters)) t ≡ true
@@ -83,6 +93,36 @@ module _ (c : Context) (fits : FitsTerms c) where
       let t = bind_ok (meaning c b.0.locals body) _ m b.2 in
       subst (λ (x : Macro). macro_is_bound x ≡ true) (ok_injective _ m t.2)
       (body_fits b.0 (bind_fits shapes unbound b.0 unbound_fits b.1) body t.0 t.1)
+
+  pub defined_fun_fits : (name : List ℕ) (shapes : List ParameterShape) (output body : Sexp) (m : Macro) → defined_fun c name shapes output body ≡ Ok m →
+      macro_is_bound m ≡ true
+  unfolding defined_fun
+  defined_fun_fits name shapes output body m e =
+      let free = require_then _ _ _ m e in
+      let few = require_then _ _ _ m free.1 in
+      let b = bind_ok (bind c unbound shapes) _ m few.1 in
+      let type = bind_ok (meaning c b.0.locals output) _ m b.2 in
+      let t = bind_ok (meaning c b.0.locals body) _ m type.2 in
+      subst (λ (x : Macro). macro_is_bound x ≡ true) (ok_injective _ m t.2)
+      (body_fits b.0 (bind_fits shapes unbound b.0 unbound_fits b.1) body t.0 t.1)
+
+  pub defined_sort_fits : (name : List ℕ) (names : List (List ℕ)) (type : Sexp) (m : Macro) → defined_sort c name names type ≡ Ok m →
+      macro_is_bound m ≡ true
+  unfolding defined_sort
+  defined_sort_fits name names type m e =
+      let free = require_then _ _ _ m e in
+      let few = require_then _ _ _ m free.1 in
+      let b = bind_ok (bind_types unbound names) _ m few.1 in
+      let t = bind_ok (meaning c b.0.locals type) _ m b.2 in
+      subst (λ (x : Macro). macro_is_bound x ≡ true) (ok_injective _ m t.2)
+      (body_fits b.0 (types_fit names unbound b.0 unbound_fits b.1) type t.0 t.1)
+
+  -- names that a term gives itself are free, and stand for trees without parameters
+  pub labels_fit : (s : Sexp) (t : Tree) (labels : List Label) → means c [] s [] ≡ Ok (t, labels) →
+      (list_all label_is_closed labels ≡ true) × (are_free c [] labels ≡ true)
+  labels_fit s t labels e =
+      let within = (means_reads (below 0) c fits [] refl s [] (no_labels (below 0) c) (t, labels) e).1 in
+      (within.trees, within.free)
 
   -- the type of each parameter of a rule uses earlier ones alone
   pub declared_rule_ordered : (s : RuleShape) (r : Rule) → declared_rule c s ≡ Ok r → are_ordered 0 r.parameters ≡ true

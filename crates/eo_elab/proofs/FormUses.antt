@@ -163,15 +163,15 @@ module _ (known : ℕ → Bool) where
 
   -- ---- readings
 
-  pub used_reads : (args : Sexps) (u : Application) → ApplicationFits args u →
-      (arguments : Reader (List Tree)) → Reads known arguments (Given args) →
-      (in_binder : ℕ → Reader (List Tree)) → ((k : ℕ) → Reads known (in_binder k) (AllWithin known)) →
-      Reads known (used u arguments in_binder) (Within known)
-  used_reads args (Wrong fault) f arguments h in_binder k = fail_reads known (Within known) fault
-  used_reads args (Binds f collector) x arguments h in_binder k =
-      bind_reads known (AllWithin known) (Within known) (in_binder collector) (λ ts. built (applied (Con f) ts)) (k collector)
-      (λ ts g. built_reads known (applied (Con f) ts) (applied_uses known (Con f) ts refl g))
-  used_reads args (Uses made) f arguments h in_binder k =
-      bind_reads known (Given args) (Within known) arguments (λ ts. read (made ts) >>= built) h
-      (λ ts g. bind_reads known (Within known) (Within known) (read (made ts)) built
-      (read_reads known (Within known) (made ts) (f ts g)) (built_reads known))
+  pub used_reads : (c : Context) (args : Sexps) (u : Application) → ApplicationFits args u →
+      (arguments : Reader (List Tree)) → Reads known c arguments (Given args) →
+      (in_binder : ℕ → Reader (List Tree)) → ((k : ℕ) → Reads known c (in_binder k) (AllWithin known)) →
+      Reads known c (used u arguments in_binder) (Within known)
+  used_reads c args (Wrong fault) f arguments h in_binder k = fail_reads known c (Within known) fault
+  used_reads c args (Binds f collector) x arguments h in_binder k =
+      bind_reads known c (AllWithin known) (Within known) (in_binder collector) (λ ts. built (applied (Con f) ts)) (k collector)
+      (λ ts g. built_reads known c (applied (Con f) ts) (applied_uses known (Con f) ts refl g))
+  used_reads c args (Uses made) f arguments h in_binder k =
+      bind_reads known c (Given args) (Within known) arguments (λ ts. read (made ts) >>= built) h
+      (λ ts g. bind_reads known c (Within known) (Within known) (read (made ts)) built
+      (read_reads known c (Within known) (made ts) (f ts g)) (built_reads known c))

@@ -1,6 +1,6 @@
 -- What calls give, said in another way.
 use Rattle.std.proofs.Common.{◌≡◌, ℕ, ◌<◌, Bool, true, false, List, [], ◌∷◌, length, map, refl, ap, sym, subst, ◌∙◌, arith}
-use Rattle.std.specs.Prelude.{Result, Ok, Err, not, slice_get, take}
+use Rattle.std.specs.Prelude.{Result, Ok, Err, not, slice_get}
 use Rattle.std.specs.Result.{IsErrAnd}
 use Rattle.std.proofs.lemmas.List.Elements.{All-nil, All-head, All-tail, All-weaker}
 use Rattle.std.proofs.lemmas.List.{take_all}
@@ -39,9 +39,10 @@ use Rattle.eo_names.specs.Refused.{told, of_term}
 use Rattle.eo_names.specs.Ready.{IsReady}
 use Rattle.eo_names.specs.Worlds.{World, Read}
 use Rattle.eo_names.specs.declared.scope.Scope.{Scope}
-use Rattle.eo_names.specs.Scopes.{bound_in, setting_in}
+use Rattle.eo_names.specs.Scopes.{bound_in, setting_in, read_setting}
+use Rattle.eo_names.specs.declared.scope.Setting as code
 use Rattle.eo_names.specs.Laws.{WorldStays}
-use Rattle.eo_elab.specs.Worlds.{place, in_setting, context_in, labels_in, more_pairs_in}
+use Rattle.eo_elab.specs.Worlds.{place, in_setting, context_in, context_at, labels_in, more_pairs_in}
 
 -- the exit of a `?` refuses a pair for the same fault
 pub adds_fault : (w : World) (old new : Terms) (given gives : List Binding) (pair : Sexp) (before after : List Binding) (r : Result (Unit {0}) ElabRefused) (e : ElabRefused) → IsErrAnd r (λ x. x ≡ e)
@@ -59,6 +60,9 @@ none_ready k n ls e h = record { below = h; names = subst (AreBelow n) (sym e) (
 -- a table that grows keeps what is read
 pub same_context : (k : Kept) (old new : Terms) → StaysUnder k → IsBelow (length old.trees) k → Grows old new → context_in new k ≡ context_in old k
 same_context k old new law h g = let s = (law old new h g).stays in λ i. record { signature = s.signature i; macros = s.macros i; setting = InProof }
+
+pub same_context_at : (x : code.Setting) (k : Kept) (old new : Terms) → StaysUnder k → IsBelow (length old.trees) k → Grows old new → context_at new k x ≡ context_at old k x
+same_context_at x k old new law h g = let s = (law old new h g).stays in λ i. record { signature = s.signature i; macros = s.macros i; setting = read_setting x }
 
 -- what has no label, read with them
 pub labelled : (t : Terms) (ls : List Binding) (labels : List Label) → labels_in t ls ≡ labels → (r : Result ℕ ElabRefused) (o : Checked Tree) → GivesTree t r o → GivesTerm t ls r (with_labels labels o)

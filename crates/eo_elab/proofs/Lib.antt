@@ -22,3 +22,4 @@ pub mod FormUses
 pub mod MeansUses
 pub mod BoundUses
 pub mod RuleLemmas
+pub mod ReferenceLemmas

@@ -17,7 +17,7 @@ use Rattle.eo_elab.specs.Meaning.{atom, ListForm, ALet, AnAnnotation, ABitString
 use Rattle.eo_elab.proofs.Uses.{join, all_in_both}
 use Rattle.eo_elab.proofs.FoldUses.{Within, AllWithin, folded_uses}
 use Rattle.eo_elab.proofs.SymbolUses.{LocalsWithin, atom_within}
-use Rattle.eo_elab.proofs.ReadingUses.{EndsIn, Reads, ends_ok, ends_err, bind_reads, first_reads, labelled_ends, read_reads, unless_reads, built_reads, label_reads}
+use Rattle.eo_elab.proofs.ReadingUses.{EndsIn, no_labels, Reads, ends_ok, ends_err, bind_reads, first_reads, labelled_ends, read_reads, unless_reads, built_reads, label_reads}
 use Rattle.eo_elab.proofs.FormUses.{Given, FormFits, tree_fits, form_fits, used_reads}
 
 module _ (known : ℕ → Bool) where
@@ -48,95 +48,95 @@ module _ (known : ℕ → Bool) where
   module _ (c : Context) (fits : FitsTerms c) where
     -- the list of the variables that a binder binds
     list_of_reads : (locals : List Local) (collector : ℕ) (ps : List (List ℕ × Tree)) → PairsWithin ps →
-        Reads known (list_of c.signature (is_list locals) collector (map variable ps)) (Within known)
+        Reads known c (list_of c.signature (is_list locals) collector (map variable ps)) (Within known)
     list_of_reads locals collector ps g =
         let ts = map (λ v. v.1) (map variable ps) in
         let made = folded c.signature (is_list locals) collector ts in
         let within = trees_within (map variable ps) (variables_within ps g) in
         let uses = folded_uses known c.signature fits.folds (is_list locals) collector ts within in
-        bind_reads known (Within known) (Within known) (read made) built (read_reads known (Within known) made uses) (built_reads known)
+        bind_reads known c (Within known) (Within known) (read made) built (read_reads known c (Within known) made uses) (built_reads known c)
 
     mutual
       unfolding means
 
-      means_reads : (locals : List Local) → LocalsWithin known locals → (s : Sexp) → Reads known (means c locals s) (Within known)
+      pub means_reads : (locals : List Local) → LocalsWithin known locals → (s : Sexp) → Reads known c (means c locals s) (Within known)
       means_reads locals h (Atom k text span) labels l =
-          labelled_ends known (Within known) labels l (atom c locals k text) (atom_within known c fits locals h k text)
+          labelled_ends known c (Within known) labels l (atom c locals k text) (atom_within known c fits locals h k text)
       means_reads locals h (Listed ss span) labels l =
           list_reads locals h (list_form c locals ss) ss (form_fits known c fits locals h ss) labels l
 
       list_reads : (locals : List Local) → LocalsWithin known locals → (form : ListForm) (ss : Sexps) → FormFits known ss form →
-          Reads known (means_list c locals form ss) (Within known)
-      list_reads locals h form NoSexp f labels l = ends_err known (Within known) BadArity
+          Reads known c (means_list c locals form ss) (Within known)
+      list_reads locals h form NoSexp f labels l = ends_err known c (Within known) BadArity
       list_reads locals h ALet (Next s args) f labels l = let_reads locals h args labels l
       list_reads locals h AnAnnotation (Next s args) f labels l = annotated_reads locals h args labels l
-      list_reads locals h (ABitString t) (Next s args) f labels l = ends_ok known (Within known) t labels f l
+      list_reads locals h (ABitString t) (Next s args) f labels l = ends_ok known c (Within known) t labels f l
       list_reads locals h (AnApplication u) (Next s args) f labels l =
-          used_reads known args u f (means_all c locals args) (all_read locals h args)
+          used_reads known c args u f (means_all c locals args) (all_read locals h args)
           (in_binder c locals args) (λ k. binder_reads locals h args k) labels l
       list_reads locals h ATermFirst (Next s args) f labels l =
-          bind_reads known (Within known) (Within known) (means c locals s)
+          bind_reads known c (Within known) (Within known) (means c locals s)
           (λ t. used (tree_use c locals args t) (means_all c locals args) (in_binder c locals args)) (means_reads locals h s)
-          (λ t u. used_reads known args (tree_use c locals args t) (tree_fits known c fits locals h args t u)
+          (λ t u. used_reads known c args (tree_use c locals args t) (tree_fits known c fits locals h args t u)
           (means_all c locals args) (all_read locals h args)
           (in_binder c locals args) (λ k. binder_reads locals h args k)) labels l
 
       all_read : (locals : List Local) → LocalsWithin known locals → (args : Sexps) →
-          Reads known (means_all c locals args) (Given known args)
-      all_read locals h NoSexp labels l = ends_ok known (Given known NoSexp) [] labels (refl, refl) l
+          Reads known c (means_all c locals args) (Given known args)
+      all_read locals h NoSexp labels l = ends_ok known c (Given known NoSexp) [] labels (refl, refl) l
       all_read locals h (Next s rest) labels l =
-          first_reads known (Given known rest) (Given known (Next s rest)) (means c locals s) (means_all c locals rest)
+          first_reads known c (Given known rest) (Given known (Next s rest)) (means c locals s) (means_all c locals rest)
           (means_reads locals h s) (all_read locals h rest) (λ t ts u g. (join u g.0, ap suc g.1)) labels l
 
-      let_reads : (locals : List Local) → LocalsWithin known locals → (args : Sexps) → Reads known (in_let c locals args) (Within known)
+      let_reads : (locals : List Local) → LocalsWithin known locals → (args : Sexps) → Reads known c (in_let c locals args) (Within known)
       let_reads locals h (Next pairs (Next body NoSexp)) labels l =
-          bind_reads known PairsWithin (Within known) (pair_list c locals pairs) (λ ps. means c (map pair_local ps ++ locals) body)
+          bind_reads known c PairsWithin (Within known) (pair_list c locals pairs) (λ ps. means c (map pair_local ps ++ locals) body)
           (pair_list_reads locals h pairs)
           (λ ps g. means_reads (map pair_local ps ++ locals) (pair_locals_within ps locals g h) body) labels l
-      let_reads locals h args labels l = ends_err known (Within known) BadCommand
+      let_reads locals h args labels l = ends_err known c (Within known) BadCommand
 
       binder_reads : (locals : List Local) → LocalsWithin known locals → (args : Sexps) (k : ℕ) →
-          Reads known (in_binder c locals args k) (AllWithin known)
+          Reads known c (in_binder c locals args k) (AllWithin known)
       binder_reads locals h (Next pairs rest) k labels l =
-          bind_reads known PairsWithin (AllWithin known) (pair_list c locals pairs)
+          bind_reads known c PairsWithin (AllWithin known) (pair_list c locals pairs)
           (λ ps. list_of c.signature (is_list locals) k (map variable ps) >>= λ first.
           means_all c (inside locals ps) rest >>= λ others. give (first ∷ others))
           (pair_list_reads locals h pairs)
-          (λ ps g. first_reads known (Given known rest) (AllWithin known)
+          (λ ps g. first_reads known c (Given known rest) (AllWithin known)
           (list_of c.signature (is_list locals) k (map variable ps)) (means_all c (inside locals ps) rest)
           (list_of_reads locals k ps g) (all_read (inside locals ps) (inside_within locals ps g h) rest)
           (λ first others u o. join u o.0)) labels l
-      binder_reads locals h NoSexp k labels l = ends_err known (AllWithin known) BadCommand
+      binder_reads locals h NoSexp k labels l = ends_err known c (AllWithin known) BadCommand
 
-      pair_list_reads : (locals : List Local) → LocalsWithin known locals → (s : Sexp) → Reads known (pair_list c locals s) PairsWithin
+      pair_list_reads : (locals : List Local) → LocalsWithin known locals → (s : Sexp) → Reads known c (pair_list c locals s) PairsWithin
       pair_list_reads locals h (Listed pairs span) labels l = pairs_read locals h pairs [] refl labels l
-      pair_list_reads locals h (Atom k text span) labels l = ends_err known PairsWithin BadCommand
+      pair_list_reads locals h (Atom k text span) labels l = ends_err known c PairsWithin BadCommand
 
       pairs_read : (locals : List Local) → LocalsWithin known locals → (pairs : Sexps) (before : List (List ℕ × Tree)) →
-          PairsWithin before → Reads known (pairs_after c locals pairs before) PairsWithin
-      pairs_read locals h NoSexp before g labels l = ends_ok known PairsWithin before labels g l
+          PairsWithin before → Reads known c (pairs_after c locals pairs before) PairsWithin
+      pairs_read locals h NoSexp before g labels l = ends_ok known c PairsWithin before labels g l
       pairs_read locals h (Next (Listed (Next (Atom k name at) (Next t NoSexp)) span) rest) before g labels l =
-          unless_reads known PairsWithin (not (list_any (λ p. bytes_eq p.0 name) before)) Redeclared
+          unless_reads known c PairsWithin (not (list_any (λ p. bytes_eq p.0 name) before)) Redeclared
           (means c locals t >>= λ tree. pairs_after c locals rest (before ++ (name, tree) ∷ []))
-          (λ e. bind_reads known (Within known) PairsWithin (means c locals t)
+          (λ e. bind_reads known c (Within known) PairsWithin (means c locals t)
           (λ tree. pairs_after c locals rest (before ++ (name, tree) ∷ [])) (means_reads locals h t)
           (λ tree u. pairs_read locals h rest (before ++ (name, tree) ∷ [])
           (all_in_both (λ p. uses_only known p.1) before ((name, tree) ∷ []) g (join u refl)))) labels l
-      pairs_read locals h pairs before g labels l = ends_err known PairsWithin BadCommand
+      pairs_read locals h pairs before g labels l = ends_err known c PairsWithin BadCommand
 
       annotated_reads : (locals : List Local) → LocalsWithin known locals → (args : Sexps) →
-          Reads known (annotated c locals args) (Within known)
+          Reads known c (annotated c locals args) (Within known)
       annotated_reads locals h (Next t attributes) labels l =
-          bind_reads known (Within known) (Within known) (means c locals t) (λ tree. label c tree (labels_of c.setting attributes))
+          bind_reads known c (Within known) (Within known) (means c locals t) (λ tree. label c tree (labels_of c.setting attributes))
           (means_reads locals h t) (λ tree u. label_reads known c tree u (labels_of c.setting attributes)) labels l
-      annotated_reads locals h NoSexp labels l = ends_err known (Within known) BadCommand
+      annotated_reads locals h NoSexp labels l = ends_err known c (Within known) BadCommand
 
     -- the meaning of a term uses known parameters alone
     pub meaning_uses : (locals : List Local) → LocalsWithin known locals → (s : Sexp) (t : Tree) → meaning c locals s ≡ Ok t →
         Within known t
     unfolding meaning
-    meaning_uses locals h s t e = by_reading (means c locals s []) (means_reads locals h s [] refl) e
+    meaning_uses locals h s t e = by_reading (means c locals s []) (means_reads locals h s [] (no_labels known c)) e
       where
-        by_reading : (m : Checked (Tree × List Label)) → EndsIn known m (Within known) → without_labels m ≡ Ok t → Within known t
+        by_reading : (m : Checked (Tree × List Label)) → EndsIn known c m (Within known) → without_labels m ≡ Ok t → Within known t
         by_reading (Ok r) g q = subst (Within known) (ok_injective r.0 t q) (g r refl).0
         by_reading (Err fault) g q = absurd (err_is_not_ok fault t q)

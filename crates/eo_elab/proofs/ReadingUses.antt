@@ -1,7 +1,9 @@
--- What readings end with, where the names that a term gives itself stand for trees that use known parameters alone.
+-- What readings end with, where the names that a term gives itself are free, and stand for trees that use known parameters alone.
 use Rattle.std.specs.Prelude.{◌≡◌, ℕ, Bool, true, false, not, if◌then◌else◌, List, [], ◌∷◌, ◌++◌, Ok, Err, refl}
 use Rattle.std.specs.List.{list_all}
-use Rattle.std.proofs.Common.{subst}
+use Rattle.std.proofs.Common.{subst, sym}
+use Rattle.std.proofs.lemmas.List.{append-nil, append_assoc}
+use Rattle.eo_base.proofs.Tests.{both}
 use Rattle.eo_base.specs.declared.FaultName.{FaultName}
 use Rattle.eo_base.specs.declared.FaultName.TheVariants.{Redeclared, TermHeight}
 use Rattle.eo_base.specs.Checks.{Checked}
@@ -9,13 +11,25 @@ use Rattle.eo_base.proofs.ChecksLemmas.{ok_injective, err_is_not_ok}
 use Rattle.eo_term.specs.Tree.{Tree, is_tall, uses_only}
 use Rattle.eo_names.specs.Contexts.{Context}
 use Rattle.eo_names.specs.Readers.{Label, Reader, go_on, ◌>>=◌, give, fail, with_labels, read, unless, built}
+use Rattle.eo_elab.specs.Fitting.{are_free}
 use Rattle.eo_elab.specs.Meaning.{is_free_label, label}
 use Rattle.eo_elab.proofs.Uses.{join, all_in_both}
 use Rattle.eo_elab.proofs.FoldUses.{Within}
 
-module _ (known : ℕ → Bool) where
-  abbrev pub LabelsWithin : List Label → Type 0
-  LabelsWithin labels = list_all (λ l. uses_only known l.tree) labels ≡ true
+-- one name more, which is free behind those before it
+free_last : (c : Context) (before labels : List Label) (l : Label) → are_free c before labels ≡ true → is_free_label c (before ++ labels) l.name ≡ true →
+    are_free c before (labels ++ l ∷ []) ≡ true
+free_last c before [] l h k = join (subst (λ (ls : List Label). is_free_label c ls l.name ≡ true) (append-nil before) k) refl
+free_last c before (x ∷ xs) l h k =
+    join (both h).0 (free_last c (before ++ x ∷ []) xs l (both h).1 (subst (λ (ls : List Label). is_free_label c ls l.name ≡ true) (sym (append_assoc before (x ∷ []) xs)) k))
+
+module _ (known : ℕ → Bool) (names : Context) where
+  pub record LabelsWithin (labels : List Label) : Type 0 where
+    pub trees : list_all (λ l. uses_only known l.tree) labels ≡ true
+    pub free : are_free names [] labels ≡ true
+
+  pub no_labels : LabelsWithin []
+  no_labels = record { trees = refl; free = refl }
 
   -- what a reading ends with, where it passes
   abbrev pub EndsIn : {A : Type 0} → Checked (A × List Label) → (A → Type 0) → Type 0
@@ -68,15 +82,18 @@ module _ (known : ℕ → Bool) where
   pub built_reads : (t : Tree) → Within known t → Reads (built t) (Within known)
   built_reads t h = unless_reads (Within known) (not (is_tall t)) TermHeight (give t) (λ e. give_reads (Within known) t h)
 
-  if_ends : {A : Type 0} (P : A → Type 0) (b : Bool) (c : Checked (A × List Label)) (fault : FaultName) → EndsIn c P →
+  if_ends : {A : Type 0} (P : A → Type 0) (b : Bool) (c : Checked (A × List Label)) (fault : FaultName) → (b ≡ true → EndsIn c P) →
       EndsIn (if b then c else Err fault) P
-  if_ends P true c fault h = h
+  if_ends P true c fault h = h refl
   if_ends P false c fault h = ends_err P fault
 
   -- one name after the other for a tree
-  pub label_reads : (c : Context) (t : Tree) → Within known t → (names : List (List ℕ)) → Reads (label c t names) (Within known)
-  label_reads c t h [] labels l = ends_ok (Within known) t labels h l
-  label_reads c t h (name ∷ names) labels l =
-      let last = record { name = name; tree = t } ∷ [] in
-      if_ends (Within known) (is_free_label c labels name) (label c t names (labels ++ last)) Redeclared
-      (label_reads c t h names (labels ++ last) (all_in_both (λ l. uses_only known l.tree) labels last l (join h refl)))
+  pub label_reads : (t : Tree) → Within known t → (given : List (List ℕ)) → Reads (label names t given) (Within known)
+  label_reads t h [] labels l = ends_ok (Within known) t labels h l
+  label_reads t h (name ∷ given) labels l =
+      let last : Label = record { name = name; tree = t } in
+      if_ends (Within known) (is_free_label names labels name) (label names t given (labels ++ last ∷ [])) Redeclared
+      (λ free. label_reads t h given (labels ++ last ∷ []) (record {
+        trees = all_in_both (λ l. uses_only known l.tree) labels (last ∷ []) l.trees (join h refl);
+        free = free_last names [] labels last l.free free;
+      }))

@@ -11,7 +11,7 @@ use Rattle.eo_sig.specs.Signature.{Parameter, Attribute, Plain, RightNil, LeftNi
 use Rattle.eo_term.specs.Tree.{Tree, Con, Par, Arr, Qar, type_tree, is_tall}
 use Rattle.eo_names.specs.Contexts.{Context, Local, is_reference}
 use Rattle.eo_elab.specs.Meaning.{meaning}
-use Rattle.eo_shape.specs.Shapes.{ParameterShape, AttributeShape, NoAttribute, RightNilShape, LeftNilShape, RightShape, LeftShape, ChainShape, PairsShape, BinderShape, CaseShape, ProgramShape, PremisesShape, EachShape, JoinedShape, RuleShape, Command, DeclareConst, DeclareFun, DeclareSort, DeclareParameterized, DeclareLiterals, Define, DefineProgram, DeclareRule}
+use Rattle.eo_shape.specs.Shapes.{ParameterShape, AttributeShape, NoAttribute, RightNilShape, LeftNilShape, RightShape, LeftShape, ChainShape, PairsShape, BinderShape, CaseShape, ProgramShape, PremisesShape, EachShape, JoinedShape, RuleShape, Command, DeclareConst, DeclareFun, DeclareSort, DeclareParameterized, DeclareLiterals, Define, DefineProgram, DeclareRule, DefineFun, DefineSort}
 
 pub data Declaration : Type 0 where
   AConstant : (constant : Constant) → Declaration
@@ -93,6 +93,13 @@ with_parameter b p = record {
 
 abbrev pub few : ℕ → Checked Passed
 few n = require (nat_le n parameters_limit) Parameters
+
+-- parameters of a sort, which stand for types
+abbrev pub bind_types : Bound → List (List ℕ) → Checked Bound
+bind_types b [] = Ok b
+bind_types b (name ∷ names) = do
+  _ ← require (not (is_bound b name)) Redeclared
+  bind_types (with_parameter b (record { name = name; type = type_tree; implicit = false; list = false })) names
 
 module _ (c : Context) where
   -- A parameter's type may use earlier parameters.
@@ -196,6 +203,30 @@ module _ (c : Context) where
     _ ← few (length shapes)
     b ← bind unbound shapes
     t ← meaning c b.locals body
+    Ok (macro name b.parameters t)
+
+  -- a macro over parameters, by a type that is read and says nothing, and then its body
+  abbrev pub typed_macro : List ℕ → Bound → (output body : Sexp) → Checked Macro
+  typed_macro name b output body = do
+    _ ← meaning c b.locals output
+    t ← meaning c b.locals body
+    Ok (macro name b.parameters t)
+
+  -- (define-fun S ((x A) ..) B t)
+  unfoldable pub defined_fun : List ℕ → List ParameterShape → (output body : Sexp) → Checked Macro
+  defined_fun name shapes output body = do
+    _ ← require (is_free_or_reference c name) Redeclared
+    _ ← few (length shapes)
+    b ← bind unbound shapes
+    typed_macro name b output body
+
+  -- (define-sort S (A ..) T)
+  unfoldable pub defined_sort : List ℕ → List (List ℕ) → Sexp → Checked Macro
+  defined_sort name names type = do
+    _ ← require (is_free_or_reference c name) Redeclared
+    _ ← few (length names)
+    b ← bind_types unbound names
+    t ← meaning c b.locals type
     Ok (macro name b.parameters t)
 
 -- ---- programs
@@ -318,7 +349,7 @@ as_program p = Ok (AProgram p)
 abbrev pub as_rule : Rule → Checked Declaration
 as_rule r = Ok (ARule r)
 
--- What a declaring command declares. Other commands declare nothing.
+-- What a declaring command of a signature or a proof declares. Other commands declare nothing.
 unfoldable pub declaration : Context → Command → Option (Checked Declaration)
 declaration c (DeclareConst name type shape) = Some (declared_const c name type shape >>= as_constant)
 declaration c (DeclareFun name inputs output) = Some (declared_fun c name inputs output >>= as_constant)
@@ -329,3 +360,12 @@ declaration c (Define name shapes body) = Some (defined c name shapes body >>= a
 declaration c (DefineProgram shape) = Some (declared_program c shape >>= as_program)
 declaration c (DeclareRule shape) = Some (declared_rule c shape >>= as_rule)
 declaration c command = None
+
+-- What a declaring command of a reference file declares. Other commands declare nothing.
+unfoldable pub reference_declaration : Context → Command → Option (Checked Declaration)
+reference_declaration c (DeclareConst name type shape) = Some (declared_const c name type shape >>= as_constant)
+reference_declaration c (DeclareFun name inputs output) = Some (declared_fun c name inputs output >>= as_constant)
+reference_declaration c (DeclareSort name arity) = Some (declared_sort c name arity >>= as_constant)
+reference_declaration c (DefineFun name shapes output body) = Some (defined_fun c name shapes output body >>= as_macro)
+reference_declaration c (DefineSort name names type) = Some (defined_sort c name names type >>= as_macro)
+reference_declaration c command = None

@@ -13,19 +13,20 @@ use Rattle.eo_sig.specs.declared.records.ProgramDecl.{ProgramDecl}
 use Rattle.eo_sig.specs.declared.records.Declaration.TheVariants as variant
 use Rattle.eo_shape.specs.Shapes.{AttributeShape, ParameterShape, CaseShape, ProgramShape, RuleShape, Command, command_of}
 use Rattle.eo_shape.specs.declared.AttributeShape as code_shape
-use Rattle.eo_shape.specs.declared.ParameterShape as code_param
 use Rattle.eo_shape.specs.declared.Command as code_command
 use Rattle.eo_shape.specs.declared.Command.TheVariants as command
 use Rattle.eo_shape.specs.Reading.{read_attribute as read_shape}
 use Rattle.eo_term.specs.Tree.{Tree}
 use Rattle.eo_term.specs.Terms.{Terms, tree_at}
 use Rattle.eo_elab.specs.declared.parameters.Bound as code_bound
-use Rattle.eo_elab.specs.Declarations.{Declaration, AConstant, ALiteralType, AMacro, AProgram, ARule, Bound, declaration, meanings, attribute, bound_type, function_type, not_tall, plain_constant, declared_const, declared_fun, declared_sort, declared_parameterized, as_constant, declared_cases, declared_program, program_over, declared_rule, rule_over, with_cases, with_program, is_free_name, is_free_or_reference}
+use Rattle.eo_elab.specs.Declarations.{Declaration, AConstant, ALiteralType, AMacro, AProgram, ARule, Bound, declaration, meanings, attribute, bound_type, function_type, not_tall, plain_constant, typed_macro, declared_const, declared_fun, declared_sort, declared_parameterized, as_constant, declared_cases, declared_program, program_over, declared_rule, rule_over, with_cases, with_program, is_free_name, is_free_or_reference}
 use Rattle.eo_names.specs.Contexts.{Context, Local}
 use Rattle.eo_elab.specs.Meaning.{meaning}
-use Rattle.eo_names.specs.Names.{read_locals}
+use Rattle.eo_names.specs.Names.{read_locals, AreBelow}
 use Rattle.eo_names.specs.declared.locals.LocalName.{LocalName}
 use Rattle.eo_names.specs.Ready.{context, IsReady}
+use Rattle.eo_names.specs.declared.scope.Setting.{Setting}
+use Rattle.eo_elab.specs.Worlds.{context_at, reference_context}
 
 abbrev pub read_bound : List Tree → code_bound.Bound → Bound
 read_bound ts b = record { parameters = map (read_parameter ts) b.params; locals = read_locals ts b.locals }
@@ -50,9 +51,10 @@ pub record BoundBelow (n : ℕ) (k : Kept) (b : code_bound.Bound) : Type 0 where
   pub params : All (λ p. p.ty < n) b.params
   pub ready : IsReady n k b.locals
 
--- the parameter of a shape, by the id of its type
-abbrev pub param_of : code_param.ParameterShape → ℕ → Param
-param_of shape ty = record { name = shape.name.now; ty = ty; implicit = shape.implicit; list = shape.list }
+-- the same without the signature that the names come before
+pub record TypesBelow (n : ℕ) (b : code_bound.Bound) : Type 0 where
+  pub params : All (λ p. p.ty < n) b.params
+  pub locals : AreBelow n b.locals
 
 -- a type and an attribute
 pub record TypedBelow (n : ℕ) (r : ℕ × code_attribute.Attribute) : Type 0 where
@@ -149,13 +151,17 @@ rule_in t k shape = declared_rule (context t.trees k) shape
 abbrev pub rule_over_in : Terms → Kept → code_bound.Bound → RuleShape → Checked Rule
 rule_over_in t k b shape = rule_over (context t.trees k) (read_bound t.trees b) shape
 
+-- a macro of a reference file over parameters
+abbrev pub typed_macro_in : Terms → Kept → List ℕ → code_bound.Bound → (output body : Sexp) → Checked Macro
+typed_macro_in t k name b output body = typed_macro (reference_context t k) name (read_bound t.trees b) output body
+
 -- the type over parameters of which the first has this number
 abbrev pub bound_type_in : Terms → ℕ → List Param → ℕ → Tree
 bound_type_in t first params type = bound_type first (map (read_parameter t.trees) params) (tree_at t.trees type)
 
 -- a constant without parameters, by the id of its type
-abbrev pub plain_constant_in : List Tree → Kept → List ℕ → Terms → ℕ → code_attribute.Attribute → Checked Constant
-plain_constant_in ts k name t type a = plain_constant (context ts k) name (tree_at t.trees type) (read_attribute t.trees a)
+abbrev pub plain_constant_in : Terms → Kept → Setting → List ℕ → Terms → ℕ → code_attribute.Attribute → Checked Constant
+plain_constant_in old k x name t type a = plain_constant (context_at old k x) name (tree_at t.trees type) (read_attribute t.trees a)
 
 -- ---- whose name may be declared, or is one that the reference file declared
 
@@ -170,6 +176,12 @@ MayBeMacro c d = is_free_or_reference c d.name ≡ true
 -- the class has no type
 abbrev pub MayBeLiterals : Context → LiteralClass → Type 0
 MayBeLiterals c class = is_none (literal_type c.signature class) ≡ true
+
+-- what a reference file declares: a constant without parameters, or a macro
+abbrev pub MayBeReferred : Context → Declaration → Type 0
+MayBeReferred c (AConstant d) = MayRepeat c d
+MayBeReferred c (AMacro d) = MayBeMacro c d
+MayBeReferred c d = ⊥
 
 abbrev pub MayBeDeclared : Context → Declaration → Type 0
 MayBeDeclared c (AConstant d) = is_free_or_reference c d.name ≡ true

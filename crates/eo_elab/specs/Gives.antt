@@ -23,18 +23,19 @@ use Rattle.eo_elab.specs.declared.parameters.Bound as code_bound
 use Rattle.eo_elab.specs.declared.plan.Form.{Form}
 use Rattle.eo_names.specs.declared.refused.ElabRefused.{ElabRefused}
 use Rattle.eo_names.specs.declared.scope.Scope.{Scope}
+use Rattle.eo_names.specs.declared.scope.Setting as code_setting
 use Rattle.eo_names.specs.Scopes.{setting_in}
 use Rattle.eo_names.specs.declared.usage.Use.{Use}
 use Rattle.eo_shape.specs.Shapes.{ParameterShape}
-use Rattle.eo_elab.specs.Declarations.{Bound, Declaration, bind}
-use Rattle.eo_elab.specs.Declaring.{read_bound, read_declaration, read_typed, BoundBelow, DeclarationBelow, TypedBelow}
+use Rattle.eo_elab.specs.Declarations.{Bound, Declaration, bind, bind_types}
+use Rattle.eo_elab.specs.Declaring.{read_bound, read_declaration, read_typed, BoundBelow, TypesBelow, DeclarationBelow, TypedBelow}
 use Rattle.eo_names.specs.Contexts.{Context, Setting, Local}
 use Rattle.eo_names.specs.Readers.{Label, Reader}
 use Rattle.eo_elab.specs.Forms.{Parts}
 use Rattle.eo_names.specs.Names.{Binding, read_pairs, BindingsBelow}
 use Rattle.eo_names.specs.Refused.{told}
 use Rattle.eo_names.specs.Worlds.{World, Read}
-use Rattle.eo_elab.specs.Worlds.{place, labels_in, arguments_in, label_over, underscore_in, in_setting, context_in, atom_in, form_in, used_in, application_in, word_in, meant_in, applied_in, more_pairs_in}
+use Rattle.eo_elab.specs.Worlds.{place, labels_in, arguments_in, label_over, underscore_in, in_setting, context_in, context_at, atom_in, form_in, used_in, application_in, word_in, meant_in, applied_in, more_pairs_in}
 use Rattle.eo_names.specs.declared.symbols.Meant as code_meant
 use Rattle.eo_names.specs.Symbols.{read_meant}
 use Rattle.eo_names.specs.Ready.{context}
@@ -141,6 +142,10 @@ GivesTyped t r o = Gives told (TypedBelow (length t.trees)) (read_typed t.trees)
 abbrev pub GivesBound : Kept → Terms → Result code_bound.Bound ElabRefused → Checked Bound → Type 0
 GivesBound k t r o = Gives told (BoundBelow (length t.trees) k) (read_bound t.trees) r o
 
+-- the same where all are types
+abbrev pub GivesTypes : Terms → Result code_bound.Bound ElabRefused → Checked Bound → Type 0
+GivesTypes t r o = Gives told (TypesBelow (length t.trees)) (read_bound t.trees) r o
+
 abbrev pub GivesConstant : Terms → Result ConstDecl ElabRefused → Checked Constant → Type 0
 GivesConstant t r o = Gives told (ConstBelow (length t.trees)) (read_constant t.trees) r o
 
@@ -163,10 +168,19 @@ abbrev pub GivesDeclaration : Terms → Result code.Declaration ElabRefused → 
 GivesDeclaration t r o = Gives told (DeclarationBelow (length t.trees)) (read_declaration t.trees) r o
 
 -- one parameter more is read into those before it, and what is left is read behind it
-pub record IsRead (k : Kept) (old new : Terms) (p : ParameterShape) (before after : code_bound.Bound) : Type 0 where
+pub record IsRead (k : Kept) (x : code_setting.Setting) (old new : Terms) (p : ParameterShape) (before after : code_bound.Bound) : Type 0 where
   pub live : BoundBelow (length new.trees) k after
-  pub binds : (rest : List ParameterShape) → bind (context_in old k) (read_bound old.trees before) (p ∷ rest) ≡ bind (context_in old k) (read_bound new.trees after) rest
+  pub binds : (rest : List ParameterShape) → bind (context_at old k x) (read_bound old.trees before) (p ∷ rest) ≡ bind (context_at old k x) (read_bound new.trees after) rest
 
-abbrev pub ReadsParameter : Kept → Terms → Terms → ParameterShape → code_bound.Bound → code_bound.Bound → Result (Unit {0}) ElabRefused → Type 0
-ReadsParameter k old new p before after (Ok x) = IsRead k old new p before after
-ReadsParameter k old new p before after (Err e) = (rest : List ParameterShape) → Tells told e (bind (context_in old k) (read_bound old.trees before) (p ∷ rest))
+abbrev pub ReadsParameter : Kept → code_setting.Setting → Terms → Terms → ParameterShape → code_bound.Bound → code_bound.Bound → Result (Unit {0}) ElabRefused → Type 0
+ReadsParameter k x old new p before after (Ok u) = IsRead k x old new p before after
+ReadsParameter k x old new p before after (Err e) = (rest : List ParameterShape) → Tells told e (bind (context_at old k x) (read_bound old.trees before) (p ∷ rest))
+
+-- the same of one that stands for a type, wherever it is read
+pub record IsNamed (old new : Terms) (name : List ℕ) (before after : code_bound.Bound) : Type 0 where
+  pub live : TypesBelow (length new.trees) after
+  pub binds : (rest : List (List ℕ)) → bind_types (read_bound old.trees before) (name ∷ rest) ≡ bind_types (read_bound new.trees after) rest
+
+abbrev pub NamesType : Terms → Terms → List ℕ → code_bound.Bound → code_bound.Bound → Result (Unit {0}) ElabRefused → Type 0
+NamesType old new name before after (Ok u) = IsNamed old new name before after
+NamesType old new name before after (Err e) = (rest : List (List ℕ)) → Tells told e (bind_types (read_bound old.trees before) (name ∷ rest))

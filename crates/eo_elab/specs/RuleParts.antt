@@ -1,5 +1,5 @@
 -- The terms of a rule, as they are read in order, before it is known whether its premises can be joined.
-use Rattle.std.specs.Prelude.{◌≡◌, ℕ, ◌<◌, List, map, length, All, Option, option_map, Result, Ok}
+use Rattle.std.specs.Prelude.{ℕ, ◌<◌, List, map, length, All, Option, option_map, Result, Ok}
 use Rattle.eo_base.specs.Answers.{Gives}
 use Rattle.eo_base.specs.Checks.{Checked, ◌>>=◌}
 use Rattle.eo_sexp.specs.Sexp.{Sexp}

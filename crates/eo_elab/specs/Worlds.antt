@@ -5,7 +5,7 @@ use Rattle.eo_base.specs.Checks.{Checked}
 use Rattle.eo_sexp.specs.AtomKind.{AtomKind}
 use Rattle.eo_sexp.specs.Sexp.{Sexp, Sexps, Listed, Span, sexps_of}
 use Rattle.eo_shape.specs.Words.{symbol_of}
-use Rattle.eo_sig.specs.Reading.{Kept}
+use Rattle.eo_sig.specs.Reading.{Kept, signature, macros}
 use Rattle.eo_term.specs.Terms.{Terms, tree_at}
 use Rattle.eo_term.specs.Growth.{tree_in, trees_in}
 use Rattle.eo_term.specs.Tree.{Tree}
@@ -33,12 +33,24 @@ use Rattle.eo_sig.specs.Signature.{Attribute, Case}
 abbrev pub context_in : Terms → Kept → Context
 context_in t k = context t.trees k
 
+-- the same in a file of the kind that is told
+abbrev pub context_at : Terms → Kept → code.Setting → Context
+context_at t k x = record { signature = signature t.trees k; macros = macros t.trees k; setting = read_setting x }
+
+-- in a reference file
+abbrev pub reference_context : Terms → Kept → Context
+reference_context t k = record { signature = signature t.trees k; macros = macros t.trees k; setting = InReference }
+
 abbrev pub sexps : List Sexp → Sexps
 sexps ss = sexps_of ss
 
 -- the same names in another kind of file
 abbrev pub in_setting : Setting → World → World
 in_setting setting w = record { names = record { signature = w.names.signature; macros = w.names.macros; setting = setting }; locals = w.locals }
+
+-- names that are local, and then what names stand for in a file of the kind that is told
+abbrev pub world_in : Terms → Kept → List LocalName → code.Setting → World
+world_in t k ls x = in_setting (read_setting x) (world_of t k ls)
 
 -- what names stand for where a term stands
 abbrev pub place : Terms → Kept → Scope → World

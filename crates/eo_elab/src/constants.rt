@@ -3,6 +3,7 @@ ghost use Rattle.std.specs.Prelude.{◌≡◌, ◌<◌, ◌≤◌, ◌+◌, List
 ghost use Rattle.eo_base.specs.Limits.{parameters_limit, height_limit};
 ghost use Rattle.eo_term.specs.Growth.{tree_in, Grows, Makes};
 ghost use Rattle.eo_term.specs.Refused.{IsTall};
+ghost use Rattle.eo_term.specs.Terms.{Terms};
 ghost use Rattle.eo_term.specs.Tree.{Tree, Arr, type_tree, height, is_tall};
 ghost use Rattle.eo_sig.specs.Reading.{Kept, read_constant, AttributeBelow};
 ghost use Rattle.eo_sig.specs.Signature.{constant_fault};
@@ -11,10 +12,12 @@ ghost use Rattle.eo_elab.specs.Gives.{GivesTrees, GivesAttribute, GivesNumber, G
 ghost use Rattle.eo_elab.specs.Declaring.{bound_type_in, plain_constant_in};
 ghost use Rattle.eo_names.specs.Ready.{context, IsReady};
 ghost use Rattle.eo_names.specs.Worlds.{world_of};
-ghost use Rattle.eo_elab.specs.Worlds.{meanings_in, attribute_in, constant_in};
+ghost use Rattle.eo_elab.specs.Worlds.{meanings_in, attribute_in, constant_in, world_in};
+ghost use Rattle.eo_names.specs.Contexts.{is_reference};
+ghost use Rattle.eo_names.specs.Scopes.{read_setting};
 
-use crate::terms::mean_terms;
-use crate::{ElabRefused, Locals, term};
+use crate::terms::{mean_terms, term_at};
+use crate::{ElabRefused, Locals, Setting};
 use eo_base::Name;
 use eo_sexp::{Children, Sexp};
 use eo_shape::AttributeShape;
@@ -41,7 +44,7 @@ fn is_reference_name(sig: &Signature, name: &[u8]) -> bool
     }
 }
 
-/// The meanings of terms in order.
+/// The meanings of terms in order, in a signature or a proof.
 pub(crate) fn meanings(
     alloc: Global,
     terms: &Children<'_>,
@@ -54,7 +57,31 @@ pub(crate) fn meanings(
     ensures count { IfOk result (λ ids. length ids ≡ length terms.now) }
     ensures grows { Grows table.old table.new }
 {
-    mean_terms(alloc, terms, locals, &SignatureView::of(sig), table)
+    meanings_at(alloc, terms, locals, Setting::Proof, sig, table)
+}
+
+/// The same in a file of this kind.
+pub(crate) fn meanings_at(
+    alloc: Global,
+    terms: &Children<'_>,
+    locals: &Locals,
+    setting: Setting,
+    sig: &Signature,
+    table: &mut Table,
+) -> Result<Ids, ElabRefused>
+    requires ready { IsReady (length table.old.trees) sig.now locals.now }
+    ensures gives { GivesTrees table.new result (meanings_in (world_in table.old sig.now locals.now setting) terms.now) }
+    ensures count { IfOk result (λ ids. length ids ≡ length terms.now) }
+    ensures grows { Grows table.old table.new }
+{
+    mean_terms(
+        alloc,
+        terms,
+        locals,
+        setting,
+        &SignatureView::of(sig),
+        table,
+    )
 }
 
 /// How a constant folds its arguments.
@@ -62,27 +89,32 @@ pub(crate) fn attribute_meant(
     alloc: Global,
     shape: &AttributeShape<'_>,
     locals: &Locals,
+    setting: Setting,
     sig: &Signature,
     table: &mut Table,
 ) -> Result<Attribute, ElabRefused>
     requires ready { IsReady (length table.old.trees) sig.now locals.now }
-    ensures gives { GivesAttribute table.new result (attribute_in (world_of table.old sig.now locals.now) shape.now) }
+    ensures gives { GivesAttribute table.new result (attribute_in (world_in table.old sig.now locals.now setting) shape.now) }
     ensures grows { Grows table.old table.new }
 {
     match shape {
         AttributeShape::None => Ok(Attribute::Plain),
-        AttributeShape::RightNil(s) => Ok(Attribute::RightNil(term(alloc, s, locals, sig, table)?)),
-        AttributeShape::LeftNil(s) => Ok(Attribute::LeftNil(term(alloc, s, locals, sig, table)?)),
+        AttributeShape::RightNil(s) => Ok(Attribute::RightNil(term_at(
+            alloc, s, locals, setting, sig, table,
+        )?)),
+        AttributeShape::LeftNil(s) => Ok(Attribute::LeftNil(term_at(
+            alloc, s, locals, setting, sig, table,
+        )?)),
         AttributeShape::Right => Ok(Attribute::Right),
         AttributeShape::Left => Ok(Attribute::Left),
         AttributeShape::Chain(s) => Ok(Attribute::Chain(constant_meant(
-            alloc, s, locals, sig, table,
+            alloc, s, locals, setting, sig, table,
         )?)),
         AttributeShape::Pairs(s) => Ok(Attribute::Pairs(constant_meant(
-            alloc, s, locals, sig, table,
+            alloc, s, locals, setting, sig, table,
         )?)),
         AttributeShape::Binder(s) => Ok(Attribute::Binder(constant_meant(
-            alloc, s, locals, sig, table,
+            alloc, s, locals, setting, sig, table,
         )?)),
     }
 }
@@ -92,14 +124,15 @@ fn constant_meant(
     alloc: Global,
     s: &Sexp<'_>,
     locals: &Locals,
+    setting: Setting,
     sig: &Signature,
     table: &mut Table,
 ) -> Result<usize, ElabRefused>
     requires ready { IsReady (length table.old.trees) sig.now locals.now }
-    ensures gives { GivesNumber result (constant_in (world_of table.old sig.now locals.now) s.now) }
+    ensures gives { GivesNumber result (constant_in (world_in table.old sig.now locals.now setting) s.now) }
     ensures grows { Grows table.old table.new }
 {
-    let id = term(alloc, s, locals, sig, table)?;
+    let id = term_at(alloc, s, locals, setting, sig, table)?;
     match table.node(id) {
         Node::Con(k) => Ok(k),
         _ => Err(ElabRefused::UnknownSymbol),
@@ -160,17 +193,18 @@ pub(crate) fn bound_type(
     Ok(made)
 }
 
-/// The constant of this name, type and attribute, which has no parameters.
+/// The constant of this name, type and attribute, which has no parameters, in a file of this kind.
 pub(crate) fn plain_constant(
     alloc: Global,
     name: &[u8],
     ty: Id,
     attribute: Attribute,
+    setting: Setting,
     table: &Table,
 ) -> Result<ConstDecl, ElabRefused>
     requires ty { ty < length table.now.trees }
     requires below { AttributeBelow (length table.now.trees) attribute }
-    ensures gives { (ts : List Tree) (k : Kept) → GivesConstant table.now result (plain_constant_in ts k name.now table.now ty attribute) }
+    ensures gives { (old : Terms) (k : Kept) → GivesConstant table.now result (plain_constant_in old k setting name.now table.now ty attribute) }
     ensures sound { IfOk result (λ d. constant_fault (read_constant table.now.trees d) ≡ None) }
     ensures name { IfOk result (λ d. d.name ≡ name.now) }
 {
@@ -179,10 +213,21 @@ pub(crate) fn plain_constant(
         params: Params::new(alloc),
         ty,
         attribute,
-        from_reference: false,
+        from_reference: is_reference(setting),
     };
     if !d.may_hold(table) {
         return Err(ElabRefused::BadPattern);
     }
     Ok(d)
+}
+
+/// Whether it is a reference file.
+pub(crate) fn is_reference(setting: Setting) -> bool
+    ensures { result ≡ is_reference (read_setting setting) }
+{
+    match setting {
+        Setting::Proof => false,
+        Setting::Reference => true,
+        Setting::Assert => true,
+    }
 }

@@ -11,15 +11,16 @@ ghost use Rattle.eo_elab.specs.Declaring.{const_by, constant_of, declared_consta
 ghost use Rattle.eo_elab.specs.Declaring.{MayRepeat, MayBeMacro, MayBeLiterals, MayBeDeclared};
 ghost use Rattle.eo_names.specs.Gives.{GivesTree};
 ghost use Rattle.eo_elab.specs.Gives.{GivesTyped, GivesConstant, GivesMacro, GivesDeclaration};
-ghost use Rattle.eo_elab.specs.Worlds.{context_in};
+ghost use Rattle.eo_elab.specs.Worlds.{context_in, context_at};
 
 use crate::constants::{
-    attribute_meant, bound_type, may_declare, meanings, plain_constant, sort_type,
+    attribute_meant, bound_type, may_declare, meanings_at, plain_constant, sort_type,
 };
 use crate::parameters::{Bound, bind, parameter};
 use crate::programs::declared_program;
 use crate::rules::declared_rule;
-use crate::{ElabRefused, Locals, term};
+use crate::terms::term_at;
+use crate::{ElabRefused, Locals, Setting, term};
 use eo_base::Name;
 use eo_base::limits::PARAMETERS;
 use eo_names::{function_type, names_law};
@@ -108,7 +109,13 @@ fn declared_by(
         Command::AssumePush { .. } => Err(ElabRefused::BadCommand),
         Command::Step(_) => Err(ElabRefused::BadCommand),
         Command::StepPop(_) => Err(ElabRefused::BadCommand),
+        Command::Include { .. } => Err(ElabRefused::BadCommand),
+        Command::Refer { .. } => Err(ElabRefused::BadCommand),
+        Command::DefineFun { .. } => Err(ElabRefused::BadCommand),
+        Command::DefineSort { .. } => Err(ElabRefused::BadCommand),
         Command::Assert { .. } => Err(ElabRefused::BadCommand),
+        Command::Exit => Err(ElabRefused::BadCommand),
+        Command::Skip => Err(ElabRefused::BadCommand),
     }
 }
 
@@ -145,13 +152,20 @@ fn constant_by(
             name,
             ty,
             attribute,
-        } => declared_const(alloc, name, ty, attribute, sig, table),
+        } => declared_const(alloc, name, ty, attribute, Setting::Proof, sig, table),
         Command::DeclareFun {
             name,
             inputs,
             output,
-        } => declared_fun(alloc, name, inputs, output, sig, table),
-        Command::DeclareSort { name, arity } => declared_sort(alloc, name, *arity, sig, table),
+        } => declared_fun(alloc, name, inputs, output, Setting::Proof, sig, table),
+        Command::DeclareSort { name, arity } => declared_sort(
+            alloc,
+            name,
+            *arity,
+            Setting::Proof,
+            sig,
+            table,
+        ),
         Command::DeclareParameterized {
             name,
             params,
@@ -162,7 +176,7 @@ fn constant_by(
     }
 }
 
-/// `(declare-const NAME TYPE ATTRIBUTE)`: a constant without parameters.
+/// `(declare-const NAME TYPE ATTRIBUTE)` in a file of this kind: a constant without parameters.
 ///
 /// A refusal is the first fault, in this order:
 ///
@@ -176,11 +190,12 @@ pub fn declared_const(
     name: &[u8],
     ty: &Sexp<'_>,
     attribute: &AttributeShape<'_>,
+    setting: Setting,
     sig: &Signature,
     table: &mut Table,
 ) -> Result<ConstDecl, ElabRefused>
     requires { IsBelow (length table.old.trees) sig.now }
-    ensures gives { GivesConstant table.new result (const_by (context_in table.old sig.now) name.now ty.now attribute.now) }
+    ensures gives { GivesConstant table.new result (const_by (context_at table.old sig.now setting) name.now ty.now attribute.now) }
     ensures may { IfOk result (λ d. MayRepeat (context_in table.old sig.now) (read_constant table.new.trees d)) }
     ensures grows { GrowsUnder sig.now table.old table.new }
 {
@@ -188,8 +203,8 @@ pub fn declared_const(
     if !may_declare(sig, name) {
         return Err(ElabRefused::Redeclared);
     }
-    let (ty, attribute) = typed(alloc, ty, attribute, sig, table)?;
-    plain_constant(alloc, name, ty, attribute, table)
+    let (ty, attribute) = typed(alloc, ty, attribute, setting, sig, table)?;
+    plain_constant(alloc, name, ty, attribute, setting, table)
 }
 
 // A type and an attribute.
@@ -197,21 +212,22 @@ fn typed(
     alloc: Global,
     ty: &Sexp<'_>,
     attribute: &AttributeShape<'_>,
+    setting: Setting,
     sig: &Signature,
     table: &mut Table,
 ) -> Result<(Id, Attribute), ElabRefused>
     requires { IsBelow (length table.old.trees) sig.now }
-    ensures gives { GivesTyped table.new result (typed (context_in table.old sig.now) [] ty.now (read_attribute attribute.now)) }
+    ensures gives { GivesTyped table.new result (typed (context_at table.old sig.now setting) [] ty.now (read_attribute attribute.now)) }
     ensures grows { Grows table.old table.new }
 {
     names_law();
     let none = Locals::new(alloc)?;
-    let ty = term(alloc, ty, &none, sig, table)?;
-    let attribute = attribute_meant(alloc, attribute, &none, sig, table)?;
+    let ty = term_at(alloc, ty, &none, setting, sig, table)?;
+    let attribute = attribute_meant(alloc, attribute, &none, setting, sig, table)?;
     Ok((ty, attribute))
 }
 
-/// `(declare-fun NAME (INPUT ..) OUTPUT)`: a constant of a function type.
+/// `(declare-fun NAME (INPUT ..) OUTPUT)` in a file of this kind: a constant of a function type.
 ///
 /// A refusal is the first fault, in this order:
 ///
@@ -225,11 +241,12 @@ pub fn declared_fun(
     name: &[u8],
     inputs: &Children<'_>,
     output: &Sexp<'_>,
+    setting: Setting,
     sig: &Signature,
     table: &mut Table,
 ) -> Result<ConstDecl, ElabRefused>
     requires { IsBelow (length table.old.trees) sig.now }
-    ensures gives { GivesConstant table.new result (declared_fun (context_in table.old sig.now) name.now inputs.now output.now) }
+    ensures gives { GivesConstant table.new result (declared_fun (context_at table.old sig.now setting) name.now inputs.now output.now) }
     ensures may { IfOk result (λ d. MayRepeat (context_in table.old sig.now) (read_constant table.new.trees d)) }
     ensures grows { GrowsUnder sig.now table.old table.new }
 {
@@ -237,8 +254,8 @@ pub fn declared_fun(
     if !may_declare(sig, name) {
         return Err(ElabRefused::Redeclared);
     }
-    let ty = type_of_function(alloc, inputs, output, sig, table)?;
-    plain_constant(alloc, name, ty, Attribute::Plain, table)
+    let ty = type_of_function(alloc, inputs, output, setting, sig, table)?;
+    plain_constant(alloc, name, ty, Attribute::Plain, setting, table)
 }
 
 // The type of a function by its inputs and its output.
@@ -246,24 +263,26 @@ fn type_of_function(
     alloc: Global,
     inputs: &Children<'_>,
     output: &Sexp<'_>,
+    setting: Setting,
     sig: &Signature,
     table: &mut Table,
 ) -> Result<Id, ElabRefused>
     requires { IsBelow (length table.old.trees) sig.now }
-    ensures gives { GivesTree table.new result (type_of_function (context_in table.old sig.now) inputs.now output.now) }
+    ensures gives { GivesTree table.new result (type_of_function (context_at table.old sig.now setting) inputs.now output.now) }
     ensures grows { Grows table.old table.new }
 {
     names_law();
     let none = Locals::new(alloc)?;
-    let mut types = meanings(alloc, inputs, &none, sig, table)?;
-    let output = term(alloc, output, &none, sig, table)?;
+    let mut types = meanings_at(alloc, inputs, &none, setting, sig, table)?;
+    let output = term_at(alloc, output, &none, setting, sig, table)?;
     types.push(output)?;
     let made = function_type(table, types.as_slice())?;
     prove!(table.height(made) <= HEIGHT_LIMIT);
     Ok(made)
 }
 
-/// `(declare-sort NAME ARITY)`: a constant that makes a type of so many types.
+/// `(declare-sort NAME ARITY)` in a file of this kind: a constant that makes a type of so many
+/// types.
 ///
 /// `Redeclared`: the name may not be declared, and is none that the reference file declared.
 /// `Memory`: want of memory.
@@ -271,11 +290,12 @@ pub fn declared_sort(
     alloc: Global,
     name: &[u8],
     arity: u8,
+    setting: Setting,
     sig: &Signature,
     table: &mut Table,
 ) -> Result<ConstDecl, ElabRefused>
     requires { IsBelow (length table.old.trees) sig.now }
-    ensures gives { GivesConstant table.new result (declared_sort (context_in table.old sig.now) name.now arity) }
+    ensures gives { GivesConstant table.new result (declared_sort (context_at table.old sig.now setting) name.now arity) }
     ensures may { IfOk result (λ d. MayRepeat (context_in table.old sig.now) (read_constant table.new.trees d)) }
     ensures grows { GrowsUnder sig.now table.old table.new }
 {
@@ -284,7 +304,7 @@ pub fn declared_sort(
         return Err(ElabRefused::Redeclared);
     }
     let ty = sort_type(table, arity)?;
-    plain_constant(alloc, name, ty, Attribute::Plain, table)
+    plain_constant(alloc, name, ty, Attribute::Plain, setting, table)
 }
 
 /// `(declare-parameterized-const NAME (PARAMETER ..) TYPE ATTRIBUTE)`: a constant with parameters.
@@ -320,7 +340,7 @@ pub fn declared_parameterized(
     if params.len() > PARAMETERS {
         return Err(ElabRefused::Parameters);
     }
-    let bound = bind(alloc, params, sig, table)?;
+    let bound = bind(alloc, params, Setting::Proof, sig, table)?;
     let (ty, attribute) = typed_over(alloc, &bound, ty, attribute, sig, table)?;
     Ok(ConstDecl {
         name: Name::new(alloc, name)?,
@@ -350,7 +370,7 @@ fn typed_over(
     let result = term(alloc, ty, &bound.locals, sig, table)?;
     let whole = bound_type(table, 0, bound.params.as_slice(), result)?;
     prove!(table.height(whole) <= HEIGHT_LIMIT);
-    let attribute = attribute_meant(alloc, attribute, &bound.locals, sig, table)?;
+    let attribute = attribute_meant(alloc, attribute, &bound.locals, Setting::Proof, sig, table)?;
     Ok((whole, attribute))
 }
 
@@ -410,7 +430,7 @@ pub fn defined(
     if params.len() > PARAMETERS {
         return Err(ElabRefused::Parameters);
     }
-    let bound = bind(alloc, params, sig, table)?;
+    let bound = bind(alloc, params, Setting::Proof, sig, table)?;
     let tree = term(alloc, body, &bound.locals, sig, table)?;
     Ok(MacroDecl {
         name: Name::new(alloc, name)?,

@@ -6,18 +6,19 @@ ghost use Rattle.eo_sig.specs.Reading.{IsBelow};
 ghost use Rattle.eo_term.specs.Growth.{Grows, Makes};
 ghost use Rattle.eo_term.specs.Tree.{Par};
 ghost use Rattle.eo_shape.specs.Reading as shapes;
-ghost use Rattle.eo_elab.specs.Declarations.{bind, unbound};
-ghost use Rattle.eo_elab.specs.Declaring.{BoundBelow, param_of};
-ghost use Rattle.eo_elab.specs.Gives.{GivesBound, ReadsParameter};
+ghost use Rattle.eo_elab.specs.Declarations.{bind, bind_types, unbound};
+ghost use Rattle.eo_elab.specs.Declaring.{BoundBelow, TypesBelow};
+ghost use Rattle.eo_elab.specs.Gives.{GivesBound, GivesTypes, ReadsParameter, NamesType};
 ghost use Rattle.eo_names.specs.Names.{local};
-ghost use Rattle.eo_elab.specs.Worlds.{context_in};
+ghost use Rattle.eo_elab.specs.Worlds.{context_at};
 
-use crate::{ElabRefused, Locals, term};
+use crate::terms::term_at;
+use crate::{ElabRefused, Locals, Setting};
 use eo_base::Name;
 use eo_names::names_law;
-use eo_shape::{ParameterShape, ParameterShapes};
+use eo_shape::{ParameterShape, ParameterShapes, Symbols};
 use eo_sig::{Param, Params, Signature};
-use eo_term::{Id, Node, Table};
+use eo_term::{Id, Node, TYPE, Table};
 use std::alloc::{AllocError, Global};
 
 /// Parameters that were read, and what their names stand for.
@@ -29,25 +30,46 @@ pub(crate) struct Bound {
     pub(crate) locals: Locals,
 }
 
-/// The parameters in order. The type of each may use those before it.
+/// The parameters in order, in a file of this kind. The type of each may use those before it.
 ///
 /// `Redeclared` is a name that an earlier parameter has; any other fault is that of a type.
 pub(crate) fn bind(
     alloc: Global,
     shapes: &ParameterShapes<'_>,
+    setting: Setting,
     sig: &Signature,
     table: &mut Table,
 ) -> Result<Bound, ElabRefused>
     requires ready { IsBelow (length table.old.trees) sig.now }
     requires few { length shapes.now ≤ parameters_limit }
-    ensures gives { GivesBound sig.now table.new result (bind (context_in table.old sig.now) unbound shapes.now) }
+    ensures gives { GivesBound sig.now table.new result (bind (context_at table.old sig.now setting) unbound shapes.now) }
     ensures count { IfOk result (λ b. length b.params ≡ length shapes.now) }
     ensures grows { Grows table.old table.new }
 {
     sig.laws();
     let mut bound = no_parameters(alloc)?;
     for shape in shapes.again() {
-        bound.read(alloc, &shape, sig, table)?;
+        bound.read(alloc, &shape, setting, sig, table)?;
+    }
+    Ok(bound)
+}
+
+/// Parameters of these names in order, each of which stands for a type.
+///
+/// `Redeclared` is a name that an earlier parameter has.
+pub(crate) fn bind_types(
+    alloc: Global,
+    names: &Symbols<'_>,
+    table: &mut Table,
+) -> Result<Bound, ElabRefused>
+    requires few { length names.now ≤ parameters_limit }
+    ensures gives { GivesTypes table.new result (bind_types unbound names.now) }
+    ensures count { IfOk result (λ b. length b.params ≡ length names.now) }
+    ensures grows { Grows table.old table.new }
+{
+    let mut bound = no_parameters(alloc)?;
+    for name in names.again() {
+        bound.name_type(alloc, name, table)?;
     }
     Ok(bound)
 }
@@ -69,12 +91,13 @@ impl Bound {
         &mut self,
         alloc: Global,
         shape: &ParameterShape<'_>,
+        setting: Setting,
         sig: &Signature,
         table: &mut Table,
     ) -> Result<(), ElabRefused>
         requires bound { BoundBelow (length table.old.trees) sig.now self.old }
         requires room { length self.old.params < parameters_limit }
-        ensures reads { ReadsParameter sig.now table.old table.new (shapes.read_parameter shape.now) self.old self.new result }
+        ensures reads { ReadsParameter sig.now setting table.old table.new (shapes.read_parameter shape.now) self.old self.new result }
         ensures count { OnOk result (length self.new.params ≡ suc (length self.old.params)) }
         ensures grows { Grows table.old table.new }
     {
@@ -82,9 +105,43 @@ impl Bound {
         if self.has(shape.name) {
             return Err(ElabRefused::Redeclared);
         }
-        let ty = term(alloc, &shape.ty, &self.locals, sig, table)?;
+        let ty = term_at(alloc, &shape.ty, &self.locals, setting, sig, table)?;
         let id = parameter(table, self.params.as_slice().len() as u8)?;
-        self.push(alloc, shape, ty, id)?;
+        let param = Param {
+            name: Name::new(alloc, shape.name)?,
+            ty,
+            implicit: shape.implicit,
+            list: shape.list,
+        };
+        self.push(param, id)?;
+        Ok(())
+    }
+
+    // Reads one parameter more, which stands for a type.
+    fn name_type(
+        &mut self,
+        alloc: Global,
+        name: &[u8],
+        table: &mut Table,
+    ) -> Result<(), ElabRefused>
+        requires bound { TypesBelow (length table.old.trees) self.old }
+        requires room { length self.old.params < parameters_limit }
+        ensures names { NamesType table.old table.new name.now self.old self.new result }
+        ensures count { OnOk result (length self.new.params ≡ suc (length self.old.params)) }
+        ensures grows { Grows table.old table.new }
+    {
+        table.laws();
+        if self.has(name) {
+            return Err(ElabRefused::Redeclared);
+        }
+        let id = parameter(table, self.params.as_slice().len() as u8)?;
+        let param = Param {
+            name: Name::new(alloc, name)?,
+            ty: TYPE,
+            implicit: false,
+            list: false,
+        };
+        self.push(param, id)?;
         Ok(())
     }
 
@@ -98,24 +155,13 @@ impl Bound {
             .any(|p| p.name.as_bytes() == name)
     }
 
-    // Adds a parameter of this type, for which its name stands as this term.
-    fn push(
-        &mut self,
-        alloc: Global,
-        shape: &ParameterShape<'_>,
-        ty: Id,
-        id: Id,
-    ) -> Result<(), AllocError>
-        ensures params { OnOk result (self.new.params ≡ self.old.params ++ param_of shape.now ty ∷ []) }
-        ensures locals { OnOk result (self.new.locals ≡ local shape.now.name.now id shape.now.list ∷ self.old.locals) }
+    // Adds a parameter, for which its name stands as this term.
+    fn push(&mut self, param: Param, id: Id) -> Result<(), AllocError>
+        ensures params { OnOk result (self.new.params ≡ self.old.params ++ param ∷ []) }
+        ensures locals { OnOk result (self.new.locals ≡ local param.name id param.list ∷ self.old.locals) }
     {
-        self.locals.add(shape.name, id, shape.list)?;
-        self.params.push(Param {
-            name: Name::new(alloc, shape.name)?,
-            ty,
-            implicit: shape.implicit,
-            list: shape.list,
-        })?;
+        self.locals.add(param.name.as_bytes(), id, param.list)?;
+        self.params.push(param)?;
         Ok(())
     }
 }

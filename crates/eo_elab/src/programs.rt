@@ -15,7 +15,7 @@ ghost use Rattle.eo_elab.specs.Worlds.{context_in, case_in, cases_in};
 use crate::constants::meanings;
 use crate::parameters::{Bound, bind};
 use crate::terms::{mean_term, mean_terms};
-use crate::{ElabRefused, Locals, term};
+use crate::{ElabRefused, Locals, Setting, term};
 use eo_base::Name;
 use eo_base::limits::PARAMETERS;
 use eo_names::names_law;
@@ -58,7 +58,7 @@ pub fn declared_program(
     if shape.inputs.len() > PARAMETERS {
         return Err(ElabRefused::Parameters);
     }
-    let bound = bind(alloc, &shape.params, sig, table)?;
+    let bound = bind(alloc, &shape.params, Setting::Proof, sig, table)?;
     program_over(alloc, shape, bound, sig, table)
 }
 
@@ -170,7 +170,7 @@ fn mean_case(
     if shape.patterns.len() != inputs {
         return Err(ElabRefused::BadArity);
     }
-    let patterns = mean_terms(alloc, &shape.patterns, locals, sig, table)?;
-    let body = mean_term(alloc, &shape.body, locals, sig, table)?;
+    let patterns = mean_terms(alloc, &shape.patterns, locals, Setting::Proof, sig, table)?;
+    let body = mean_term(alloc, &shape.body, locals, Setting::Proof, sig, table)?;
     Ok(Case { patterns, body })
 }

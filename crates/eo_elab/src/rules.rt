@@ -16,7 +16,7 @@ ghost use Rattle.eo_names.specs.Worlds.{world_of};
 
 use crate::constants::meanings;
 use crate::parameters::{Bound, bind};
-use crate::{ElabRefused, Locals, term};
+use crate::{ElabRefused, Locals, Setting, term};
 use eo_base::Name;
 use eo_base::limits::PARAMETERS;
 use eo_names::names_law;
@@ -76,7 +76,7 @@ pub fn declared_rule(
     if shape.params.len() > PARAMETERS {
         return Err(ElabRefused::Parameters);
     }
-    let bound = bind(alloc, &shape.params, sig, table)?;
+    let bound = bind(alloc, &shape.params, Setting::Proof, sig, table)?;
     rule_over(alloc, shape, bound, sig, table)
 }
 

@@ -7,11 +7,11 @@ ghost use Rattle.eo_names.specs.Worlds.{world_of};
 ghost use Rattle.eo_names.specs.Names.{BindingsBelow};
 ghost use Rattle.eo_elab.specs.Gives.{GivesTrees, GivesTerm, NamesGrow};
 ghost use Rattle.eo_names.specs.Scopes.{read_setting};
-ghost use Rattle.eo_elab.specs.Worlds.{meaning_in, meanings_in, meant_at, reference_setting, reference_meaning};
+ghost use Rattle.eo_elab.specs.Worlds.{meaning_in, meanings_in, world_in, meant_at, reference_setting, reference_meaning};
 
 use crate::walk::mean;
-use crate::{ElabRefused, Locals, Names};
-use eo_names::{Scope, Setting, names_law};
+use crate::{ElabRefused, Locals, Names, Setting};
+use eo_names::{Scope, names_law};
 use eo_sexp::{Children, Sexp};
 use eo_sig::{Signature, SignatureView};
 use eo_term::{Id, Ids, Table};
@@ -44,7 +44,7 @@ pub fn term(
     ensures grows { Grows table.old table.new }
     ensures keeps { Keeps sig.now locals.now table.old.trees table.new.trees }
 {
-    mean_term(alloc, s, locals, &SignatureView::of(sig), table)
+    term_at(alloc, s, locals, Setting::Proof, sig, table)
 }
 
 /// The meaning of a term of a reference file, as a term of the table, by the rules that
@@ -130,40 +130,59 @@ fn mean_at(
     mean(alloc, s, &Scope::Outer(locals, setting), sig, table, labels)
 }
 
-/// The meaning of a term where this is declared.
+/// The meaning of a term in a file of this kind, outside of its assertions.
+pub(crate) fn term_at(
+    alloc: Global,
+    s: &Sexp<'_>,
+    locals: &Locals,
+    setting: Setting,
+    sig: &Signature,
+    table: &mut Table,
+) -> Result<Id, ElabRefused>
+    requires ready { IsReady (length table.old.trees) sig.now locals.now }
+    ensures gives { GivesTree table.new result (meaning_in (world_in table.old sig.now locals.now setting) s.now) }
+    ensures grows { Grows table.old table.new }
+    ensures keeps { Keeps sig.now locals.now table.old.trees table.new.trees }
+{
+    mean_term(alloc, s, locals, setting, &SignatureView::of(sig), table)
+}
+
+/// The same where this is declared.
 pub(crate) fn mean_term(
     alloc: Global,
     s: &Sexp<'_>,
     locals: &Locals,
+    setting: Setting,
     sig: &SignatureView<'_>,
     table: &mut Table,
 ) -> Result<Id, ElabRefused>
     requires ready { IsReady (length table.old.trees) sig.now locals.now }
-    ensures gives { GivesTree table.new result (meaning_in (world_of table.old sig.now locals.now) s.now) }
+    ensures gives { GivesTree table.new result (meaning_in (world_in table.old sig.now locals.now setting) s.now) }
     ensures grows { Grows table.old table.new }
     ensures keeps { Keeps sig.now locals.now table.old.trees table.new.trees }
 {
     let mut labels = Names::new(alloc);
-    mean_at(alloc, s, locals, Setting::Proof, sig, table, &mut labels)
+    mean_at(alloc, s, locals, setting, sig, table, &mut labels)
 }
 
-/// The meanings of terms in order, where this is declared.
+/// The meanings of terms in order, in a file of this kind, where this is declared.
 pub(crate) fn mean_terms(
     alloc: Global,
     terms: &Children<'_>,
     locals: &Locals,
+    setting: Setting,
     sig: &SignatureView<'_>,
     table: &mut Table,
 ) -> Result<Ids, ElabRefused>
     requires ready { IsReady (length table.old.trees) sig.now locals.now }
-    ensures gives { GivesTrees table.new result (meanings_in (world_of table.old sig.now locals.now) terms.now) }
+    ensures gives { GivesTrees table.new result (meanings_in (world_in table.old sig.now locals.now setting) terms.now) }
     ensures count { IfOk result (λ ids. length ids ≡ length terms.now) }
     ensures grows { Grows table.old table.new }
 {
     names_law();
     let mut ids = Ids::new(alloc);
     for s in terms.again() {
-        let id = mean_term(alloc, &s, locals, sig, table)?;
+        let id = mean_term(alloc, &s, locals, setting, sig, table)?;
         ids.push(id)?;
     }
     Ok(ids)

@@ -13,7 +13,7 @@ pub use decimal::read_numeral;
 pub use literals::read_literal;
 pub use spelling::{write_literal, write_string};
 use std::alloc::AllocError;
-pub use strings::read_string;
+pub use strings::{read_string, string_bytes};
 use thiserror::Error;
 
 /// A class of literals that gets one declared type.

@@ -1,8 +1,8 @@
 //! String literals.
-ghost use Rattle.std.specs.Prelude.{◌≡◌, ◌≤◌, ◌<◌, ◌==◌, Err, Some, None, IfOk, IfSome, option_map, position, take, length};
+ghost use Rattle.std.specs.Prelude.{◌≡◌, ◌≤◌, ◌<◌, ◌==◌, false, Err, Some, None, IfOk, IfSome, option_map, position, take, length};
 ghost use Rattle.eo_base.specs.Characters.{greatest_character};
 ghost use Rattle.eo_lit.specs.declared.StringRefused.TheVariants.{Bad};
-ghost use Rattle.eo_lit.specs.Literals.{string_value, character_at, character_of, escape, in_braces, braced, spelled};
+ghost use Rattle.eo_lit.specs.Literals.{string_value, string_bytes, without_doubles, character_at, character_of, escape, in_braces, braced, spelled};
 
 use crate::StringRefused;
 use crate::hexadecimal::hexadecimal;
@@ -42,6 +42,35 @@ pub fn read_string(alloc: Global, body: &[u8]) -> Result<Chars, StringRefused>
         rest = &after[spelled.more..];
     }
     Chars::new(alloc, &characters).map_err(StringRefused::Memory)
+}
+
+/// The bytes of a string literal, from those between its quotes: `""` is one quote, and nothing
+/// else is an escape.
+#[tactic(auto, unfolding(crate::specs::Literals::string_bytes))]
+pub fn string_bytes(alloc: Global, body: &[u8]) -> Result<Vec<u8>, AllocError>
+    ensures { IfOk result (λ bytes. bytes.items ≡ string_bytes body.now) }
+{
+    let mut bytes = Vec::new(alloc);
+    let mut rest = body;
+    while let Some((first, after)) = rest.split_first() {
+        bytes.push(*first)?;
+        rest = behind(*first, after);
+    }
+    Ok(bytes)
+}
+
+/// What comes behind this byte: a quote takes the one behind it with it.
+fn behind(first: u8, after: &[u8]) -> &[u8]
+    ensures same { without_doubles (first == 34) after.now ≡ without_doubles false result.now }
+    ensures shorter { length result.now ≤ length after.now }
+{
+    if first != b'"' {
+        return after;
+    }
+    match after.split_first() {
+        Some((_, rest)) => rest,
+        None => after,
+    }
 }
 
 /// The character that begins with this byte.

@@ -28,7 +28,7 @@ use Rattle.eo_run.specs.declared.refused.Refused.{Refused}
 use Rattle.eo_run.specs.Stepping.{of_elab, of_sig, Refuses, Does}
 use Rattle.eo_sexp.specs.Sexp.{Sexp}
 use Rattle.eo_shape.specs.Shapes.{AttributeShape, ProgramShape}
-use Rattle.eo_run.specs.declared.Origin.{Origin}
+use Rattle.eo_run.specs.Origin.{Origin}
 use Rattle.eo_run.specs.State.{State, context, with_entry, with_macro}
 use Rattle.eo_run.specs.Step.{is_plain, repeats_constant, repeats_macro, type_value, added_constant, checked_constant, typed_constant, added_macro, is_in_proof, added_program, define_program}
 use Rattle.eo_run.proofs.Exits.{at_exit}

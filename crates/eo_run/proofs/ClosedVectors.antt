@@ -5,12 +5,13 @@ use Rattle.eo_base.specs.declared.FaultName.TheVariants.{UnknownCommand, BadComm
 use Rattle.eo_elab.proofs.Texts.{sexp_of}
 use Rattle.eo_run.proofs.Computed.{computed}
 use Rattle.eo_run.specs.State.{State, first_state}
-use Rattle.eo_run.specs.Step.{step}
-use Rattle.eo_run.specs.declared.Origin.{Origin}
-use Rattle.eo_run.specs.declared.Origin.TheVariants as origin
+use Rattle.eo_run.specs.Commands.{step}
+use Rattle.eo_run.specs.Origin.{Origin}
+use Rattle.eo_run.specs.Origin as origin
+use Rattle.eo_run.specs.declared.Next.{Next}
 
 -- the first command of a run
-abbrev first : (closed : Bool) → Origin → List ℕ → Checked State
+abbrev first : (closed : Bool) → Origin → List ℕ → Checked (State × Next)
 first closed from text = step (first_state closed) from (sexp_of text)
 
 -- behind the shape and before the name

@@ -15,7 +15,7 @@ use Rattle.eo_sexp.specs.Sexp.{Sexp}
 use Rattle.eo_shape.specs.Shapes.{RuleShape, StepShape}
 use Rattle.eo_sig.specs.Signature.{Rule, rule_named, rule_at}
 use Rattle.eo_term.specs.Tree.{Tree}
-use Rattle.eo_run.specs.declared.Origin.{Origin}
+use Rattle.eo_run.specs.Origin.{Origin}
 use Rattle.eo_run.specs.State.{State, without_scope}
 use Rattle.eo_run.specs.Step.{Concluded, is_free_fact, is_free_outer_fact, is_sorry, with_conclusion, value, values, optional_value, premises, use_of, concluded_by, concluded, step_plain, step_pop, is_in_proof, added_rule, declare_rule}
 use Rattle.eo_run.specs.Using.{concluded_from, conclusion_with, conclusion_outside}

@@ -11,26 +11,40 @@ use Rattle.eo_shape.specs.Reading as shapes
 use Rattle.eo_shape.specs.declared.ShapeRefused.{ShapeRefused}
 use Rattle.eo_shape.specs.declared.ShapeRefused.TheVariants as shape
 use Rattle.eo_run.specs.State.{State, first_state, begin_reference, is_in_scope}
-use Rattle.eo_run.specs.Step.{is_in_reference, by_command, may_be_in_scope, scoped_command, uncounted}
-use Rattle.eo_run.specs.Stepping.{IsMemory, Refuses, Does, Standing, Steps}
+use Rattle.eo_run.specs.Step.{is_in_reference}
+use Rattle.eo_run.specs.Commands.{by_command, may_be_in_scope, next_by, scoped_command, placed_command, uncounted}
+use Rattle.eo_run.specs.Stepping.{IsMemory, Refuses, Gives, Does, DoesNext, Standing, Steps, StepsTo}
+use Rattle.eo_run.specs.Held.{state_of}
+use Rattle.eo_run.specs.declared.Next.{Next}
 use Rattle.eo_run.specs.declared.held.Held.{Held}
 use Rattle.eo_run.specs.declared.refused.Refused.{Refused}
 use Rattle.eo_run.specs.declared.refused.Refused.TheVariants as refused
-use Rattle.eo_run.proofs.Sessions.{shape-fault, shape-ok, scope-fault, scope-ok, does-fault, begin-ok}
-use Rattle.eo_run.specs.declared.Origin.{Origin}
+use Rattle.eo_run.proofs.Exits.{at_exit}
+use Rattle.eo_run.proofs.Sessions.{shape-fault, shape-ok, scope-fault, scope-ok, placed-fault, placed-stops, placed-ok, refuses_on, begin-ok}
+use Rattle.eo_run.specs.Origin.{Origin}
 
 -- ---- each command
 
-module _ (st : State) (from : Origin) (s : Sexp) (b : Bool) (e : b ≡ is_in_reference from) (r : Result (Unit {0}) Refused) (new : Held) where
-  pub does-shape : (x : ShapeRefused) → command_of b s ≡ Err (shapes.fault_of x) → IsErrAnd r (λ y. y ≡ refused.Fault (shapes.fault_of x)) → Does r (uncounted st from s) new
-  does-shape x h i = does-fault (uncounted st from s) r new (shapes.fault_of x) (shape-fault st from s b e (shapes.fault_of x) h) (present x) i
+module _ (st : State) (from : Origin) (s : Sexp) (b : Bool) (e : b ≡ is_in_reference from) (r : Result Next Refused) (new : Held) where
+  pub does-shape : (x : ShapeRefused) → command_of b s ≡ Err (shapes.fault_of x) → IsErrAnd r (λ y. y ≡ refused.Fault (shapes.fault_of x)) → DoesNext r (uncounted st from s) new
+  does-shape x h i = at_exit (λ (r : Result Next Refused). DoesNext r (uncounted st from s) new) r (refused.Fault (shapes.fault_of x)) i (shape-fault st from s b e (shapes.fault_of x) h, present x)
     where
       present : (x : ShapeRefused) → shapes.fault_of x ≡ FileAbsent → ⊥
       present shape.UnknownCommand q = absurd cc
       present shape.BadCommand q = absurd cc
 
-  pub does-command : (k : Command) → command_of b s ≡ Ok k → Does r (scoped_command st from k) new → Does r (uncounted st from s) new
-  does-command k h d = subst (λ (m : Checked State). Does r m new) (sym (shape-ok st from s b e k h)) d
+  pub does-command : (k : Command) → command_of b s ≡ Ok k → DoesNext r (placed_command st from k) new → DoesNext r (uncounted st from s) new
+  does-command k h d = subst (λ (m : Checked (State × Next)). DoesNext r m new) (sym (shape-ok st from s b e k h)) d
+
+module _ (st : State) (from : Origin) (k : Command) where
+  -- the state is refused
+  pub does-stops : (r : Result Next Refused) (x : Refused) (new : Held) → Refuses (scoped_command st from k) x → IsErrAnd r (λ y. y ≡ x) → DoesNext r (placed_command st from k) new
+  does-stops r x new h i = at_exit (λ (r : Result Next Refused). DoesNext r (placed_command st from k) new) r x i (refuses_on (scoped_command st from k) (placed_command st from k) x h (placed-fault st from k))
+
+  -- what is done next
+  pub does-next : (r : Result Next Refused) (new : Held) → scoped_command st from k ≡ Ok (state_of new) → Gives r (next_by (state_of new) k) → DoesNext r (placed_command st from k) new
+  does-next (Ok what) new e g = placed-ok st from k (state_of new) e what g
+  does-next (Err x) new e g = refuses_on (next_by (state_of new) k) (placed_command st from k) x g (placed-stops st from k (state_of new) e)
 
 pub does-in_scope : (st : State) (from : Origin) (k : Command) (b : Bool) → b ≡ (not (is_in_scope st) || may_be_in_scope k) → b ≡ false → Refuses (scoped_command st from k) (refused.Fault InScope)
 does-in_scope st from k b e h = (scope-fault st from k (sym e ∙ h), λ q. absurd cc)
@@ -41,24 +55,7 @@ module _ (st : State) (from : Origin) (k : Command) (r : Result (Unit {0}) Refus
 
 -- ---- what ends a session
 
-pub steps-refused : (x : Refused) (m n : Checked State) (old new : Standing) → old.ended ≡ false → new.ended ≡ true → Refuses m x → ((name : FaultName) → m ≡ Err name → n ≡ Err name) → Steps (Err x) n old new
+pub steps-refused : (x : Refused) (m n : Checked (State × Next)) (old new : Standing) → old.ended ≡ false → new.ended ≡ true → Refuses m x → ((name : FaultName) → m ≡ Err name → n ≡ Err name) → StepsTo (Err x) n old new
 steps-refused (refused.Fault name) m n old new o e h f = (o, f name h.0, e)
 steps-refused refused.Ended m n old new o e h f = absurd h.1
 steps-refused (refused.Memory a) m n old new o e h f = (o, e)
-
--- a first reference file is not refused
-pub first-begins : {A : Type 0} (r : Result A Refused) (x : Refused) (old new : Standing) → old ≡ record { ended = false; state = first_state false } → Steps (Err x) (begin_reference old.state) old new → IsErrAnd r (λ y. y ≡ x) → IfErr r IsMemory
-unfolding first_state
-first-begins {A} r x old new o h i = passed r (by x h) i
-  where
-    begun : begin_reference old.state ≡ Ok (record (first_state false) { has_reference = true })
-    begun = ap (λ (s : Standing). begin_reference s.state) o ∙ begin-ok (first_state false) refl
-
-    by : (x : Refused) → Steps (Err x) (begin_reference old.state) old new → IsMemory x
-    by (refused.Fault name) h = absurd (let wrong = sym begun ∙ h.1 in cc)
-    by refused.Ended h = absurd (true≢false (sym h.0 ∙ ap (λ (s : Standing). s.ended) o))
-    by (refused.Memory a) h = tt
-
-    passed : (r : Result A Refused) → IsMemory x → IsErrAnd r (λ y. y ≡ x) → IfErr r IsMemory
-    passed (Ok y) m i = tt
-    passed (Err y) m i = subst IsMemory (sym i) m

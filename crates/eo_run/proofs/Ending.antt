@@ -1,6 +1,7 @@
 -- A session that goes on with what a collector answers.
 use Rattle.std.proofs.Common.{◌≡◌, ℕ, ◌+◌, ◌≤◌, ◌<◌, Bool, true, false, List, [], ◌++◌, length, take, drop, sym, ap, subst, ◌∙◌, arith, length-drop}
 use Rattle.std.proofs.Math.Seq.{take-length}
+use Rattle.std.proofs.lemmas.List.{drop-drop}
 use Rattle.std.specs.Prelude.{◌≢◌, ◌-◌}
 use Rattle.eo_base.specs.declared.FaultName.{FaultName}
 use Rattle.eo_base.specs.declared.FaultName.TheVariants.{FileAbsent}
@@ -13,10 +14,10 @@ use Rattle.eo_sexp.specs.Collecting.{Collecting, Within, AtCommand, Failed as Fa
 use Rattle.eo_sexp.specs.Cutting.{IsWaiting, rest_of, ReadsInPieces}
 use Rattle.eo_sexp.specs.Answering.{IsAnswer, IsLexical, AnswersAlone}
 use Rattle.eo_run.specs.State.{State}
-use Rattle.eo_run.specs.Reading.{behind, at_end as ending, Leads, Fails, IsFed}
-use Rattle.eo_run.proofs.Running.{leads-same, fails-fault}
-use Rattle.eo_run.proofs.Feeding.{IsCommand, at_more, at_command, at_fault, at_end, at_end_command, at_end_fault, count_of, here-used}
-use Rattle.eo_run.specs.declared.Origin.{Origin}
+use Rattle.eo_run.specs.Reading.{count_of, behind, at_end as ending, LeadsOn, FailsAt, IsFed}
+use Rattle.eo_run.proofs.Running.{on-same, on-fault}
+use Rattle.eo_run.proofs.Feeding.{IsCommand, at_more, at_command, at_fault, at_end, at_end_command, at_end_fault, here-used}
+use Rattle.eo_run.specs.Origin.{Origin}
 
 pub live-within : (c : Collecting) → IsWithin c → IsLive c
 live-within (Within phase comment start begun) w = tt
@@ -28,8 +29,11 @@ live-within NoMemory w = absurd w
 pub tail_of : (xs : List ℕ) (u : ℕ) → take (length xs - u) (drop u xs) ≡ drop u xs
 tail_of xs u = ap (λ n. take n (drop u xs)) (sym (length-drop u xs)) ∙ take-length (drop u xs)
 
-pub at_command-is : (c : Collecting) (k : Placed) (phase : Phase) → c ≡ AtCommand k phase → IsAtCommand c
-at_command-is c k phase e = subst IsAtCommand (sym e) tt
+-- what is left of a piece is its end, also behind u bytes more
+pub tail_later : (xs rest : List ℕ) (u : ℕ) → drop (length xs - length rest) xs ≡ rest → length rest ≤ length xs → u ≤ length rest → drop (length xs - length (drop u rest)) xs ≡ drop u rest
+tail_later xs rest u e fits within =
+    let count : length xs - length (drop u rest) ≡ (length xs - length rest) + u = omega (arith, length-drop u rest, fits, within) in
+    ap (λ n. drop n xs) count ∙ sym (drop-drop u (length xs - length rest) xs) ∙ ap (drop u) e
 
 -- a fault of the lexicon is not that of an absent file
 pub lexical-present : (name : FaultName) → IsLexical name → name ≢ FileAbsent
@@ -48,7 +52,7 @@ module _ (law : ReadsInPieces limits) (alone : AnswersAlone limits) (from : Orig
         let within : IsWithin d = at_more c d answer e in
         let inside : IsWithin (fed_with limits c p) = subst IsWithin is within in
         record {
-          leads = leads-same from st (behind c p) (behind d []) (λ closes more. law.goes_on closes c p more inside ∙ ap (λ x. rest_of limits closes x more) (sym is));
+          leads = on-same from st (behind c p) (behind d []) (λ closes more. law.goes_on closes c p more inside ∙ ap (λ x. rest_of limits closes x more) (sym is));
           live = live-within d within;
           waiting = subst (IsWaiting limits) (sym is) (law.waits c p);
           here = (let counted = ap (λ x. (here_of x).offset) is ∙ alone.counts c p inside in omega (arith, counted));
@@ -86,10 +90,10 @@ module _ (law : ReadsInPieces limits) (alone : AnswersAlone limits) (from : Orig
       fed-smaller = let given = ap count_of (fed-gives false []) in omega (arith, given)
 
     -- a fault
-    pub fed-fault : (name : FaultName) (at : Spot) → fed.Fault name at ≡ fed_answer c d → (st : State) → Fails from st (behind c p) name at × (name ≢ FileAbsent)
+    pub fed-fault : (name : FaultName) (at : Spot) → fed.Fault name at ≡ fed_answer c d → (st : State) → FailsAt from st (behind c p) name at × (name ≢ FileAbsent)
     fed-fault name at e st =
         let f = at_fault c d name at answer e in
-        (fails-fault from st (behind c p) name at (λ closes more. law.fault closes c p more name at (sym is ∙ f.is)), lexical-present name f.lexical)
+        (on-fault from st (behind c p) name at (λ closes more. law.fault closes c p more name at (sym is ∙ f.is)), lexical-present name f.lexical)
 
   -- ---- the end
 
@@ -97,12 +101,14 @@ module _ (law : ReadsInPieces limits) (alone : AnswersAlone limits) (from : Orig
     answer-end : IsAnswer d
     answer-end = subst IsAnswer (sym is) (alone.end_answers c live)
 
-    pub end-ends : finished.End ≡ finish_answer d → (at : Spot) → (IsLive d → at ≡ here_of d) → (st : State) → Leads from st st (ending c) (λ closes more. Ends at)
-    end-ends e at h st =
-        let within : IsWithin d = at_end d answer-end e in
-        let inside : IsWithin (finished_with limits c) = subst IsWithin is within in
-        let there = h (live-within d within) ∙ ap here_of is ∙ alone.end_stays c inside in
-        leads-same from st (ending c) (λ closes more. Ends at) (λ closes more. law.ends.end c inside ∙ ap Ends (sym there))
+    pub end-ends : finished.End ≡ finish_answer d → (st : State) → LeadsOn from st (ending c) st (λ closes more. Ends (here_of d))
+    end-ends e st =
+        let inside : IsWithin (finished_with limits c) = subst IsWithin is (at_end d answer-end e) in
+        let there = ap here_of is ∙ alone.end_stays c inside in
+        on-same from st (ending c) (λ closes more. Ends (here_of d)) (λ closes more. law.ends.end c inside ∙ ap Ends (sym there))
+
+    pub ended-live : finished.End ≡ finish_answer d → IsLive d
+    ended-live e = live-within d (at_end d answer-end e)
 
     pub end-command : finished.Command ≡ finish_answer d → (k : Placed) × (phase : Phase) × (d ≡ AtCommand k phase)
     end-command e = at_end_command d answer-end e
@@ -123,7 +129,7 @@ module _ (law : ReadsInPieces limits) (alone : AnswersAlone limits) (from : Orig
       pub end-smaller : count_of (rest_of limits true d []) < count_of (rest_of limits true c [])
       end-smaller = let given = ap count_of (end-gives true []) in omega (arith, given)
 
-    pub end-fault : (name : FaultName) (at : Spot) → finished.Fault name at ≡ finish_answer d → (st : State) → Fails from st (ending c) name at × (name ≢ FileAbsent)
+    pub end-fault : (name : FaultName) (at : Spot) → finished.Fault name at ≡ finish_answer d → (st : State) → FailsAt from st (ending c) name at × (name ≢ FileAbsent)
     end-fault name at e st =
         let f = at_end_fault d name at answer-end e in
-        (fails-fault from st (ending c) name at (λ closes more. law.ends.fault c name at (sym is ∙ f.is)), lexical-present name f.lexical)
+        (on-fault from st (ending c) name at (λ closes more. law.ends.fault c name at (sym is ∙ f.is)), lexical-present name f.lexical)

@@ -1,36 +1,64 @@
 -- The exits of the functions that read a file.
-use Rattle.std.proofs.Common.{◌≡◌, sym, subst, Bool, List, ℕ}
+use Rattle.std.proofs.Common.{◌≡◌, ◌≤◌, ◌<◌, ◌+◌, sym, subst, Bool, true, false, List, [], ℕ, length, drop}
 use Rattle.std.specs.Prelude.{Result, Ok, Err}
 use Rattle.std.specs.Result.{IsErrAnd}
 use Rattle.eo_base.specs.declared.FaultName.{FaultName}
+use Rattle.eo_base.specs.Limits.{limits}
 use Rattle.eo_sexp.specs.Spot.{Spot}
 use Rattle.eo_sexp.specs.Texts.{Then, Placed}
-use Rattle.eo_sexp.specs.Collecting.{Collecting}
+use Rattle.eo_sexp.specs.Collecting.{Collecting, IsLive, here_of}
+use Rattle.eo_sexp.specs.Cutting.{IsWaiting}
 use Rattle.eo_run.specs.State.{State}
-use Rattle.eo_run.specs.Reading.{Continuation, behind, at_end, Leads, Fails, ChecksCommand, ChecksPiece, ChecksEnd}
+use Rattle.eo_run.specs.Commands.{step}
+use Rattle.eo_run.specs.Reading.{Continuation, count_of, behind, at_end, LeadsOn, AsksFor, FailsAt, ChecksCommand, ChecksPiece, ChecksEnd, IsAsked, IsAskedAtEnd}
+use Rattle.eo_run.specs.declared.reading.Asked.{Asked}
 use Rattle.eo_run.specs.declared.reading.Stop.{Stop}
 use Rattle.eo_run.specs.declared.reading.Stop.TheVariants as stop
-use Rattle.eo_run.proofs.Running.{leads-fails, fails-command}
-use Rattle.eo_run.specs.declared.Origin.{Origin}
+use Rattle.eo_run.proofs.Running.{on-fails, on-asks, command-fails, command-asks}
+use Rattle.eo_run.specs.Origin.{Origin}
 
 -- what a `?` returns is the error
 pub at_exit : {A E : Type 0} (P : Result A E → Type 0) (r : Result A E) (x : E) → IsErrAnd r (λ e. e ≡ x) → P (Err x) → P r
 at_exit P (Ok y) x e h = absurd e
 at_exit P (Err y) x e h = subst (λ z. P (Err z)) (sym e) h
 
-module _ (A : Type 0) (from : Origin) (old st new : State) (r t s : Continuation) (k : Placed) (leads : Leads from old st r t) (gives : (closes : Bool) (more : List ℕ) → t closes more ≡ Then k (s closes more)) where
+module _ (from : Origin) (old st new : State) (r t s : Continuation) (k : Placed) (leads : LeadsOn from old r st t) (gives : (closes : Bool) (more : List ℕ) → t closes more ≡ Then k (s closes more)) where
   -- a refused command refuses the run
-  pub refused-fails : (name : FaultName) (at : Spot) → ChecksCommand {A = A} from (Err (stop.Fault name at)) st new k → Fails from old r name at
-  refused-fails name at h = subst (λ (p : Spot). Fails from old r name p) (sym h.1) (leads-fails from old st r t name k.start leads (fails-command from st t s k name gives h.0))
+  pub refused-fails : (name : FaultName) (at : Spot) → ChecksCommand from (Err (stop.Fault name at)) st new k → FailsAt from old r name at
+  refused-fails name at h = subst (λ (p : Spot). FailsAt from old r name p) (sym h.1) (on-fails from old st r t name k.start leads (command-fails from st t s k gives name h.0))
 
-pub refused-end : (A : Type 0) (from : Origin) (old st new : State) (c d : Collecting) (s : Continuation) (k : Placed) → Leads from old st (at_end c) (at_end d) → ((closes : Bool) (more : List ℕ) → at_end d closes more ≡ Then k (s closes more)) →
-    (x : Stop) → ChecksCommand {A = A} from (Err x) st new k → ChecksEnd from (Err x) old new c
-refused-end A from old st new c d s k leads gives (stop.Fault name at) h = refused-fails A from old st new (at_end c) (at_end d) s k leads gives name at h
-refused-end A from old st new c d s k leads gives stop.ReadFault h = tt
-refused-end A from old st new c d s k leads gives stop.Memory h = tt
+module _ (from : Origin) (old st new : State) (c d : Collecting) (s : Continuation) (k : Placed) (leads : LeadsOn from old (at_end c) st (at_end d)) (gives : (closes : Bool) (more : List ℕ) → at_end d closes more ≡ Then k (s closes more)) where
+  pub refused-end : (x : Stop) (e : Collecting) → ChecksCommand from (Err x) st new k → ChecksEnd from (Err x) old new c e
+  refused-end (stop.Fault name at) e h = refused-fails from old st new (at_end c) (at_end d) s k leads gives name at h
+  refused-end stop.ReadFault e h = tt
+  refused-end stop.Memory e h = tt
 
-pub refused-piece : (A : Type 0) (from : Origin) (old st new : State) (c d e : Collecting) (p q : List ℕ) (s : Continuation) (k : Placed) → Leads from old st (behind c p) (behind d q) → ((closes : Bool) (more : List ℕ) → behind d q closes more ≡ Then k (s closes more)) →
-    (x : Stop) → ChecksCommand {A = A} from (Err x) st new k → ChecksPiece {A = A} from (Err x) old new c e p
-refused-piece A from old st new c d e p q s k leads gives (stop.Fault name at) h = refused-fails A from old st new (behind c p) (behind d q) s k leads gives name at h
-refused-piece A from old st new c d e p q s k leads gives stop.ReadFault h = tt
-refused-piece A from old st new c d e p q s k leads gives stop.Memory h = tt
+-- a command that asks for a file
+module _ (from : Origin) (old st new : State) (r t s : Continuation) (k : Placed) (a : Asked) (leads : LeadsOn from old r st t) (gives : (closes : Bool) (more : List ℕ) → t closes more ≡ Then k (s closes more)) where
+  pub asked : step st from k.sexp ≡ Ok (new, a.next) → a.at ≡ k.start → AsksFor from old r new s a.next a.at
+  asked h at = on-asks from old st new r t s a.next a.at leads (subst (λ (p : Spot). AsksFor from st t new s a.next p) (sym at) (command-asks from st t s k gives new a.next h))
+
+pub asked-end : (from : Origin) (old st new : State) (c d e : Collecting) (k : Placed) (a : Asked) → LeadsOn from old (at_end c) st (at_end d) → ((closes : Bool) (more : List ℕ) → at_end d closes more ≡ Then k (at_end e closes more)) →
+    IsLive e → IsWaiting limits e → count_of (at_end e true []) < count_of (at_end c true []) → step st from k.sexp ≡ Ok (new, a.next) → a.at ≡ k.start → IsAskedAtEnd from old new c e a
+asked-end from old st new c d e k a leads gives live waiting fewer h at =
+    record { asks = asked from old st new (at_end c) (at_end d) (at_end e) k a leads gives h at; live = live; waiting = waiting; fewer = fewer }
+
+-- ---- a piece, of which q is still to be fed
+
+module _ (from : Origin) (old st new : State) (c d : Collecting) (p q : List ℕ) (s : Continuation) (k : Placed) (leads : LeadsOn from old (behind c p) st (behind d q)) (gives : (closes : Bool) (more : List ℕ) → behind d q closes more ≡ Then k (s closes more)) where
+  pub refused-piece : (x : Stop) (e : Collecting) → ChecksCommand from (Err x) st new k → ChecksPiece from (Err x) old new c e p
+  refused-piece (stop.Fault name at) e h = refused-fails from old st new (behind c p) (behind d q) s k leads gives name at h
+  refused-piece stop.ReadFault e h = tt
+  refused-piece stop.Memory e h = tt
+
+pub asked-piece : (from : Origin) (old st new : State) (c d e : Collecting) (p q rest : List ℕ) (k : Placed) (a : Asked) → LeadsOn from old (behind c p) st (behind d q) → ((closes : Bool) (more : List ℕ) → behind d q closes more ≡ Then k (behind e rest closes more)) →
+    drop a.used p ≡ rest → a.used ≤ length p → IsLive e → IsWaiting limits e → (here_of e).offset + length rest ≤ (here_of c).offset + length p → count_of (behind e rest false []) < count_of (behind c p false []) → step st from k.sexp ≡ Ok (new, a.next) → a.at ≡ k.start → IsAsked from old new c e p a
+asked-piece from old st new c d e p q rest k a leads gives tail size live waiting here fewer h at =
+    record {
+      size = size;
+      asks = subst (λ (x : List ℕ). AsksFor from old (behind c p) new (behind e x) a.next a.at) (sym tail) (asked from old st new (behind c p) (behind d q) (behind e rest) k a leads gives h at);
+      live = live;
+      waiting = waiting;
+      here = subst (λ (x : List ℕ). (here_of e).offset + length x ≤ (here_of c).offset + length p) (sym tail) here;
+      fewer = subst (λ (x : List ℕ). count_of (behind e x false []) < count_of (behind c p false [])) (sym tail) fewer;
+    }

@@ -4,7 +4,7 @@ use Rattle.eo_base.specs.declared.FaultName.{FaultName}
 use Rattle.eo_sexp.specs.Spot.{Spot}
 use Rattle.eo_sexp.specs.declared.Fed.TheVariants as fed
 use Rattle.eo_sexp.specs.declared.Finished.TheVariants as finished
-use Rattle.eo_sexp.specs.Texts.{Phase, Reads, Then, Ends, Fails, Placed}
+use Rattle.eo_sexp.specs.Texts.{Phase, Placed}
 use Rattle.eo_sexp.specs.Collecting.{Collecting, Within, AtCommand, Failed, NoMemory, IsWithin, here_of, used, fed_answer, finish_answer}
 use Rattle.eo_sexp.specs.Answering.{IsAnswer, IsLexical}
 
@@ -61,12 +61,6 @@ at_end_fault (Failed other there) name at a e =
     let place : there ≡ at = cc in
     record { is = ap (λ n. Failed n there) same ∙ ap (Failed name) place; lexical = subst IsLexical same a }
 at_end_fault NoMemory name at a e = absurd a
-
--- how many commands come
-abbrev pub count_of : Reads → ℕ
-count_of (Then k others) = count_of others + 1
-count_of (Ends at) = 0
-count_of (Fails name at) = 0
 
 -- a command takes no more than what was there
 pub here-used : (c : Collecting) (k : Placed) (phase : Phase) → (here_of (AtCommand k phase)).offset ≤ (here_of c).offset + used c (AtCommand k phase)

@@ -1,107 +1,177 @@
--- The run of a file by its path, and the verdict.
-use Rattle.std.proofs.Common.{◌≡◌, refl, ℕ, ◌≤◌, Bool, true, false, not, List, sym, ap, subst, ◌∙◌, arith}
-use Rattle.std.specs.Prelude.{Result, Ok, Err, Option, Some, None, IfSome, if◌then◌else◌}
+-- The files that a job names, and the verdict.
+use Rattle.std.proofs.Common.{◌≡◌, refl, ℕ, ◌≤◌, Bool, true, false, not, List, [], sym, ap, ◌∙◌, arith}
+use Rattle.std.specs.Prelude.{◌≢◌, Ok, Err, Option, Some, None, IfSome, if◌then◌else◌, option_and_then, unwrap_or}
 use Rattle.std.specs.Option.{option_map_or}
 use Rattle.eo_base.specs.declared.FaultName.{FaultName}
-use Rattle.eo_base.specs.declared.FaultName.TheVariants.{FileAbsent, NoReference, NoRefutation, ScopeOpen}
+use Rattle.eo_base.specs.declared.FaultName.TheVariants.{BadPath, FileAbsent, NoReference, NoRefutation, ScopeOpen}
+use Rattle.eo_base.specs.declared.Place.{Place}
 use Rattle.eo_base.specs.Causes.{Rose}
 use Rattle.eo_base.specs.Checks.{Checked}
-use Rattle.eo_io.specs.Library.{Files, Rest, file_at, Opens, OpenHasCause}
-use Rattle.eo_io.specs.declared.Opened.TheVariants as opened
-use Rattle.eo_sexp.specs.Spot.{Spot}
+use Rattle.eo_io.specs.Library.{Files, file_at}
+use Rattle.eo_io.specs.Paths.{fold_path}
 use Rattle.eo_sexp.specs.Texts.{first_spot, spot_after}
 use Rattle.eo_proof.specs.Scopes.{has_false}
-use Rattle.eo_run.specs.State.{State, first_state, begin_reference, end_fault, is_in_scope}
-use Rattle.eo_run.specs.Step.{is_in_proof}
-use Rattle.eo_run.specs.Run.{Ran, ◌>>=◌, placed, or_fault, refusal_at, commands_of, run_commands, run_file, run_reference, run_check}
-use Rattle.eo_run.specs.Check.{verdict, checked, ended, file_end}
+use Rattle.eo_run.specs.State.{State, begin_reference, end_fault, is_in_scope}
+use Rattle.eo_run.specs.Run.{Progress, Ran, ◌>>=◌, placed, or_fault, refusal_at, shown, commands_of, run_commands, run_reference, run_file, job_file, first_progress, first_load, if_given, run_signature, run_proof, run_job_reference, before_proof, run_check, run_load}
+use Rattle.eo_run.specs.Check.{verdict, checked, ended, file_end, loaded, load_verdict}
 use Rattle.eo_run.specs.Verdict.{Refusal, Refused}
-use Rattle.eo_run.specs.Verdict as verdict
-use Rattle.eo_run.specs.Reading.{RunsBytes, RunsOpen, RunsIn}
 use Rattle.eo_run.specs.Answer.{Answers, AnswerHasCause}
-use Rattle.eo_base.specs.declared.Place.{Place}
-use Rattle.eo_run.specs.Judging.{EndsRun, RefusesRun}
+use Rattle.eo_run.specs.Opening.{opener_of, Told, StopsAs}
+use Rattle.eo_run.specs.Judging.{run_named, EndsRun}
+use Rattle.eo_run.specs.Origin.{Origin}
+use Rattle.eo_run.specs.Origin as origin
+use Rattle.eo_run.specs.declared.CheckJob.{CheckJob}
 use Rattle.eo_run.specs.declared.Verdict.{Verdict}
 use Rattle.eo_run.specs.declared.Verdict.TheVariants as answer
-use Rattle.eo_run.specs.declared.reading.Stop.{Stop}
-use Rattle.eo_run.specs.declared.reading.Stop.TheVariants as stop
-use Rattle.eo_run.specs.declared.Origin.{Origin}
-use Rattle.eo_run.specs.declared.Origin.TheVariants as origin
 
--- ---- one file
+-- ---- where files are told
 
-module _ (path : List ℕ) (from : Origin) (old new : State) where
-  abbrev by_bytes : Option (List ℕ) → Ran
-  by_bytes o = or_fault path first_spot FileAbsent o >>= λ bytes. run_commands path from (commands_of (is_in_proof from) bytes) old
+-- what holds of every files that are told holds of those
+pub told-some : (told : Option Files) (P : Files → Type 0) → Told told P → IfSome told P
+told-some None P h = tt
+told-some (Some files) P h = h files refl
 
-  pub absent-runs : (told : Option Files) (b n : ℕ) → OpenHasCause opened.Absent told path b n → IfSome told (λ files. RunsIn files path from (Err (stop.Fault FileAbsent first_spot)) old new)
-  unfolding run_file or_fault ◌>>=◌
-  absent-runs None b n h = tt
-  absent-runs (Some files) b n h = ap by_bytes h
+-- ---- a file that the job names
 
-  module _ (files : Files) (bytes : List ℕ) (there : file_at files path ≡ Some bytes) where
-    bytes-runs : (r : Result Spot Stop) → RunsBytes from r old new bytes → RunsIn files path from r old new
-    unfolding run_file or_fault ◌>>=◌
-    bytes-runs (Ok at) h = (ap by_bytes there ∙ h.0 path, h.1 ∙ sym (ap (λ o. option_map_or (spot_after first_spot) o first_spot) there))
-    bytes-runs (Err (stop.Fault name at)) h = ap by_bytes there ∙ h path
-    bytes-runs (Err stop.ReadFault) h = tt
-    bytes-runs (Err stop.Memory) h = tt
+module _ (files : Files) (name : List ℕ) (from : Origin) (wrapped : Bool) (opens : ℕ) (p : Progress) where
+  abbrev run_found : List ℕ × List ℕ → Ran
+  run_found file = run_commands (opener_of files opens) file.0 from (commands_of wrapped file.1) p
 
-  pub ready-runs : (told : Option Files) (before mid : List Rest) (r : Result Spot Stop) → Opens opened.Ready told path before mid → RunsOpen from r old new mid → IfSome told (λ files. RunsIn files path from r old new)
-  ready-runs None before mid r o h = tt
-  ready-runs (Some files) before mid r o h = bytes-runs files o.0 o.1 r (subst (λ (m : List Rest). RunsOpen from r old new m) o.2 h)
+  abbrev by_path : Option (List ℕ) → Ran
+  by_path o =
+      (or_fault name first_spot BadPath o >>= λ path. or_fault path first_spot FileAbsent (file_at files path) >>= λ bytes. Ok (path, bytes)) >>= run_found
+
+  named-is : run_named files name from wrapped opens p ≡ by_path (fold_path [] name)
+  unfolding job_file
+  named-is = refl
+
+  pub named-bad : fold_path [] name ≡ None → run_named files name from wrapped opens p ≡ Err (refusal_at name first_spot BadPath)
+  unfolding or_fault ◌>>=◌
+  named-bad e = named-is ∙ ap by_path e
+
+  module _ (path : List ℕ) (folds : fold_path [] name ≡ Some path) where
+    abbrev by_bytes : Option (List ℕ) → Ran
+    by_bytes o = (or_fault path first_spot FileAbsent o >>= λ bytes. Ok (path, bytes)) >>= run_found
+
+    folded-is : run_named files name from wrapped opens p ≡ by_bytes (file_at files path)
+    unfolding or_fault ◌>>=◌
+    folded-is = named-is ∙ ap by_path folds
+
+    pub named-absent : file_at files path ≡ None → run_named files name from wrapped opens p ≡ Err (refusal_at path first_spot FileAbsent)
+    unfolding or_fault ◌>>=◌
+    named-absent e = folded-is ∙ ap by_bytes e
+
+    pub named-runs : (bytes : List ℕ) → file_at files path ≡ Some bytes → run_named files name from wrapped opens p ≡ run_found (path, bytes)
+    unfolding or_fault ◌>>=◌
+    named-runs bytes e = folded-is ∙ ap by_bytes e
+
+-- the path that is shown, and the end
+module _ (files : Files) (name path : List ℕ) (folds : fold_path [] name ≡ Some path) where
+  pub shown-folded : shown name ≡ path
+  shown-folded = ap (λ o. unwrap_or o name) folds
+
+  pub end-folded : (bytes : List ℕ) → file_at files path ≡ Some bytes → file_end files name ≡ spot_after first_spot bytes
+  end-folded bytes e =
+      ap (λ o. option_map_or (spot_after first_spot) (option_and_then (file_at files) o) first_spot) folds
+      ∙ ap (λ o. option_map_or (spot_after first_spot) o first_spot) e
+
+-- ---- the parts of a job
+
+module _ (files : Files) (name : List ℕ) (p : Progress) where
+  pub signature-is : run_signature files name p ≡ run_named files name origin.Signature false 17 p
+  unfolding run_signature run_file
+  signature-is = refl
+
+  pub proof-is : run_proof files name p ≡ run_named files name origin.Proof true 17 p
+  unfolding run_proof run_file
+  proof-is = refl
+
+  abbrev reference_from : Checked State → Ran
+  reference_from m = placed (shown name) first_spot m >>= λ st. run_named files name origin.Reference false 0 (record p { state = st })
+
+  reference-is : run_job_reference files name p ≡ reference_from (begin_reference p.state)
+  unfolding run_job_reference run_reference
+  reference-is = refl
+
+  pub reference-second : (fault : FaultName) → begin_reference p.state ≡ Err fault → run_job_reference files name p ≡ Err (refusal_at (shown name) first_spot fault)
+  unfolding placed ◌>>=◌
+  reference-second fault e = reference-is ∙ ap reference_from e
+
+  pub reference-begun : (st : State) → begin_reference p.state ≡ Ok st → run_job_reference files name p ≡ run_named files name origin.Reference false 0 (record p { state = st })
+  unfolding placed ◌>>=◌
+  reference-begun st e = reference-is ∙ ap reference_from e
 
 -- ---- the verdict
 
-module _ (files : Files) (reference proof : List ℕ) where
+module _ (files : Files) (job : CheckJob) where
+  abbrev then_reference : Ran → Ran
+  then_reference m = m >>= if_given (run_job_reference files) job.reference
+
   abbrev then_proof : Ran → Ran
-  then_proof m = m >>= run_file files proof origin.Proof
+  then_proof m = m >>= run_proof files job.proof
 
-  abbrev from_begun : Checked State → Ran
-  from_begun m = placed reference first_spot m >>= run_file files reference origin.Reference
+  pub before-refused : (refusal : Refusal) → if_given (run_signature files) job.include (first_progress job) ≡ Err refusal → before_proof files job ≡ Err refusal
+  unfolding before_proof ◌>>=◌
+  before-refused refusal e = ap then_reference e
 
-  module _ (first : State) (begun : begin_reference (first_state false) ≡ Ok first) where
-    reference-run : run_reference files reference (first_state false) ≡ run_file files reference origin.Reference first
-    unfolding run_reference placed ◌>>=◌
-    reference-run = ap from_begun begun
+  pub before-included : (p : Progress) → if_given (run_signature files) job.include (first_progress job) ≡ Ok p → before_proof files job ≡ if_given (run_job_reference files) job.reference p
+  unfolding before_proof ◌>>=◌
+  before-included p e = ap then_reference e
 
-    check-run : run_check files reference proof ≡ then_proof (run_file files reference origin.Reference first)
-    unfolding run_check
-    check-run = ap then_proof reference-run
+  pub verdict-before : (refusal : Refusal) → before_proof files job ≡ Err refusal → verdict files job ≡ Refused refusal
+  unfolding verdict run_check ◌>>=◌
+  verdict-before refusal e = ap (λ m. checked files job.proof (then_proof m)) e
 
-    pub verdict-reference : (refusal : Refusal) → run_file files reference origin.Reference first ≡ Err refusal → verdict files reference proof ≡ Refused refusal
-    unfolding verdict ◌>>=◌
-    verdict-reference refusal e = ap (checked files proof) check-run ∙ ap (λ m. checked files proof (then_proof m)) e
+  pub verdict-proof : (p : Progress) → before_proof files job ≡ Ok p → verdict files job ≡ checked files job.proof (run_proof files job.proof p)
+  unfolding verdict run_check ◌>>=◌
+  verdict-proof p e = ap (λ m. checked files job.proof (then_proof m)) e
 
-    pub verdict-proof : (mid : State) → run_file files reference origin.Reference first ≡ Ok mid → verdict files reference proof ≡ checked files proof (run_file files proof origin.Proof mid)
-    unfolding verdict ◌>>=◌
-    verdict-proof mid e = ap (checked files proof) check-run ∙ ap (λ m. checked files proof (then_proof m)) e
+pub load-is : (files : Files) (name : List ℕ) → load_verdict files name ≡ loaded (run_signature files name (first_load name))
+unfolding load_verdict run_load
+load-is files name = refl
 
 -- ---- answers
 
-module _ (told : Option Files) (path : List ℕ) (old new : State) (paths : List (List ℕ)) (place : Place) where
-  module _ (none : end_fault new ≡ None) where
-    pub ends-correct : new.sorry ≡ false → IfSome told (λ f. EndsRun f path origin.Proof old new paths place) → IfSome told (λ f. Answers paths answer.Correct (checked f path (run_file f path origin.Proof old)))
-    ends-correct s h = by told h
-      where
-        by : (o : Option Files) → IfSome o (λ f. EndsRun f path origin.Proof old new paths place) → IfSome o (λ f. Answers paths answer.Correct (checked f path (run_file f path origin.Proof old)))
-        by None h = tt
-        by (Some f) h = ap (checked f path) h.runs ∙ (λ i. ended f path (s i) (none i))
+module _ (files : Files) (name : List ℕ) (from : Origin) (ran : Ran) (new : Progress) (paths : List (List ℕ)) (place : Place) (h : EndsRun files name from ran new paths place) where
+  module _ (none : end_fault new.state ≡ None) where
+    pub ends-correct : new.state.sorry ≡ false → Answers paths answer.Correct (checked files name ran)
+    ends-correct s = ap (checked files name) h.runs ∙ (λ i. ended files name (s i) (none i))
 
-    pub ends-incomplete : new.sorry ≡ true → IfSome told (λ f. EndsRun f path origin.Proof old new paths place) → IfSome told (λ f. Answers paths answer.Incomplete (checked f path (run_file f path origin.Proof old)))
-    ends-incomplete s h = by told h
-      where
-        by : (o : Option Files) → IfSome o (λ f. EndsRun f path origin.Proof old new paths place) → IfSome o (λ f. Answers paths answer.Incomplete (checked f path (run_file f path origin.Proof old)))
-        by None h = tt
-        by (Some f) h = ap (checked f path) h.runs ∙ (λ i. ended f path (s i) (none i))
+    pub ends-incomplete : new.state.sorry ≡ true → Answers paths answer.Incomplete (checked files name ran)
+    ends-incomplete s = ap (checked files name) h.runs ∙ (λ i. ended files name (s i) (none i))
 
-  pub ends-refused : (name : FaultName) → IfSome told (λ f. EndsRun f path origin.Proof old new paths place) → Some name ≡ end_fault new → IfSome told (λ f. Answers paths (answer.Refused (record { name = name; place = place })) (checked f path (run_file f path origin.Proof old)))
-  ends-refused name h e = by told h
-    where
-      by : (o : Option Files) → IfSome o (λ f. EndsRun f path origin.Proof old new paths place) → IfSome o (λ f. Answers paths (answer.Refused (record { name = name; place = place })) (checked f path (run_file f path origin.Proof old)))
-      by None h = tt
-      by (Some f) h =
-          (refusal_at path (file_end f path) name, ap (checked f path) h.runs ∙ ap (ended f path new.sorry) (sym e), record { name = refl; file = h.file; line = h.line; offset = h.offset })
+  pub ends-refused : from ≢ origin.Reference → (fault : FaultName) → Some fault ≡ end_fault new.state → Answers paths (answer.Refused (record { name = fault; place = place })) (checked files name ran)
+  ends-refused other fault e =
+      (refusal_at (shown name) (file_end files name) fault, ap (checked files name) h.runs ∙ ap (ended files name new.state.sorry) (sym e), record { name = refl; file = h.file; line = h.line other; offset = h.offset other })
+
+  pub ends-loaded : Answers paths (answer.Loaded new.state.commands) (loaded ran)
+  ends-loaded = ap loaded h.runs
+
+-- what is answered for a run that stops is the verdict
+pub stops-checked : (files : Files) (name : List ℕ) (ran : Ran) (paths : List (List ℕ)) (v : Verdict) → StopsAs (λ refusal. ran ≡ Err refusal) paths v → Answers paths v (checked files name ran)
+stops-checked files name ran paths answer.Correct h = absurd h
+stops-checked files name ran paths answer.Incomplete h = absurd h
+stops-checked files name ran paths (answer.Loaded commands) h = absurd h
+stops-checked files name ran paths (answer.Refused fault) h = (h.0, ap (checked files name) h.1, h.2)
+stops-checked files name ran paths answer.ReadFault h = tt
+stops-checked files name ran paths answer.OutOfMemory h = tt
+
+pub stops-loaded : (ran : Ran) (paths : List (List ℕ)) (v : Verdict) → StopsAs (λ refusal. ran ≡ Err refusal) paths v → Answers paths v (loaded ran)
+stops-loaded ran paths answer.Correct h = absurd h
+stops-loaded ran paths answer.Incomplete h = absurd h
+stops-loaded ran paths (answer.Loaded commands) h = absurd h
+stops-loaded ran paths (answer.Refused fault) h = (h.0, ap loaded h.1, h.2)
+stops-loaded ran paths answer.ReadFault h = tt
+stops-loaded ran paths answer.OutOfMemory h = tt
+
+-- what stops before the proof is the verdict
+pub stops-before : (files : Files) (job : CheckJob) (paths : List (List ℕ)) (v : Verdict) → StopsAs (λ refusal. before_proof files job ≡ Err refusal) paths v → Answers paths v (verdict files job)
+stops-before files job paths answer.Correct h = absurd h
+stops-before files job paths answer.Incomplete h = absurd h
+stops-before files job paths (answer.Loaded commands) h = absurd h
+stops-before files job paths (answer.Refused fault) h = (h.0, verdict-before files job h.0 h.1, h.2)
+stops-before files job paths answer.ReadFault h = tt
+stops-before files job paths answer.OutOfMemory h = tt
 
 -- the end of a proof is no absent file
 pub end-present : (st : State) (name : FaultName) → Some name ≡ end_fault st → name ≡ FileAbsent → ⊥
@@ -129,21 +199,3 @@ cause-later (answer.Refused fault) None a b n h c = λ e. rose-later a b n h (c 
 cause-later (answer.Refused fault) (Some f) a b n h c = tt
 cause-later answer.ReadFault told a b n h c = rose-later a b n h c
 cause-later answer.OutOfMemory told a b n h c = tt
-
-module _ (reference proof : List ℕ) (paths : List (List ℕ)) (v : Verdict) where
-  pub proof-answers : (told later : Option Files) (first mid : State) (others : List (List ℕ)) (place : Place) → begin_reference (first_state false) ≡ Ok first → later ≡ told → IfSome told (λ f. EndsRun f reference origin.Reference first mid others place) →
-      IfSome later (λ f. Answers paths v (checked f proof (run_file f proof origin.Proof mid))) → IfSome told (λ f. Answers paths v (verdict f reference proof))
-  proof-answers told later first mid others place begun e h k = by told h (subst (λ (o : Option Files). IfSome o (λ f. Answers paths v (checked f proof (run_file f proof origin.Proof mid)))) e k)
-    where
-      by : (o : Option Files) → IfSome o (λ f. EndsRun f reference origin.Reference first mid others place) → IfSome o (λ f. Answers paths v (checked f proof (run_file f proof origin.Proof mid))) → IfSome o (λ f. Answers paths v (verdict f reference proof))
-      by None h k = tt
-      by (Some f) h k = subst (λ (w : verdict.Verdict). Answers paths v w) (sym (verdict-proof f reference proof first begun mid h.runs)) k
-
-pub refused-answers : (reference proof : List ℕ) (paths : List (List ℕ)) (first : State) → begin_reference (first_state false) ≡ Ok first → (told : Option Files) (v : Verdict) → IfSome told (λ f. RefusesRun f reference origin.Reference first paths v) → IfSome told (λ f. Answers paths v (verdict f reference proof))
-refused-answers reference proof paths first begun None v h = tt
-refused-answers reference proof paths first begun (Some f) answer.Correct h = absurd h
-refused-answers reference proof paths first begun (Some f) answer.Incomplete h = absurd h
-refused-answers reference proof paths first begun (Some f) (answer.Loaded commands) h = absurd h
-refused-answers reference proof paths first begun (Some f) (answer.Refused fault) h = (h.0, verdict-reference f reference proof first begun h.0 h.1, h.2)
-refused-answers reference proof paths first begun (Some f) answer.ReadFault h = tt
-refused-answers reference proof paths first begun (Some f) answer.OutOfMemory h = tt

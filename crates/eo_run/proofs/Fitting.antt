@@ -49,11 +49,14 @@ module _ (S T : Signature) (ms ns : List Macro) (fits : FitsTerms (in_proof S ms
     folds_same : (k : ℕ) (d : Constant) → constant_at T k ≡ Some d → may_fold d.attribute ≡ true
     folds_same k d is = fits.folds k d (ap (λ (U : Signature). constant_at U k) (sym s) ∙ is)
 
-    pub fits_macro : (m : Macro) → ns ≡ ms ++ m ∷ [] → macro_is_bound m ≡ true → FitsTerms (in_proof T ns)
-    fits_macro m e bound = record {
+    pub fits_macros : (more : List Macro) → ns ≡ ms ++ more → list_all macro_is_bound more ≡ true → FitsTerms (in_proof T ns)
+    fits_macros more e bound = record {
       folds = folds_same;
-      macros = ap (list_all macro_is_bound) e ∙ list_all-append macro_is_bound ms (m ∷ []) ∙ (λ i. fits.macros i && (bound i && true));
+      macros = ap (list_all macro_is_bound) e ∙ list_all-append macro_is_bound ms more ∙ (λ i. fits.macros i && bound i);
     }
+
+    pub fits_macro : (m : Macro) → ns ≡ ms ++ m ∷ [] → macro_is_bound m ≡ true → FitsTerms (in_proof T ns)
+    fits_macro m e bound = fits_macros (m ∷ []) e (λ i. bound i && true)
 
     pub fits_taken : (n : ℕ) → ns ≡ take n ms → FitsTerms (in_proof T ns)
     fits_taken n e = record { folds = folds_same; macros = ap (list_all macro_is_bound) e ∙ front n ms fits.macros }

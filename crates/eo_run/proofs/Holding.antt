@@ -5,7 +5,7 @@ use Rattle.std.specs.List.{list_any}
 use Rattle.std.proofs.lemmas.List.{map-append, length-map, length-append, take-map, length-take-le}
 use Rattle.std.proofs.lemmas.List.Elements.{All-head, All-tail, All-push, All-nil}
 use Rattle.eo_base.proofs.Elements.{ids_more}
-use Rattle.eo_term.specs.Tree.{Tree, tree_eq, truth, is_value}
+use Rattle.eo_term.specs.Tree.{Tree, tree_eq, is_value}
 use Rattle.eo_term.specs.Growth.{Grows}
 use Rattle.eo_term.specs.Terms.{Terms, tree_at, first_trees}
 use Rattle.eo_sig.specs.declared.records.MacroDecl.{MacroDecl}
@@ -23,7 +23,7 @@ use Rattle.eo_proof.specs.Kept.{scopes, AreBelow}
 use Rattle.eo_proof.specs.Scopes as proof
 use Rattle.eo_proof.specs.Scopes.{Scopes, no_facts}
 use Rattle.eo_run.specs.declared.held.Held.{Held}
-use Rattle.eo_run.specs.Ids.{has_id, with_id}
+use Rattle.eo_ref.specs.Ids.{has_id, with_id}
 use Rattle.eo_run.specs.Held.{state_of, AreValues, AreMarks, IsWhole, Keeps}
 use Rattle.eo_run.specs.State.{State, context, first_state, macros_before, with_entry, with_macro, with_fact, with_scope, without_scope, with_assertion}
 use Rattle.eo_run.proofs.Scoping.{scopes_grown, below_more, marks_more, none_below, none_values, values_fact, values_scope, values_outside}
@@ -40,29 +40,6 @@ module _ (ts : List Tree) (equals : AreDistinct ts) where
   asserted_id [] i h a = refl
   asserted_id (j ∷ js) i h a =
       (λ k. equals i j h (All-head (λ j. j < length ts) j js a) k || asserted_id js i h (All-tail (λ j. j < length ts) j js a) k)
-
--- the first terms
-
-pub first_is : (ts : List Tree) (i : ℕ) → take 4 ts ≡ first_trees → i < 4 → (tree_at ts i ≡ tree_at first_trees i) × (i < length ts)
-first_is ts i e l = by ts e
-  where
-    by : (us : List Tree) → take 4 us ≡ first_trees → (tree_at us i ≡ tree_at first_trees i) × (i < length us)
-    by [] h = absurd cc
-    by (a ∷ []) h = absurd cc
-    by (a ∷ b ∷ []) h = absurd cc
-    by (a ∷ b ∷ c ∷ []) h = absurd cc
-    by (a ∷ b ∷ c ∷ d ∷ us) h = here i l
-      where
-        here : (j : ℕ) → j < 4 → (tree_at (a ∷ b ∷ c ∷ d ∷ us) j ≡ tree_at first_trees j) × (j < length (a ∷ b ∷ c ∷ d ∷ us))
-        here zero m = (cc, omega arith)
-        here (suc zero) m = (cc, omega arith)
-        here (suc (suc zero)) m = (cc, omega arith)
-        here (suc (suc (suc zero))) m = (cc, omega arith)
-        here (suc (suc (suc (suc j)))) m = absurd (omega (arith, m))
-
-pub truth_at : (ts : List Tree) → take 4 ts ≡ first_trees → (b : Bool) (i : ℕ) → i ≡ (if b then 2 else 3) → (tree_at ts i ≡ truth b) × (i < length ts)
-truth_at ts e true i h = subst (λ (j : ℕ). (tree_at ts j ≡ truth true) × (j < length ts)) (sym h) (first_is ts 2 e (omega arith))
-truth_at ts e false i h = subst (λ (j : ℕ). (tree_at ts j ≡ truth false) × (j < length ts)) (sym h) (first_is ts 3 e (omega arith))
 
 -- ---- a table that grows
 

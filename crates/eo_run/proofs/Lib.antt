@@ -1,4 +1,6 @@
 pub mod Adding
+pub mod Assertions
+pub mod Closed
 pub mod Computed
 pub mod Concluding
 pub mod Deriving
@@ -10,15 +12,25 @@ pub mod Feeding
 pub mod Files
 pub mod Fitting
 pub mod Holding
+pub mod Jobs
+pub mod Leaving
+pub mod Labels
+pub mod NamedPaths
+pub mod Numbers
+pub mod Opened
 pub mod Pieces
 pub mod Running
+pub mod Quiet
+pub mod Runs
 pub mod Scoping
 pub mod Sessions
 pub mod SoundDeclarations
 pub mod SoundSteps
 pub mod Soundness
+pub mod Taking
 pub mod Used
 mod ClosedVectors
+mod FileVectors
 mod ScopeVectors
 mod Vectors
 mod PrintLemmas

@@ -1,5 +1,5 @@
 -- Checks of proofs with steps and scopes.
-use Rattle.std.specs.Prelude.{◌≡◌, refl, ℕ, List, ◌∷◌, [], ◌++◌, codes}
+use Rattle.std.specs.Prelude.{◌≡◌, refl, ℕ, false, List, ◌∷◌, [], ◌++◌, None, Some, codes}
 use Rattle.eo_run.proofs.Computed.{computed}
 use Rattle.eo_run.specs.Check.{verdict}
 use Rattle.eo_run.specs.Printed.{line, verdict_text}
@@ -7,7 +7,7 @@ use Rattle.eo_run.specs.Printed.{line, verdict_text}
 -- the check of this proof against the reference file `(assert false)` prints this line
 abbrev Prints : (proof text : List ℕ) → Type 0
 Prints proof text =
-    verdict_text (verdict ((codes "r.smt2", codes "(assert false)") ∷ (codes "p.eo", proof) ∷ []) (codes "r.smt2") (codes "p.eo")) ≡ line text
+    verdict_text (verdict ((codes "r.smt2", codes "(assert false)") ∷ (codes "p.eo", proof) ∷ []) (record { include = None; reference = Some (codes "r.smt2"); proof = codes "p.eo"; closed = false })) ≡ line text
 
 -- a rule that repeats a fact, another that is marked as unproved, and one that discharges an assumption
 abbrev keep : List ℕ

@@ -1,15 +1,14 @@
 -- What each command does to a state.
 use Rattle.std.proofs.Common.{◌≡◌, refl, ℕ, ◌<◌, Bool, true, false, not, List, [], sym, ap, subst, ◌∙◌, true≢false, arith}
-use Rattle.std.specs.Prelude.{◌≢◌, Option, Some, None, option_and_then, Result, Ok, Err, bytes_eq, nat_lt, codes, if◌then◌else◌, ◌&&◌, ◌||◌}
+use Rattle.std.specs.Prelude.{◌≢◌, Option, Some, None, Result, Ok, Err, nat_lt, if◌then◌else◌, ◌&&◌, ◌||◌}
 use Rattle.std.specs.Result.{IsErrAnd}
 use Rattle.eo_base.specs.declared.FaultName.{FaultName}
-use Rattle.eo_base.specs.declared.FaultName.TheVariants.{Redeclared, IllTyped, NotBool, UnknownSymbol, NotAsserted, NoReference, NoRefutation, SecondReference, NumberRange, TermHeight, FileAbsent, InScope, ScopeOpen, ScopeDepth}
+use Rattle.eo_base.specs.declared.FaultName.TheVariants.{Redeclared, IllTyped, NotBool, NotAsserted, NoReference, NoRefutation, SecondReference, NumberRange, TermHeight, FileAbsent, InScope, ScopeOpen, ScopeDepth}
 use Rattle.eo_base.specs.Answers.{Tells}
-use Rattle.eo_base.specs.Checks.{Checked, ◌>>=◌, require, value_or}
+use Rattle.eo_base.specs.Checks.{Checked, ◌>>=◌, require}
 use Rattle.eo_sexp.specs.Sexp.{Sexp}
-use Rattle.eo_shape.specs.Words.{symbol_of}
 use Rattle.eo_shape.specs.Shapes.{Command, command_of}
-use Rattle.eo_term.specs.Tree.{Tree, type_tree, bool_tree, truth, is_value, is_tall, tree_eq}
+use Rattle.eo_term.specs.Tree.{Tree, type_tree, bool_tree, is_value, is_tall, tree_eq}
 use Rattle.eo_term.specs.Growth.{Grows}
 use Rattle.eo_term.specs.Terms.{Terms, tree_at}
 use Rattle.eo_eval.specs.Evaluation.{Outcome, eval0}
@@ -31,50 +30,11 @@ use Rattle.eo_proof.specs.Scopes.{Scopes, depth, has_false, is_live, scope_limit
 use Rattle.eo_proof.specs.Outcomes.{Pushed}
 use Rattle.eo_proof.specs.declared.facts.FactRefused.{FactRefused}
 use Rattle.eo_proof.specs.declared.facts.FactRefused.TheVariants as fact
-use Rattle.eo_run.specs.State.{State, context, with_assertion, with_fact, with_scope, with_command, is_asserted, is_in_scope, begin_reference, end_fault}
-use Rattle.eo_run.specs.Step.{is_in_reference, is_free_fact, truth_of, asserted_truth, evaluated, value, typed, type_value, formula, assume, assume_push, assert, by_command, may_be_in_scope, scoped_command, uncounted, step}
-use Rattle.eo_run.specs.declared.Origin.{Origin}
-
--- ---- the formulas of a reference file
-
-module _ (s : Sexp) where
-  abbrev by_word : Option (List ℕ) → Checked Bool
-  by_word word = value_or UnknownSymbol (option_and_then truth_of word)
-
-  pub truth-none : symbol_of s ≡ None → Err UnknownSymbol ≡ asserted_truth s
-  unfolding asserted_truth value_or
-  truth-none e = sym (ap by_word e)
-
-  module _ (w : List ℕ) (e : symbol_of s ≡ Some w) where
-    abbrev by_tests : Bool → Bool → Checked Bool
-    by_tests t f = value_or UnknownSymbol (if t then Some true else (if f then Some false else None))
-
-    pub truth-true : bytes_eq w (codes "true") ≡ true → Ok true ≡ asserted_truth s
-    unfolding asserted_truth value_or
-    truth-true t = sym (ap by_word e ∙ ap (λ b. by_tests b (bytes_eq w (codes "false"))) t)
-
-    pub truth-false : bytes_eq w (codes "true") ≡ false → bytes_eq w (codes "false") ≡ true → Ok false ≡ asserted_truth s
-    unfolding asserted_truth value_or
-    truth-false t f = sym (ap by_word e ∙ ap (λ b. by_tests b (bytes_eq w (codes "false"))) t ∙ ap (by_tests false) f)
-
-    pub truth-other : bytes_eq w (codes "true") ≡ false → bytes_eq w (codes "false") ≡ false → Err UnknownSymbol ≡ asserted_truth s
-    unfolding asserted_truth value_or
-    truth-other t f = sym (ap by_word e ∙ ap (λ b. by_tests b (bytes_eq w (codes "false"))) t ∙ ap (by_tests false) f)
-
-pub same_literal : (w word literal : List ℕ) (r b : Bool) → r ≡ bytes_eq w literal → literal ≡ word → r ≡ b → bytes_eq w word ≡ b
-same_literal w word literal r b e same t = ap (bytes_eq w) (sym same) ∙ sym e ∙ t
-
-module _ (st : State) (s : Sexp) where
-  abbrev asserted_by : Checked Bool → Checked State
-  asserted_by m = m >>= λ b. Ok (with_assertion st (truth b))
-
-  pub assert-fault : (name : FaultName) → asserted_truth s ≡ Err name → assert st s ≡ Err name
-  unfolding assert ◌>>=◌
-  assert-fault name e = ap asserted_by e
-
-  pub assert-ok : (b : Bool) → asserted_truth s ≡ Ok b → assert st s ≡ Ok (with_assertion st (truth b))
-  unfolding assert ◌>>=◌
-  assert-ok b e = ap asserted_by e
+use Rattle.eo_run.specs.State.{State, context, with_fact, with_scope, with_command, is_asserted, is_in_scope, begin_reference, end_fault}
+use Rattle.eo_run.specs.Step.{is_in_reference, is_free_fact, evaluated, value, typed, type_value, formula_of, formula, assume, assume_push}
+use Rattle.eo_run.specs.Commands.{by_command, may_be_in_scope, next_by, scoped_command, placed_command, uncounted, step}
+use Rattle.eo_run.specs.Origin.{Origin}
+use Rattle.eo_run.specs.declared.Next.{Next}
 
 -- ---- values
 
@@ -103,28 +63,37 @@ value_later t u i grows is =
 
 -- ---- formulas
 
-module _ (st : State) (s : Sexp) where
+module _ (st : State) (t : Tree) where
   abbrev by_kind : Tree → Checked Tree → Checked Tree
   by_kind v m = m >>= λ k. require (tree_eq k bool_tree) NotBool >>= λ _. Ok v
 
   abbrev by_test : Tree → Bool → Checked Tree
   by_test v b = require b NotBool >>= λ _. Ok v
 
-  pub formula-value : (name : FaultName) → value st s ≡ Err name → formula st s ≡ Err name
-  unfolding formula ◌>>=◌
+  pub formula-value : (name : FaultName) → evaluated st t ≡ Err name → formula_of st t ≡ Err name
+  unfolding formula_of ◌>>=◌
   formula-value name e = ap (λ m. m >>= λ v. by_kind v (typed st v)) e
 
-  pub formula-kind : (v : Tree) (name : FaultName) → value st s ≡ Ok v → typed st v ≡ Err name → formula st s ≡ Err name
-  unfolding formula ◌>>=◌
+  pub formula-kind : (v : Tree) (name : FaultName) → evaluated st t ≡ Ok v → typed st v ≡ Err name → formula_of st t ≡ Err name
+  unfolding formula_of ◌>>=◌
   formula-kind v name e h = ap (λ m. m >>= λ v. by_kind v (typed st v)) e ∙ ap (by_kind v) h
 
-  pub formula-not_bool : (v k : Tree) → value st s ≡ Ok v → typed st v ≡ Ok k → tree_eq k bool_tree ≡ false → formula st s ≡ Err NotBool
-  unfolding formula ◌>>=◌ require
-  formula-not_bool v k e h t = ap (λ m. m >>= λ v. by_kind v (typed st v)) e ∙ ap (by_kind v) h ∙ ap (by_test v) t
+  pub formula-not_bool : (v k : Tree) → evaluated st t ≡ Ok v → typed st v ≡ Ok k → tree_eq k bool_tree ≡ false → formula_of st t ≡ Err NotBool
+  unfolding formula_of ◌>>=◌ require
+  formula-not_bool v k e h b = ap (λ m. m >>= λ v. by_kind v (typed st v)) e ∙ ap (by_kind v) h ∙ ap (by_test v) b
 
-  pub formula-ok : (v k : Tree) → value st s ≡ Ok v → typed st v ≡ Ok k → tree_eq k bool_tree ≡ true → formula st s ≡ Ok v
-  unfolding formula ◌>>=◌ require
-  formula-ok v k e h t = ap (λ m. m >>= λ v. by_kind v (typed st v)) e ∙ ap (by_kind v) h ∙ ap (by_test v) t
+  pub formula-ok : (v k : Tree) → evaluated st t ≡ Ok v → typed st v ≡ Ok k → tree_eq k bool_tree ≡ true → formula_of st t ≡ Ok v
+  unfolding formula_of ◌>>=◌ require
+  formula-ok v k e h b = ap (λ m. m >>= λ v. by_kind v (typed st v)) e ∙ ap (by_kind v) h ∙ ap (by_test v) b
+
+module _ (st : State) (s : Sexp) where
+  pub formula-fault : (name : FaultName) → meaning (context st) [] s ≡ Err name → formula st s ≡ Err name
+  unfolding formula ◌>>=◌
+  formula-fault name e = ap (λ m. m >>= formula_of st) e
+
+  pub formula-is : (t : Tree) → meaning (context st) [] s ≡ Ok t → formula st s ≡ formula_of st t
+  unfolding formula ◌>>=◌
+  formula-is t e = ap (λ m. m >>= formula_of st) e
 
 -- ---- types
 
@@ -234,8 +203,8 @@ module _ (st : State) (name : List ℕ) (s : Sexp) where
 -- ---- each command
 
 module _ (st : State) (from : Origin) (s : Sexp) (b : Bool) (e : b ≡ is_in_reference from) where
-  abbrev by_shape : Checked Command → Checked State
-  by_shape m = m >>= scoped_command st from
+  abbrev by_shape : Checked Command → Checked (State × Next)
+  by_shape m = m >>= placed_command st from
 
   shaped : (m : Checked Command) → command_of b s ≡ m → uncounted st from s ≡ by_shape m
   unfolding uncounted
@@ -245,7 +214,7 @@ module _ (st : State) (from : Origin) (s : Sexp) (b : Bool) (e : b ≡ is_in_ref
   unfolding ◌>>=◌
   shape-fault name h = shaped (Err name) h
 
-  pub shape-ok : (k : Command) → command_of b s ≡ Ok k → uncounted st from s ≡ scoped_command st from k
+  pub shape-ok : (k : Command) → command_of b s ≡ Ok k → uncounted st from s ≡ placed_command st from k
   unfolding ◌>>=◌
   shape-ok k h = shaped (Ok k) h
 
@@ -261,14 +230,34 @@ module _ (st : State) (from : Origin) (k : Command) where
   unfolding scoped_command require ◌>>=◌
   scope-ok e = ap by_place e
 
+module _ (st : State) (from : Origin) (k : Command) where
+  abbrev by_next : State → Checked Next → Checked (State × Next)
+  by_next new m = m >>= λ what. Ok (new, what)
+
+  abbrev by_state : Checked State → Checked (State × Next)
+  by_state m = m >>= λ new. by_next new (next_by new k)
+
+  pub placed-fault : (name : FaultName) → scoped_command st from k ≡ Err name → placed_command st from k ≡ Err name
+  unfolding placed_command ◌>>=◌
+  placed-fault name e = ap by_state e
+
+  module _ (new : State) (e : scoped_command st from k ≡ Ok new) where
+    pub placed-stops : (name : FaultName) → next_by new k ≡ Err name → placed_command st from k ≡ Err name
+    unfolding placed_command ◌>>=◌
+    placed-stops name h = ap by_state e ∙ ap (by_next new) h
+
+    pub placed-ok : (what : Next) → next_by new k ≡ Ok what → placed_command st from k ≡ Ok (new, what)
+    unfolding placed_command ◌>>=◌
+    placed-ok what h = ap by_state e ∙ ap (by_next new) h
+
 module _ (st : State) (from : Origin) (s : Sexp) where
   pub step-fault : (name : FaultName) → uncounted st from s ≡ Err name → step st from s ≡ Err name
   unfolding step ◌>>=◌
-  step-fault name h = ap (λ m. m >>= λ new. Ok (with_command new)) h
+  step-fault name h = ap (λ m. m >>= λ r. Ok (with_command r.0, r.1)) h
 
-  pub step-ok : (new : State) → uncounted st from s ≡ Ok new → step st from s ≡ Ok (with_command new)
+  pub step-ok : (new : State) (what : Next) → uncounted st from s ≡ Ok (new, what) → step st from s ≡ Ok (with_command new, what)
   unfolding step ◌>>=◌
-  step-ok new h = ap (λ m. m >>= λ new. Ok (with_command new)) h
+  step-ok new what h = ap (λ m. m >>= λ r. Ok (with_command r.0, r.1)) h
 
 -- ---- refusals
 

@@ -1,6 +1,7 @@
 -- Declarations, definitions and assertions keep a run sound.
-use Rattle.std.specs.Prelude.{◌≡◌, ℕ, Bool, true, false, if◌then◌else◌, List, [], ◌∷◌, ◌++◌, Option, Some, None, option_and_then, slice_get, Ok, refl}
+use Rattle.std.specs.Prelude.{◌≡◌, ℕ, Bool, true, false, ◌&&◌, if◌then◌else◌, List, [], ◌∷◌, ◌++◌, map, Option, Some, None, option_and_then, slice_get, Ok, refl}
 use Rattle.std.proofs.Common.{sym, ap, ◌∙◌, subst}
+use Rattle.std.specs.List.{list_all}
 use Rattle.std.proofs.lemmas.Bool.{and_parts}
 use Rattle.std.proofs.lemmas.List.{append-nil}
 use Rattle.std.proofs.lemmas.List.Elements.{filter_map-append}
@@ -8,27 +9,29 @@ use Rattle.std.proofs.lemmas.Option.{none-some, same_Some}
 use Rattle.eo_base.proofs.ChecksLemmas.{ok_injective, err_is_not_ok, bind_ok, require_then}
 use Rattle.eo_base.specs.Checks.{Checked, Passed, ◌>>=◌, no_fault}
 use Rattle.eo_base.specs.declared.FaultName.{FaultName}
-use Rattle.eo_elab.specs.Declarations.{constant, plain_constant, sort_type, declared_const, declared_fun, declared_sort, defined, declared_program, declared_rule, is_reference_name}
-use Rattle.eo_elab.specs.Fitting.{macro_is_bound}
+use Rattle.eo_elab.specs.Declarations.{constant, plain_constant, sort_type, declared_const, declared_fun, declared_sort, defined, defined_fun, defined_sort, declared_program, declared_rule, is_reference_name}
+use Rattle.eo_elab.specs.Fitting.{FitsTerms, macro_is_bound, label_is_closed}
+use Rattle.eo_elab.specs.Meaning.{means}
 use Rattle.eo_lit.specs.declared.LiteralClass.{LiteralClass}
-use Rattle.eo_names.specs.Contexts.{Context}
+use Rattle.eo_names.specs.Contexts.{Context, Setting, InReference, InAssert}
+use Rattle.eo_names.specs.Readers.{Label}
 use Rattle.eo_run.proofs.Deriving.{declared_derives, asserted_derives, none_assumed}
-use Rattle.eo_run.proofs.Fitting.{MayFold, slice_get_more, fits_entry, fits_macro}
+use Rattle.eo_run.proofs.Fitting.{MayFold, slice_get_more, fits_entry, fits_macro, fits_macros}
 use Rattle.eo_run.specs.Layers.{Layers}
 use Rattle.eo_run.specs.Soundness.{IsSound}
-use Rattle.eo_run.specs.State.{State, context, with_entry, with_macro, with_assertion, is_asserted}
-use Rattle.eo_run.specs.Step.{added_constant, type_value, typed_constant, checked_constant, checked_literals, added_macro, define, define_program, declare_rule, assert}
-use Rattle.eo_run.specs.declared.Origin.{Origin}
+use Rattle.eo_run.specs.State.{State, context, context_in, with_entry, with_macro, with_assertion, is_asserted}
+use Rattle.eo_run.specs.Step.{added_constant, type_value, typed_constant, checked_constant, checked_literals, added_macro, define, define_fun, define_sort, define_program, declare_rule, formula_of, label_macro, with_labels, assert}
+use Rattle.eo_run.specs.Origin.{Origin}
 use Rattle.eo_sexp.specs.Sexp.{Sexp}
 use Rattle.eo_shape.specs.Shapes.{ParameterShape, AttributeShape, ProgramShape, RuleShape}
 use Rattle.eo_sig.specs.Signature.{Signature, SignatureEntry, IsConstant, IsProgram, IsRule, IsLiteralType, Attribute, Plain, RightNil, LeftNil, Right, Left, Chain, Pairs, Binder, Constant, Macro, Rule, rule_of, rules, rule_at, constant_at, terminator_of, may_fold, are_ordered, argument_types, implicit_occur, first_wrong, constant_may_hold, constant_fault, literal_type_fault, program_fault, rule_fault}
 use Rattle.eo_sig.specs.Usable.{IsUsable}
-use Rattle.eo_term.specs.Tree.{Tree, bool_tree, truth, is_value}
+use Rattle.eo_term.specs.Tree.{Tree, bool_tree, is_value}
 use Rattle.eo_type.specs.Types.{Typed, type_of}
 
 -- ---- what a declaration without fault is
 
-no_fault_then : {B : Type 0} (o : Option FaultName) (f : Passed → Checked B) (y : B) → (no_fault o >>= f) ≡ Ok y → (o ≡ None) × (f tt ≡ Ok y)
+pub no_fault_then : {B : Type 0} (o : Option FaultName) (f : Passed → Checked B) (y : B) → (no_fault o >>= f) ≡ Ok y → (o ≡ None) × (f tt ≡ Ok y)
 unfolding no_fault ◌>>=◌
 no_fault_then None f y e = (refl, e)
 no_fault_then (Some fault) f y e = absurd (err_is_not_ok fault y e)
@@ -120,6 +123,20 @@ by_test : (st' : State) (b : Bool) (x y : Checked State) → (x ≡ Ok st' → I
 by_test st' true x y f g e = f e
 by_test st' false x y f g e = g e
 
+-- names of terms without parameters are macros
+labels_bound : (labels : List Label) → list_all label_is_closed labels ≡ true → list_all macro_is_bound (map label_macro labels) ≡ true
+labels_bound [] h = refl
+labels_bound (l ∷ ls) h = let p = and_parts (label_is_closed l) (list_all label_is_closed ls) h in (λ i. p.0 i && labels_bound ls p.1 i)
+
+labels_sound : (st : State) → IsSound st → (labels : List Label) → list_all label_is_closed labels ≡ true → IsSound (with_labels st labels)
+labels_sound st h labels closed = record {
+  usable = h.usable;
+  terms = fits_macros st.signature st.signature st.macros (st.macros ++ map label_macro labels) h.terms refl (map label_macro labels) refl (labels_bound labels closed);
+  values = h.values;
+  formulas = h.formulas;
+  facts = h.facts;
+}
+
 module _ (laws : Layers) (st : State) (h : IsSound st) where
   -- a macro more
   macro_sound : (m : Macro) → macro_is_bound m ≡ true → IsSound (with_macro st m)
@@ -137,6 +154,20 @@ module _ (laws : Layers) (st : State) (h : IsSound st) where
       by_test st' (is_reference_name (context st) m.name) _ _
       (λ k. sound_after st st' h (require_then _ _ _ st' k).1)
       (λ k. sound_after (with_macro st m) st' (macro_sound m bound) k) e
+
+  -- in a file of any kind terms are read of the same macros and constants
+  fits_in : (setting : Setting) → FitsTerms (context_in st setting)
+  fits_in setting = record { folds = h.terms.folds; macros = h.terms.macros }
+
+  pub define_fun_sound : (name : List ℕ) (shapes : List ParameterShape) (output body : Sexp) (st' : State) → define_fun st name shapes output body ≡ Ok st' → IsSound st'
+  define_fun_sound name shapes output body st' e =
+      let m = bind_ok (defined_fun (context_in st InReference) name shapes output body) _ st' e in
+      added_macro_sound m.0 st' (laws.functions (context_in st InReference) name shapes output body m.0 (fits_in InReference) m.1) m.2
+
+  pub define_sort_sound : (name : List ℕ) (names : List (List ℕ)) (type : Sexp) (st' : State) → define_sort st name names type ≡ Ok st' → IsSound st'
+  define_sort_sound name names type st' e =
+      let m = bind_ok (defined_sort (context_in st InReference) name names type) _ st' e in
+      added_macro_sound m.0 st' (laws.sorts (context_in st InReference) name names type m.0 (fits_in InReference) m.1) m.2
 
   pub define_sound : (name : List ℕ) (shapes : List ParameterShape) (body : Sexp) (st' : State) → define st name shapes body ≡ Ok st' → IsSound st'
   define_sound name shapes body st' e =
@@ -214,5 +245,8 @@ module _ (laws : Layers) (st : State) (h : IsSound st) where
     pub assert_sound : (s : Sexp) (st' : State) → assert st s ≡ Ok st' → IsSound st'
     unfolding assert
     assert_sound s st' e =
-        let b = bind_ok _ _ st' e in
-        sound_after (with_assertion st (truth b.0)) st' (assertion_sound (truth b.0) (is_asserted st (truth b.0))) b.2
+        let r = bind_ok (means (context_in st InAssert) [] s []) _ st' e in
+        let v = bind_ok (formula_of st r.0.0) _ st' r.2 in
+        let closed = laws.labels (context_in st InAssert) s r.0.0 r.0.1 (fits_in InAssert) r.1 in
+        sound_after (with_labels (with_assertion st v.0) r.0.1) st'
+        (labels_sound (with_assertion st v.0) (assertion_sound v.0 (is_asserted st v.0)) r.0.1 closed) v.2

@@ -26,7 +26,7 @@ use Rattle.eo_run.proofs.SoundDeclarations.{sound_after}
 use Rattle.eo_run.proofs.Used.{fact_value, hypothesis_value}
 use Rattle.eo_run.specs.Soundness.{IsSound, in_force}
 use Rattle.eo_run.specs.State.{State, context, with_fact, with_scope, without_scope, macros_before}
-use Rattle.eo_run.specs.Step.{Concluded, evaluated, value, values, optional_value, typed, formula, premises, use_of, is_sorry, concluded_by, concluded, with_conclusion, assume, assume_push, step_plain, step_pop}
+use Rattle.eo_run.specs.Step.{Concluded, evaluated, value, values, optional_value, typed, formula_of, formula, premises, use_of, is_sorry, concluded_by, concluded, with_conclusion, assume, assume_push, step_plain, step_pop}
 use Rattle.eo_sexp.specs.Sexp.{Sexp}
 use Rattle.eo_shape.specs.Shapes.{StepShape}
 use Rattle.eo_sig.specs.Signature.{Signature, Rule, rule_at}
@@ -159,13 +159,15 @@ module _ (laws : Layers) (st : State) (h : IsSound st) where
       (All-cons (λ (v : Tree). is_value v ≡ true) v.0 rest.0 (value_value s v.0 v.1) (values_value ss rest.0 rest.1))
 
   formula_is : (s : Sexp) (v : Tree) → formula st s ≡ Ok v → (is_value v ≡ true) × (type_of st.signature v ≡ Typed bool_tree)
-  unfolding formula
+  unfolding formula formula_of evaluated
   formula_is s v e =
-      let u = bind_ok (value st s) _ v e in
+      let t = bind_ok (meaning (context st) [] s) _ v e in
+      let u = bind_ok (evaluated st t.0) _ v t.2 in
       let k = bind_ok (typed st u.0) _ v u.2 in
       let b = require_then _ _ _ v k.2 in
+      let is = laws.values st.signature t.0 u.0 h.usable (value_is (eval0 st.signature t.0) u.0 u.1) in
       subst (λ (x : Tree). (is_value x ≡ true) × (type_of st.signature x ≡ Typed bool_tree)) (ok_injective u.0 v b.1)
-      (value_value s u.0 u.1, typed_type st u.0 k.0 k.1 ∙ ap Typed (tree_same k.0 bool_tree b.0))
+      (is, typed_type st u.0 k.0 k.1 ∙ ap Typed (tree_same k.0 bool_tree b.0))
 
   -- ---- facts and scopes
 

@@ -1,10 +1,10 @@
 -- Each command keeps a run sound, and a check that is correct refutes its assertions.
-use Rattle.std.specs.Prelude.{◌≡◌, ℕ, Bool, true, false, not, ◌||◌, nat_eq, if◌then◌else◌, List, [], ◌∷◌, length, Option, Some, None, Result, Ok, Err, All, refl}
+use Rattle.std.specs.Prelude.{◌≡◌, ℕ, Bool, true, false, not, ◌||◌, nat_eq, if◌then◌else◌, List, [], ◌∷◌, length, Option, Some, None, Ok, Err, All, refl}
 use Rattle.std.specs.List.{list_any}
 use Rattle.std.proofs.Common.{ap, subst, arith}
 use Rattle.std.proofs.lemmas.Bool.{eqb-true}
 use Rattle.std.proofs.lemmas.List.Elements.{All-nil, All-head, All-tail}
-use Rattle.eo_base.proofs.ChecksLemmas.{err_is_not_ok, bind_ok, require_then}
+use Rattle.eo_base.proofs.ChecksLemmas.{ok_injective, err_is_not_ok, bind_ok, require_then}
 use Rattle.eo_base.specs.Checks.{Checked}
 use Rattle.eo_base.specs.declared.FaultName.{FaultName}
 use Rattle.eo_base.specs.declared.FaultName.TheVariants.{SecondReference, ScopeOpen, NoReference, NoRefutation}
@@ -16,21 +16,22 @@ use Rattle.eo_run.proofs.Deriving.{OfFormula}
 use Rattle.eo_run.proofs.Fitting.{first_fits}
 use Rattle.eo_run.specs.Layers.{Layers}
 use Rattle.eo_run.proofs.Scoping.{none_values}
-use Rattle.eo_run.proofs.SoundDeclarations.{const_folds, fun_folds, sort_folds, usable_signature, sound_after, define_sound, typed_sound, checked_sound, literals_sound, program_sound, rule_sound, assert_sound}
+use Rattle.eo_run.proofs.SoundDeclarations.{const_folds, fun_folds, sort_folds, usable_signature, sound_after, define_sound, typed_sound, checked_sound, literals_sound, define_fun_sound, define_sort_sound, program_sound, rule_sound, assert_sound}
 use Rattle.eo_run.proofs.SoundSteps.{assume_sound, assume_push_sound, step_plain_sound, step_pop_sound}
 use Rattle.eo_run.specs.Check.{checked, ended, verdict}
 use Rattle.eo_run.specs.Refutation.{Refutes}
-use Rattle.eo_run.specs.Run.{Ran, ◌>>=◌, placed, refusal_at, run_commands, run_file, run_reference, run_check}
+use Rattle.eo_run.proofs.Runs.{Keeping, run_bind, signature_keeps, job_reference_keeps, proof_keeps, given_keeps}
+use Rattle.eo_run.specs.Run.{Progress, Ran, if_given, first_progress, run_signature, run_job_reference, before_proof, run_check}
 use Rattle.eo_run.specs.Soundness.{AllDerive, FactsDerive, IsSound}
-use Rattle.eo_run.specs.State.{State, first_state, begin_reference, end_fault, is_in_scope, with_command, context}
-use Rattle.eo_run.specs.Step.{by_command, may_be_in_scope, scoped_command, uncounted, step}
-use Rattle.eo_run.specs.Verdict.{Refusal, Correct}
-use Rattle.eo_run.specs.declared.Origin.{Origin}
-use Rattle.eo_run.specs.declared.Origin.TheVariants as origin
+use Rattle.eo_run.specs.State.{State, first_state, begin_reference, end_fault, is_in_scope, with_command, context, context_in}
+use Rattle.eo_run.specs.Step.{setting_of}
+use Rattle.eo_run.specs.Commands.{by_command, may_be_in_scope, scoped_command, placed_command, uncounted, step}
+use Rattle.eo_run.specs.Verdict.{Correct}
+use Rattle.eo_run.specs.Origin.{Origin}
+use Rattle.eo_run.specs.declared.CheckJob.{CheckJob}
+use Rattle.eo_run.specs.declared.Next.{Next}
 use Rattle.eo_sexp.specs.Sexp.{Sexp}
-use Rattle.eo_sexp.specs.Spot.{Spot}
-use Rattle.eo_sexp.specs.Texts.{Reads, Then, Ends, Fails}
-use Rattle.eo_shape.specs.Shapes.{Command, DeclareConst, DeclareFun, DeclareSort, DeclareParameterized, DeclareLiterals, Define, DefineProgram, DeclareRule, Assume, AssumePush, Step, StepPop, Assert}
+use Rattle.eo_shape.specs.Shapes.{Command, DeclareConst, DeclareFun, DeclareSort, DeclareParameterized, DeclareLiterals, Define, DefineProgram, DeclareRule, Assume, AssumePush, Step, StepPop, Include, Refer, DefineFun, DefineSort, Assert, Exit, Skip}
 use Rattle.eo_sig.specs.Signature.{Signature, first_signature}
 use Rattle.eo_term.proofs.Equality.{tree_same}
 use Rattle.eo_term.specs.Tree.{Tree, bool_tree, tree_eq, truth}
@@ -76,11 +77,14 @@ none_open (s ∷ ss) e =
 module _ (laws : Layers) where
   command_sound : (st : State) (from : Origin) (command : Command) (new : State) → IsSound st → (not (is_in_scope st) || may_be_in_scope command) ≡ true → by_command st from command ≡ Ok new → IsSound new
   command_sound st from (DeclareConst name type shape) new h top e =
-      typed_sound laws st h (none_open st.scopes.opened top) (declared_const (context st) name type shape) new (const_folds (context st) name type shape) e
+      typed_sound laws st h (none_open st.scopes.opened top) (declared_const (context_in st (setting_of from)) name type shape) new
+      (const_folds (context_in st (setting_of from)) name type shape) e
   command_sound st from (DeclareFun name inputs output) new h top e =
-      typed_sound laws st h (none_open st.scopes.opened top) (declared_fun (context st) name inputs output) new (fun_folds (context st) name inputs output) e
+      typed_sound laws st h (none_open st.scopes.opened top) (declared_fun (context_in st (setting_of from)) name inputs output) new
+      (fun_folds (context_in st (setting_of from)) name inputs output) e
   command_sound st from (DeclareSort name arity) new h top e =
-      typed_sound laws st h (none_open st.scopes.opened top) (declared_sort (context st) name arity) new (sort_folds (context st) name arity) e
+      typed_sound laws st h (none_open st.scopes.opened top) (declared_sort (context_in st (setting_of from)) name arity) new
+      (sort_folds (context_in st (setting_of from)) name arity) e
   command_sound st from (DeclareParameterized name shapes type shape) new h top e =
       checked_sound laws st h (none_open st.scopes.opened top) (declared_parameterized (context st) name shapes type shape) new e
   command_sound st from (DeclareLiterals class type) new h top e =
@@ -92,64 +96,55 @@ module _ (laws : Layers) where
   command_sound st from (AssumePush name s) new h top e = assume_push_sound laws st h name s new e
   command_sound st from (Step shape) new h top e = step_plain_sound laws st h shape new e
   command_sound st from (StepPop shape) new h top e = step_pop_sound laws st h shape new e
+  command_sound st from (Include written) new h top e = sound_after st new h e
+  command_sound st from (Refer written) new h top e = sound_after st new h e
+  command_sound st from (DefineFun name shapes output body) new h top e = define_fun_sound laws st h name shapes output body new e
+  command_sound st from (DefineSort name names type) new h top e = define_sort_sound laws st h name names type new e
   command_sound st from (Assert s) new h top e = assert_sound laws st h (none_open st.scopes.opened top) s new e
+  command_sound st from Exit new h top e = sound_after st new h e
+  command_sound st from Skip new h top e = sound_after st new h e
 
-  uncounted_sound : (st : State) (from : Origin) (s : Sexp) (new : State) → IsSound st → uncounted st from s ≡ Ok new → IsSound new
-  unfolding uncounted scoped_command
-  uncounted_sound st from s new h e =
-      let command = bind_ok _ _ new e in
-      let top = require_then _ _ _ new command.2 in
-      command_sound st from command.0 new h top.0 top.1
+  placed_sound : (st : State) (from : Origin) (command : Command) (r : State × Next) → IsSound st → placed_command st from command ≡ Ok r → IsSound r.0
+  unfolding placed_command scoped_command
+  placed_sound st from command r h e =
+      let new = bind_ok _ _ r e in
+      let top = require_then _ _ _ new.0 new.1 in
+      let what = bind_ok _ _ r new.2 in
+      subst (λ (x : State × Next). IsSound x.0) (ok_injective (new.0, what.0) r what.2) (command_sound st from command new.0 h top.0 top.1)
 
-  pub step_sound : (st : State) (from : Origin) (s : Sexp) (new : State) → IsSound st → step st from s ≡ Ok new → IsSound new
-  unfolding step
-  step_sound st from s new h e =
-      let k = bind_ok (uncounted st from s) _ new e in
-      sound_after (with_command k.0) new (counted_sound k.0 (uncounted_sound st from s k.0 h k.1)) k.2
+  pub step_sound : (st : State) (from : Origin) (s : Sexp) (r : State × Next) → IsSound st → step st from s ≡ Ok r → IsSound r.0
+  unfolding step uncounted
+  step_sound st from s r h e =
+      let k = bind_ok (uncounted st from s) _ r e in
+      let command = bind_ok _ _ k.0 k.1 in
+      subst (λ (x : State × Next). IsSound x.0) (ok_injective (with_command k.0.0, k.0.1) r k.2) (counted_sound k.0.0 (placed_sound st from command.0 k.0 h command.2))
 
--- ---- runs that go on
+-- ---- runs
 
-run_err : {A : Type 0} (refusal : Refusal) (y : A) → ◌≡◌ {A = Result A Refusal} (Err refusal) (Ok y) → ⊥
-run_err refusal y e = cc e
-
-run_ok : {A : Type 0} (x y : A) → ◌≡◌ {A = Result A Refusal} (Ok x) (Ok y) → x ≡ y
-run_ok x y e = cc e
-
-run_bind : {A B : Type 0} (m : Result A Refusal) (f : A → Result B Refusal) (y : B) → (m >>= f) ≡ Ok y → (x : A) × (m ≡ Ok x) × (f x ≡ Ok y)
-unfolding ◌>>=◌
-run_bind (Ok x) f y e = (x, refl, e)
-run_bind (Err r) f y e = absurd (run_err r y e)
-
-placed_ok : {A : Type 0} (path : List ℕ) (at : Spot) (m : Checked A) (x : A) → placed path at m ≡ Ok x → m ≡ Ok x
-unfolding placed
-placed_ok path at (Ok y) x e = ap (λ z. Ok z) (run_ok y x e)
-placed_ok path at (Err fault) x e = absurd (run_err (refusal_at path at fault) x e)
+Any : Origin → Type 0
+Any from = Unit {0}
 
 module _ (laws : Layers) where
-  commands_sound : (path : List ℕ) (from : Origin) (reads : Reads) (st new : State) → IsSound st → run_commands path from reads st ≡ Ok new → IsSound new
-  unfolding run_commands
-  commands_sound path from (Ends at) st new h e = subst IsSound (run_ok st new e) h
-  commands_sound path from (Fails name at) st new h e = absurd (run_err (refusal_at path at name) new e)
-  commands_sound path from (Then c others) st new h e =
-      let r = run_bind _ _ new e in
-      commands_sound path from others r.0 new (step_sound laws st from c.sexp r.0 h (placed_ok path c.start (step st from c.sexp) r.0 r.1)) r.2
+  keeping : Keeping IsSound Any
+  unfolding Any
+  keeping = record { steps = λ st from s r al h e. step_sound laws st from s r h e; begins = begin_sound; reference = tt }
 
-  file_sound : (files : Files) (path : List ℕ) (from : Origin) (st new : State) → IsSound st → run_file files path from st ≡ Ok new → IsSound new
-  unfolding run_file
-  file_sound files path from st new h e =
-      let bytes = run_bind _ _ new e in commands_sound path from _ st new h bytes.2
-
-  reference_sound : (files : Files) (path : List ℕ) (st new : State) → IsSound st → run_reference files path st ≡ Ok new → IsSound new
-  unfolding run_reference
-  reference_sound files path st new h e =
-      let begun = run_bind _ _ new e in
-      file_sound files path origin.Reference begun.0 new (begin_sound st begun.0 h (placed_ok path _ (begin_reference st) begun.0 begun.1)) begun.2
-
-  check_sound : (files : Files) (reference proof : List ℕ) (new : State) → run_check files reference proof ≡ Ok new → IsSound new
-  unfolding run_check
-  check_sound files reference proof new e =
-      let before = run_bind _ _ new e in
-      file_sound files proof origin.Proof before.0 new (reference_sound files reference (first_state false) before.0 (first_sound false) before.1) before.2
+  check_sound : (files : Files) (job : CheckJob) (q : Progress) → run_check files job ≡ Ok q → IsSound q.state
+  unfolding run_check before_proof Any
+  check_sound files job q e =
+      let before = run_bind _ _ q e in
+      let included = run_bind _ _ before.0 before.1 in
+      proof_keeps IsSound Any keeping files tt job.proof before.0 q
+      (given_keeps IsSound Any keeping files (run_job_reference files) job.reference included.0 before.0
+      (λ name k. job_reference_keeps IsSound Any keeping files name included.0 before.0 (include_sound included.0 included.1) k)
+      (include_sound included.0 included.1) included.2)
+      before.2
+    where
+      include_sound : (p : Progress) → if_given (run_signature files) job.include (first_progress job) ≡ Ok p → IsSound p.state
+      include_sound p k =
+          given_keeps IsSound Any keeping files (run_signature files) job.include (first_progress job) p
+          (λ name m. signature_keeps IsSound Any keeping files tt name (first_progress job) p (first_sound job.closed) m)
+          (first_sound job.closed) k
 
 -- ---- the end
 
@@ -182,18 +177,18 @@ module _ (files : Files) (proof : List ℕ) where
   correct_ended true None e = absurd (cc e)
   correct_ended false None e = (refl, refl)
 
-  correct_checked : (ran : Ran) → checked files proof ran ≡ Correct → (st : State) × (ran ≡ Ok st) × (end_fault st ≡ None) × (st.sorry ≡ false)
+  correct_checked : (ran : Ran) → checked files proof ran ≡ Correct → (p : Progress) × (ran ≡ Ok p) × (end_fault p.state ≡ None) × (p.state.sorry ≡ false)
   correct_checked (Err refusal) e = absurd (cc e)
-  correct_checked (Ok st) e = let k = correct_ended st.sorry (end_fault st) e in (st, refl, k.0, k.1)
+  correct_checked (Ok p) e = let k = correct_ended p.state.sorry (end_fault p.state) e in (p, refl, k.0, k.1)
 
-pub correct_refutes : (laws : Layers) (files : Files) (reference proof : List ℕ) → verdict files reference proof ≡ Correct → Refutes files reference proof
+pub correct_refutes : (laws : Layers) (files : Files) (job : CheckJob) → verdict files job ≡ Correct → Refutes files job
 unfolding verdict
-correct_refutes laws files reference proof e =
-    let k = correct_checked files proof (run_check files reference proof) e in
-    let st = k.0 in
-    let derived = (check_sound laws files reference proof st k.1).facts k.3 in
+correct_refutes laws files job e =
+    let k = correct_checked files job.proof (run_check files job) e in
+    let st = k.0.state in
+    let derived = (check_sound laws files job k.0 k.1).facts k.3 in
     record {
-      state = st;
+      final = k.0;
       ends = k.1;
       derives = false_holds (Derives st.signature st.assertions) st.scopes.outermost (outermost_derives st.signature st.assertions st.scopes.outermost st.scopes.opened derived) (no_end_fault st k.2);
     }

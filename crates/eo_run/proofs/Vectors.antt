@@ -1,17 +1,21 @@
 -- Whole checks, and the line that is printed of each.
-use Rattle.std.specs.Prelude.{◌≡◌, refl, ℕ, List, [], ◌∷◌, ◌++◌, codes, replicate}
+use Rattle.std.specs.Prelude.{◌≡◌, refl, ℕ, false, List, [], ◌∷◌, ◌++◌, None, Some, codes, replicate}
 use Rattle.eo_io.specs.Library.{Files}
 use Rattle.eo_run.proofs.Computed.{computed}
 use Rattle.eo_run.specs.Check.{verdict}
 use Rattle.eo_run.specs.Printed.{line, verdict_text}
+use Rattle.eo_run.specs.declared.CheckJob.{CheckJob}
 
 -- the files `r.smt2` and `p.eo`
 abbrev files : (reference proof : List ℕ) → Files
 files reference proof = (codes "r.smt2", reference) ∷ (codes "p.eo", proof) ∷ []
 
+abbrev job : CheckJob
+job = record { include = None; reference = Some (codes "r.smt2"); proof = codes "p.eo"; closed = false }
+
 -- the check of r.smt2 and p.eo with these bytes prints this line
 abbrev Prints : (reference proof text : List ℕ) → Type 0
-Prints reference proof text = verdict_text (verdict (files reference proof) (codes "r.smt2") (codes "p.eo")) ≡ line text
+Prints reference proof text = verdict_text (verdict (files reference proof) job) ≡ line text
 
 assumed : Prints (line (codes "(assert false)")) (line (codes "(assume @p1 false)")) (codes "correct")
 unfolding computed
@@ -122,11 +126,11 @@ commands_first : Prints (line (codes "(assert true)")) (line (codes "(assume a f
 unfolding computed
 commands_first = refl
 
-absent : verdict_text (verdict ((codes "r.smt2", []) ∷ []) (codes "r.smt2") (codes "p.eo")) ≡ line (codes "refused F35 FileAbsent p.eo:1:0")
+absent : verdict_text (verdict ((codes "r.smt2", []) ∷ []) job) ≡ line (codes "refused F35 FileAbsent p.eo:1:0")
 unfolding computed
 absent = refl
 
-absent_reference : verdict_text (verdict [] (codes "r.smt2") (codes "p.eo")) ≡ line (codes "refused F35 FileAbsent r.smt2:1:0")
+absent_reference : verdict_text (verdict [] job) ≡ line (codes "refused F35 FileAbsent r.smt2:1:0")
 unfolding computed
 absent_reference = refl
 

@@ -1,5 +1,5 @@
 -- What is held before the first command.
-use Rattle.std.specs.Prelude.{◌≡◌, List, take}
+use Rattle.std.specs.Prelude.{◌≡◌, List, [], take}
 use Rattle.eo_proof.specs.Kept.{scopes}
 use Rattle.eo_proof.specs.Scopes.{no_facts}
 use Rattle.eo_sig.specs.Reading.{Kept, IsBelow, first_kept, signature}
@@ -17,8 +17,9 @@ pub record IsFirstSignature (k : Kept) : Type 0 where
   pub usable : (ts : List Tree) → take 4 ts ≡ first_trees → IsUsable (signature ts k)
   pub below : IsBelow 4 k
 
--- no type was found, and there are no facts
+-- no type was found, nothing is asserted, and there are no facts
 pub record AreFirstTools (t : Tools) : Type 0 where
   pub types : (S : Signature) (ts : List Tree) → Fits S ts t.types
   pub lasts : Lasts t.types
+  pub assertions : t.assertions ≡ []
   pub facts : (ts : List Tree) → scopes ts t.facts ≡ no_facts

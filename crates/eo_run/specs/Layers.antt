@@ -1,9 +1,12 @@
 -- What the layers below say of declarations, of evaluation, of the uses of rules and of derivability.
-use Rattle.std.specs.Prelude.{◌≡◌, ℕ, true, List, ◌++◌, Ok, Contains}
-use Rattle.eo_elab.specs.Declarations.{declared_rule, defined}
-use Rattle.eo_elab.specs.Fitting.{FitsTerms, macro_is_bound}
+use Rattle.std.specs.Prelude.{◌≡◌, ℕ, true, List, [], ◌++◌, Ok, Contains}
+use Rattle.std.specs.List.{list_all}
+use Rattle.eo_elab.specs.Declarations.{declared_rule, defined, defined_fun, defined_sort}
+use Rattle.eo_elab.specs.Fitting.{FitsTerms, macro_is_bound, label_is_closed}
+use Rattle.eo_elab.specs.Meaning.{means}
 use Rattle.eo_eval.specs.Evaluation.{Value, eval0}
 use Rattle.eo_names.specs.Contexts.{Context}
+use Rattle.eo_names.specs.Readers.{Label}
 use Rattle.eo_rule.specs.Derivability.{Derives}
 use Rattle.eo_rule.specs.Uses.{Use, AreGiven, Concludes, conclusion}
 use Rattle.eo_sexp.specs.Sexp.{Sexp}
@@ -15,6 +18,9 @@ use Rattle.eo_term.specs.Tree.{Tree, is_value}
 pub record Layers : Type 0 where
   pub rules : (c : Context) (s : RuleShape) (r : Rule) → FitsTerms c → declared_rule c s ≡ Ok r → are_ordered 0 r.parameters ≡ true
   pub macros : (c : Context) (name : List ℕ) (params : List ParameterShape) (body : Sexp) (m : Macro) → FitsTerms c → defined c name params body ≡ Ok m → macro_is_bound m ≡ true
+  pub functions : (c : Context) (name : List ℕ) (params : List ParameterShape) (output body : Sexp) (m : Macro) → FitsTerms c → defined_fun c name params output body ≡ Ok m → macro_is_bound m ≡ true
+  pub sorts : (c : Context) (name : List ℕ) (params : List (List ℕ)) (type : Sexp) (m : Macro) → FitsTerms c → defined_sort c name params type ≡ Ok m → macro_is_bound m ≡ true
+  pub labels : (c : Context) (s : Sexp) (t : Tree) (labels : List Label) → FitsTerms c → means c [] s [] ≡ Ok (t, labels) → list_all label_is_closed labels ≡ true
   pub values : (S : Signature) (t v : Tree) → IsUsable S → eval0 S t ≡ Value v → is_value v ≡ true
   pub concludes : (S : Signature) (number : ℕ) (given : Use) (formula : Tree) → IsUsable S → AreGiven given → conclusion S number given ≡ Ok formula → Concludes S number given formula
   pub weakens : (S : Signature) (Γ Δ : List Tree) (t : Tree) → ((x : Tree) → Contains Γ x → Contains Δ x) → Derives S Γ t → Derives S Δ t

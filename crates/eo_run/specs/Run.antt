@@ -1,20 +1,34 @@
--- The run of the files of a check: the state at its end, or the first fault with its place.
-use Rattle.std.specs.Prelude.{ℕ, Bool, false, List, Option, Some, None, Result, Ok, Err}
+-- The run of the files of a check or a load: how far it comes, or the first fault with its place.
+use Rattle.std.specs.Prelude.{ℕ, zero, suc, Bool, true, false, if◌then◌else◌, List, [], Option, Some, None, Result, Ok, Err, bytes_eq, unwrap_or}
+use Rattle.std.specs.List.{list_any}
 use Rattle.eo_base.specs.declared.FaultName.{FaultName}
-use Rattle.eo_base.specs.declared.FaultName.TheVariants.{FileAbsent}
+use Rattle.eo_base.specs.declared.FaultName.TheVariants.{BadPath, IncludeDepth, FileAbsent}
 use Rattle.eo_base.specs.Checks.{Checked}
 use Rattle.eo_base.specs.Limits.{limits}
 use Rattle.eo_io.specs.Library.{Files, file_at}
+use Rattle.eo_io.specs.Paths.{fold_path, with_path}
 use Rattle.eo_sexp.specs.Spot.{Spot}
 use Rattle.eo_sexp.specs.Texts.{Reads, Then, Ends, Fails, first_spot, reads_file}
 use Rattle.eo_run.specs.State.{State, first_state, begin_reference}
-use Rattle.eo_run.specs.Step.{is_in_proof, step}
+use Rattle.eo_run.specs.Commands.{step}
 use Rattle.eo_run.specs.Verdict.{Refusal}
-use Rattle.eo_run.specs.declared.Origin.{Origin}
-use Rattle.eo_run.specs.declared.Origin.TheVariants as origin
+use Rattle.eo_run.specs.Origin.{Origin}
+use Rattle.eo_run.specs.Origin as origin
+use Rattle.eo_run.specs.declared.CheckJob.{CheckJob}
+use Rattle.eo_run.specs.declared.Next.{Next}
+use Rattle.eo_run.specs.declared.Next.TheVariants as next
+
+-- a file that the job names is at depth 0, and one that it includes at depth 1
+abbrev pub include_limit : ℕ
+include_limit = 16
+
+-- how far a run is, and which files were included
+pub record Progress : Type 0 where
+  pub state : State
+  pub included : List (List ℕ)
 
 abbrev pub Ran : Type 0
-Ran = Result State Refusal
+Ran = Result Progress Refusal
 
 infixl 10 ◌>>=◌
 unfoldable pub ◌>>=◌ : {A B : Type 0} → Result A Refusal → (A → Result B Refusal) → Result B Refusal
@@ -41,31 +55,139 @@ or_fault path at name None = Err (refusal_at path at name)
 abbrev pub commands_of : (proof : Bool) → List ℕ → Reads
 commands_of proof bytes = reads_file limits proof bytes
 
--- The commands of a file in order, from a state on. A lexical fault counts once every command before it is accepted.
-unfoldable pub run_commands : List ℕ → Origin → Reads → State → Ran
-run_commands path from (Ends at) st = Ok st
-run_commands path from (Fails name at) st = Err (refusal_at path at name)
-run_commands path from (Then c others) st = do
-  new ← placed path c.start (step st from c.sexp)
-  run_commands path from others new
+-- What is done behind a command: the path of its file, its origin and its place, and what it asks for.
+abbrev pub Opener : Type 0
+Opener = List ℕ → Origin → Spot → Next → Progress → Ran
+
+-- nothing of the file is read behind this
+abbrev pub is_exit : Next → Bool
+is_exit next.Done = false
+is_exit (next.Include path) = false
+is_exit (next.Reference path) = false
+is_exit next.Exit = true
+
+-- The commands of a file in order. A lexical fault counts once every command before it is accepted.
+unfoldable pub run_commands : Opener → List ℕ → Origin → Reads → Progress → Ran
+run_commands opener path from (Ends at) p = Ok p
+run_commands opener path from (Fails name at) p = Err (refusal_at path at name)
+run_commands opener path from (Then c others) p = do
+  r ← placed path c.start (step p.state from c.sexp)
+  q ← opener path from c.start r.1 (record p { state = r.0 })
+  if is_exit r.1 then Ok q else run_commands opener path from others q
 
 -- ---- files
 
+-- what runs a file: its path, its origin and its bytes
+abbrev pub Runner : Type 0
+Runner = List ℕ → Origin → List ℕ → Progress → Ran
+
+-- a file counts as included once it is opened
+abbrev pub with_included : Progress → List ℕ → Progress
+with_included p path = record p { included = with_path p.included path }
+
+-- a reference file opens no other
+abbrev pub open_nothing : Opener
+open_nothing path from at what p = Ok p
+
+unfoldable pub run_reference : (path bytes : List ℕ) → Progress → Ran
+run_reference path bytes p = run_commands open_nothing path origin.Reference (commands_of false bytes) p
+
+-- the path of a file of the job as it is shown: folded, or as it was given where it is bad
+abbrev pub shown : List ℕ → List ℕ
+shown name = unwrap_or (fold_path [] name) name
+
+abbrev pub with_option : List (List ℕ) → Option (List ℕ) → List (List ℕ)
+with_option paths None = paths
+with_option paths (Some path) = with_path paths path
+
+abbrev pub with_folded : List (List ℕ) → Option (List ℕ) → List (List ℕ)
+with_folded paths None = paths
+with_folded paths (Some name) = with_option paths (fold_path [] name)
+
+-- The include file and the proof count as included from the start.
+abbrev pub first_progress : CheckJob → Progress
+first_progress job = record { state = first_state job.closed; included = with_folded (with_folded [] job.include) (Some job.proof) }
+
+abbrev pub first_load : List ℕ → Progress
+first_load name = record { state = first_state false; included = with_folded [] (Some name) }
+
+abbrev pub if_given : (List ℕ → Progress → Ran) → Option (List ℕ) → Progress → Ran
+if_given run None p = Ok p
+if_given run (Some name) p = run name p
+
 module _ (files : Files) where
-  -- a file of a check, which is refused at its start where it is absent
-  unfoldable pub run_file : List ℕ → Origin → State → Ran
-  run_file path from st = do
+  -- A file that is included already is not read again. `deeper` runs a file that may still be included.
+  unfoldable pub include_file : Option Runner → List ℕ → Origin → Spot → List ℕ → Progress → Ran
+  include_file deeper path from at file p =
+      if list_any (bytes_eq file) p.included then Ok p else (do
+        run ← or_fault path at IncludeDepth deeper
+        bytes ← or_fault path at FileAbsent (file_at files file)
+        run file from bytes (with_included p file)
+      )
+
+  unfoldable pub refer_to_file : List ℕ → Spot → List ℕ → Progress → Ran
+  refer_to_file path at file p = do
+    st ← placed path at (begin_reference p.state)
+    bytes ← or_fault path at FileAbsent (file_at files file)
+    run_reference file bytes (record p { state = st })
+
+  -- A path is looked for beside the file that names it.
+  unfoldable pub open_file : Option Runner → Opener
+  open_file deeper path from at next.Done p = Ok p
+  open_file deeper path from at (next.Include name) p = do
+    file ← or_fault path at BadPath (fold_path path name)
+    include_file deeper path from at file p
+  open_file deeper path from at (next.Reference name) p = do
+    file ← or_fault path at BadPath (fold_path path name)
+    refer_to_file path at file p
+  open_file deeper path from at next.Exit p = Ok p
+
+  -- the commands of a file, with those of the files that it opens; only the proof itself may be wrapped
+  unfoldable pub run_file : Option Runner → (proof : Bool) → Runner
+  run_file deeper proof path from bytes p = run_commands (open_file deeper) path from (commands_of proof bytes) p
+
+  -- runs an included file, where so many more may be included one by the other
+  unfoldable pub included_runner : (left : ℕ) → Option Runner
+  included_runner zero = None
+  included_runner (suc left) = Some (run_file (included_runner left) false)
+
+  -- ---- the files of a job
+
+  -- a file that the job names, which is refused at its start where its path is bad or it is absent
+  unfoldable pub job_file : List ℕ → Result (List ℕ × List ℕ) Refusal
+  job_file name = do
+    path ← or_fault name first_spot BadPath (fold_path [] name)
     bytes ← or_fault path first_spot FileAbsent (file_at files path)
-    run_commands path from (commands_of (is_in_proof from) bytes) st
+    Ok (path, bytes)
 
-  -- the reference file, from a state on
-  unfoldable pub run_reference : List ℕ → State → Ran
-  run_reference path st = do
-    begun ← placed path first_spot (begin_reference st)
-    run_file path origin.Reference begun
+  unfoldable pub run_signature : List ℕ → Progress → Ran
+  run_signature name p = do
+    file ← job_file name
+    run_file (included_runner include_limit) false file.0 origin.Signature file.1 p
 
-  -- the reference file, and then the proof
-  unfoldable pub run_check : (reference proof : List ℕ) → Ran
-  run_check reference proof = do
-    st ← run_reference reference (first_state false)
-    run_file proof origin.Proof st
+  unfoldable pub run_proof : List ℕ → Progress → Ran
+  run_proof name p = do
+    file ← job_file name
+    run_file (included_runner include_limit) true file.0 origin.Proof file.1 p
+
+  unfoldable pub run_job_reference : List ℕ → Progress → Ran
+  run_job_reference name p = do
+    st ← placed (shown name) first_spot (begin_reference p.state)
+    file ← job_file name
+    run_reference file.0 file.1 (record p { state = st })
+
+  -- the include file, and then the reference file
+  unfoldable pub before_proof : CheckJob → Ran
+  before_proof job = do
+    p ← if_given run_signature job.include (first_progress job)
+    if_given run_job_reference job.reference p
+
+  -- and then the proof
+  unfoldable pub run_check : CheckJob → Ran
+  run_check job = do
+    p ← before_proof job
+    run_proof job.proof p
+
+  -- a signature file alone
+  unfoldable pub run_load : List ℕ → Ran
+  run_load name = run_signature name (first_load name)

@@ -6,7 +6,7 @@ use Rattle.eo_base.specs.declared.FaultName.TheVariants.{ScopeOpen, NoReference,
 use Rattle.eo_base.specs.Checks.{Checked}
 use Rattle.eo_sig.specs.Signature.{Signature, SignatureEntry, Macro, first_signature}
 use Rattle.eo_term.specs.Tree.{Tree, tree_eq}
-use Rattle.eo_names.specs.Contexts.{Context, InProof}
+use Rattle.eo_names.specs.Contexts.{Context, Setting, InProof}
 use Rattle.eo_proof.specs.Scopes as proof
 use Rattle.eo_proof.specs.Scopes.{Scopes, no_facts, depth, outside, has_false}
 
@@ -31,9 +31,13 @@ unfoldable pub first_state : (closed : Bool) → State
 first_state closed =
     record { signature = first_signature; macros = []; outer_macros = []; assertions = []; has_reference = false; scopes = no_facts; sorry = false; closed = closed; commands = 0 }
 
--- what names stand for in a proof
+-- what names stand for in a file of this kind
+abbrev pub context_in : State → Setting → Context
+context_in st setting = record { signature = st.signature; macros = st.macros; setting = setting }
+
+-- the same in a signature or a proof
 abbrev pub context : State → Context
-context st = record { signature = st.signature; macros = st.macros; setting = InProof }
+context st = context_in st InProof
 
 abbrev pub with_entry : State → SignatureEntry → State
 with_entry st e = record st { signature = st.signature ++ e ∷ [] }

@@ -1,34 +1,43 @@
--- What each command does: the state after it, or its first fault.
-use Rattle.std.specs.Prelude.{ℕ, Bool, true, false, not, ◌&&◌, ◌||◌, nat_eq, nat_lt, if◌then◌else◌, List, [], ◌∷◌, length, Option, Some, None, slice_get, option_and_then, Ok, Err, bytes_eq, codes}
+-- What each kind of command does to a state, or its first fault.
+use Rattle.std.specs.Prelude.{ℕ, Bool, true, false, not, ◌&&◌, ◌||◌, nat_eq, nat_lt, if◌then◌else◌, List, [], ◌∷◌, ◌++◌, map, length, Option, Some, None, slice_get, Ok, Err}
 use Rattle.std.specs.Option.{option_map_or}
-use Rattle.eo_base.specs.declared.FaultName.TheVariants.{Redeclared, ProofDeclares, IllTyped, UnknownSymbol, UnknownRule, UnknownPremise, NotBool, NotAsserted, NoReference, InScope, NoScope, ScopeDepth}
+use Rattle.eo_base.specs.declared.FaultName.TheVariants.{Redeclared, ProofDeclares, IllTyped, UnknownRule, UnknownPremise, NotBool, NotAsserted, NoReference, NoScope, ScopeDepth}
 use Rattle.eo_base.specs.Checks.{Checked, Passed, ◌>>=◌, require, no_fault, value_or}
 use Rattle.eo_sexp.specs.Sexp.{Sexp}
 use Rattle.eo_lit.specs.declared.LiteralClass.{LiteralClass}
 use Rattle.eo_sig.specs.Signature.{IsConstant, IsProgram, IsRule, IsLiteralType, Attribute, Plain, Constant, Macro, Program, Rule, Named, NamesConstant, NamesMacro, lookup, constant_at, rule_at, rule_named, is_reserved, constant_fault, program_fault, rule_fault, literal_type_fault}
-use Rattle.eo_shape.specs.Words.{symbol_of}
-use Rattle.eo_shape.specs.Shapes.{ParameterShape, AttributeShape, ProgramShape, RuleShape, StepShape, Command, DeclareConst, DeclareFun, DeclareSort, DeclareParameterized, DeclareLiterals, Define, DefineProgram, DeclareRule, Assume, AssumePush, Step, StepPop, Assert, command_of}
-use Rattle.eo_term.specs.Tree.{Tree, type_tree, bool_tree, truth, tree_eq}
+use Rattle.eo_shape.specs.Shapes.{ParameterShape, AttributeShape, ProgramShape, RuleShape, StepShape}
+use Rattle.eo_term.specs.Tree.{Tree, type_tree, bool_tree, tree_eq}
 use Rattle.eo_eval.specs.Evaluation.{eval0}
 use Rattle.eo_eval.specs.Faults.{value_or_fault}
-use Rattle.eo_elab.specs.Meaning.{meaning}
-use Rattle.eo_elab.specs.Declarations.{is_reference_name, declared_const, declared_fun, declared_sort, declared_parameterized, declared_literals, defined, declared_program, declared_rule}
+use Rattle.eo_names.specs.Contexts.{Setting, InProof, InReference, InAssert}
+use Rattle.eo_names.specs.Readers.{Label}
+use Rattle.eo_elab.specs.Meaning.{means, meaning}
+use Rattle.eo_elab.specs.Declarations.{is_reference_name, declared_const, declared_fun, declared_sort, declared_parameterized, declared_literals, defined, defined_fun, defined_sort, declared_program, declared_rule}
 use Rattle.eo_proof.specs.Scopes.{depth, scope_limit, is_live, is_free_outside, fact_named, innermost_hypothesis}
 use Rattle.eo_rule.specs.Uses.{Use, conclusion}
 use Rattle.eo_rule.specs.Uses as rule
-use Rattle.eo_run.specs.State.{State, context, with_entry, with_macro, with_assertion, with_fact, with_scope, without_scope, with_command, is_asserted, is_in_scope}
-use Rattle.eo_run.specs.declared.Origin.{Origin}
-use Rattle.eo_run.specs.declared.Origin.TheVariants as origin
+use Rattle.eo_run.specs.State.{State, context, context_in, with_entry, with_macro, with_assertion, with_fact, with_scope, without_scope, is_asserted}
+use Rattle.eo_run.specs.Origin.{Origin}
+use Rattle.eo_run.specs.Origin as origin
 
 -- ---- the file that a command stands in
 
 abbrev pub is_in_reference : Origin → Bool
+is_in_reference origin.Signature = false
 is_in_reference origin.Proof = false
 is_in_reference origin.Reference = true
 
 abbrev pub is_in_proof : Origin → Bool
+is_in_proof origin.Signature = false
 is_in_proof origin.Proof = true
 is_in_proof origin.Reference = false
+
+-- what may stand in it
+abbrev pub setting_of : Origin → Setting
+setting_of origin.Signature = InProof
+setting_of origin.Proof = InProof
+setting_of origin.Reference = InReference
 
 -- ---- checks
 
@@ -60,13 +69,19 @@ optional_value st (Some s) = do
   v ← value st s
   Ok (Some v)
 
--- the value of a term, which is a formula
-unfoldable pub formula : State → Sexp → Checked Tree
-formula st s = do
-  v ← value st s
+-- the value of a tree, which is a formula
+unfoldable pub formula_of : State → Tree → Checked Tree
+formula_of st t = do
+  v ← evaluated st t
   type ← typed st v
   _ ← require (tree_eq type bool_tree) NotBool
   Ok v
+
+-- the value of a term, which is a formula
+unfoldable pub formula : State → Sexp → Checked Tree
+formula st s = do
+  t ← meaning (context st) [] s
+  formula_of st t
 
 abbrev pub is_free_fact : State → List ℕ → Bool
 is_free_fact st name = not (is_reserved name) && not (is_live st.scopes name)
@@ -117,19 +132,19 @@ checked_literals st class t = do
   _ ← no_fault (literal_type_fault st.signature class t)
   Ok (with_entry st (IsLiteralType class t))
 
-abbrev pub declare_const : State → List ℕ → Sexp → AttributeShape → Checked State
-declare_const st name type shape = do
-  d ← declared_const (context st) name type shape
+abbrev pub declare_const : State → Setting → List ℕ → Sexp → AttributeShape → Checked State
+declare_const st setting name type shape = do
+  d ← declared_const (context_in st setting) name type shape
   typed_constant st d
 
-abbrev pub declare_fun : State → List ℕ → List Sexp → Sexp → Checked State
-declare_fun st name inputs output = do
-  d ← declared_fun (context st) name inputs output
+abbrev pub declare_fun : State → Setting → List ℕ → List Sexp → Sexp → Checked State
+declare_fun st setting name inputs output = do
+  d ← declared_fun (context_in st setting) name inputs output
   typed_constant st d
 
-abbrev pub declare_sort : State → List ℕ → ℕ → Checked State
-declare_sort st name arity = do
-  d ← declared_sort (context st) name arity
+abbrev pub declare_sort : State → Setting → List ℕ → ℕ → Checked State
+declare_sort st setting name arity = do
+  d ← declared_sort (context_in st setting) name arity
   typed_constant st d
 
 abbrev pub declare_parameterized : State → List ℕ → List ParameterShape → Sexp → AttributeShape → Checked State
@@ -160,6 +175,17 @@ added_macro st m =
 abbrev pub define : State → List ℕ → List ParameterShape → Sexp → Checked State
 define st name shapes body = do
   m ← defined (context st) name shapes body
+  added_macro st m
+
+-- the macros of a reference file
+abbrev pub define_fun : State → List ℕ → List ParameterShape → (output body : Sexp) → Checked State
+define_fun st name shapes output body = do
+  m ← defined_fun (context_in st InReference) name shapes output body
+  added_macro st m
+
+abbrev pub define_sort : State → List ℕ → List (List ℕ) → Sexp → Checked State
+define_sort st name names type = do
+  m ← defined_sort (context_in st InReference) name names type
   added_macro st m
 
 -- ---- programs and rules
@@ -200,7 +226,7 @@ declare_rule st from shape = do
   _ ← may_declare st from
   added_rule st shape
 
--- ---- assumptions and assertions
+-- ---- assumptions
 
 -- the name is free, the formula is one, and it is asserted
 unfoldable pub assume : State → List ℕ → Sexp → Checked State
@@ -219,18 +245,21 @@ assume_push st name s = do
   v ← formula st s
   Ok (with_scope st name v)
 
--- what a word says as a formula
-abbrev pub truth_of : List ℕ → Option Bool
-truth_of word = if bytes_eq word (codes "true") then Some true else (if bytes_eq word (codes "false") then Some false else None)
+-- ---- assertions
 
--- the symbol `true` or `false`; a reference file declares nothing else
-unfoldable pub asserted_truth : Sexp → Checked Bool
-asserted_truth s = value_or UnknownSymbol (option_and_then truth_of (symbol_of s))
+-- a name that a term of an assertion gives itself
+abbrev pub label_macro : Label → Macro
+label_macro l = record { name = l.name; parameters = []; tree = l.tree; from_reference = true }
 
+abbrev pub with_labels : State → List Label → State
+with_labels st labels = record st { macros = st.macros ++ map label_macro labels }
+
+-- the value of a formula is asserted, and then the names of its terms are macros
 unfoldable pub assert : State → Sexp → Checked State
 assert st s = do
-  b ← asserted_truth s
-  Ok (with_assertion st (truth b))
+  r ← means (context_in st InAssert) [] s []
+  v ← formula_of st r.0
+  Ok (with_labels (with_assertion st v) r.1)
 
 -- ---- steps
 
@@ -290,46 +319,3 @@ step_pop st s = do
   _ ← require (is_free_outer_fact st s.name) Redeclared
   k ← concluded st (Some a) s
   Ok (with_conclusion (without_scope st) s.name k)
-
--- ---- each command
-
-abbrev pub by_command : State → Origin → Command → Checked State
-by_command st from (DeclareConst name type shape) = declare_const st name type shape
-by_command st from (DeclareFun name inputs output) = declare_fun st name inputs output
-by_command st from (DeclareSort name arity) = declare_sort st name arity
-by_command st from (DeclareParameterized name shapes type shape) = declare_parameterized st name shapes type shape
-by_command st from (DeclareLiterals class type) = declare_literals st class type
-by_command st from (Define name shapes body) = define st name shapes body
-by_command st from (DefineProgram shape) = define_program st from shape
-by_command st from (DeclareRule shape) = declare_rule st from shape
-by_command st from (Assume name s) = assume st name s
-by_command st from (AssumePush name s) = assume_push st name s
-by_command st from (Step shape) = step_plain st shape
-by_command st from (StepPop shape) = step_pop st shape
-by_command st from (Assert s) = assert st s
-
--- commands that may stand in a scope
-abbrev pub may_be_in_scope : Command → Bool
-may_be_in_scope (Define name shapes body) = true
-may_be_in_scope (AssumePush name s) = true
-may_be_in_scope (Step shape) = true
-may_be_in_scope (StepPop shape) = true
-may_be_in_scope command = false
-
--- the rule on scopes, and then the checks of its own
-unfoldable pub scoped_command : State → Origin → Command → Checked State
-scoped_command st from command = do
-  _ ← require (not (is_in_scope st) || may_be_in_scope command) InScope
-  by_command st from command
-
--- its shape, the rule on scopes, and then the checks of its own
-unfoldable pub uncounted : State → Origin → Sexp → Checked State
-uncounted st from s = do
-  command ← command_of (is_in_reference from) s
-  scoped_command st from command
-
--- One command, which is counted where it is accepted.
-unfoldable pub step : State → Origin → Sexp → Checked State
-step st from s = do
-  new ← uncounted st from s
-  Ok (with_command new)

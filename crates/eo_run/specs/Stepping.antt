@@ -16,6 +16,7 @@ use Rattle.eo_term.specs.Growth.{tree_in}
 use Rattle.eo_term.specs.Tree.{Tree, Con, tree_eq}
 use Rattle.eo_run.specs.State.{State}
 use Rattle.eo_run.specs.Held.{state_of}
+use Rattle.eo_run.specs.declared.Next.{Next}
 use Rattle.eo_run.specs.declared.held.Held.{Held}
 use Rattle.eo_run.specs.declared.session.EndAnswer.{EndAnswer}
 use Rattle.eo_run.specs.declared.session.EndAnswer.TheVariants as end
@@ -88,6 +89,16 @@ abbrev pub Does : Result (Unit {0}) Refused → Checked State → Held → Type 
 Does (Ok x) m new = m ≡ Ok (state_of new)
 Does (Err e) m new = Refuses m e
 
+-- what is found, or what refuses it
+abbrev pub Gives : {A : Type 0} → Result A Refused → Checked A → Type 0
+Gives (Ok x) m = m ≡ Ok x
+Gives (Err e) m = Refuses m e
+
+-- What is held is in the state that the definition gives, and what is done next is answered.
+abbrev pub DoesNext : Result Next Refused → Checked (State × Next) → Held → Type 0
+DoesNext (Ok what) m new = m ≡ Ok (state_of new, what)
+DoesNext (Err e) m new = Refuses m e
+
 -- A session: whether it is ended, and its state.
 pub record Standing : Type 0 where
   pub ended : Bool
@@ -99,6 +110,13 @@ Steps (Ok x) m old new = (old.ended ≡ false) × (m ≡ Ok new.state) × (new.e
 Steps (Err (refused.Fault name)) m old new = (old.ended ≡ false) × (m ≡ Err name) × (new.ended ≡ true)
 Steps (Err refused.Ended) m old new = (old.ended ≡ true) × (new.ended ≡ true)
 Steps (Err (refused.Memory e)) m old new = (old.ended ≡ false) × (new.ended ≡ true)
+
+-- the same of a command, which answers what is done next
+abbrev pub StepsTo : Result Next Refused → Checked (State × Next) → (old new : Standing) → Type 0
+StepsTo (Ok what) m old new = (old.ended ≡ false) × (m ≡ Ok (new.state, what)) × (new.ended ≡ false)
+StepsTo (Err (refused.Fault name)) m old new = (old.ended ≡ false) × (m ≡ Err name) × (new.ended ≡ true)
+StepsTo (Err refused.Ended) m old new = (old.ended ≡ true) × (new.ended ≡ true)
+StepsTo (Err (refused.Memory e)) m old new = (old.ended ≡ false) × (new.ended ≡ true)
 
 -- what is wrong at the end, if anything, or whether a step used a rule that is marked as unproved
 abbrev pub EndsWith : Option FaultName → (sorry : Bool) → EndAnswer → Type 0

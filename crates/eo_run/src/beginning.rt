@@ -5,23 +5,24 @@ ghost use Rattle.eo_run.specs.Beginning.{IsFirstSignature, AreFirstTools};
 ghost use Rattle.eo_run.specs.Held.{state_of, IsWhole};
 ghost use Rattle.eo_run.specs.State.{first_state};
 
-use crate::assertions::Assertions;
 use crate::held::Held;
 use crate::marks::Marks;
 use eo_eval::Evaluator;
 use eo_pattern::Subst;
 use eo_proof::Facts;
+use eo_ref::Reference;
 use eo_sig::Signature;
 use eo_term::Table;
 use eo_type::Types;
 use std::alloc::{AllocError, Global};
 
-// What finds types and values and uses rules, and the facts.
+// What finds types and values and uses rules, what is asserted, and the facts.
 #[derive(Drop)]
 pub(crate) struct Tools {
     types: Types,
     evaluator: Evaluator,
     subst: Subst,
+    assertions: Reference,
     facts: Facts,
 }
 
@@ -46,19 +47,21 @@ fn first_signature(alloc: Global) -> Result<Signature, AllocError>
     Ok(signature)
 }
 
-// No type was found, and there are no facts.
+// No type was found, nothing is asserted, and there are no facts.
 fn first_tools(alloc: Global) -> Result<Tools, AllocError>
     ensures { IfOk result AreFirstTools }
 {
     let types = Types::new(alloc)?;
     let evaluator = Evaluator::new(alloc)?;
     let subst = Subst::new(alloc)?;
+    let assertions = Reference::new(alloc)?;
     let facts = Facts::new(alloc)?;
     types.laws();
     Ok(Tools {
         types,
         evaluator,
         subst,
+        assertions,
         facts,
     })
 }
@@ -75,6 +78,7 @@ fn first(alloc: Global, closed: bool, table: Table, signature: Signature, tools:
         types,
         evaluator,
         subst,
+        assertions,
         facts,
     } = tools;
     Held {
@@ -84,7 +88,7 @@ fn first(alloc: Global, closed: bool, table: Table, signature: Signature, tools:
         types,
         evaluator,
         subst,
-        assertions: Assertions::new(alloc),
+        assertions,
         has_reference: false,
         facts,
         marks: Marks::new(alloc),

@@ -1,167 +1,282 @@
-//! The check of a proof against a reference file.
-ghost use Rattle.std.specs.Prelude.{◌≡◌, ◌≢◌, ◌<◌, ◌≤◌, ℕ, [], vec_len, None, false};
-ghost use Rattle.std.specs.Prelude.{Ok, unwrap_or, IsSome, IfOk, IfErr, OnOk, length};
-ghost use Rattle.eo_run.specs.Answer.{AnswerHasCause, FileInRange};
+//! The check of a proof against a reference file, and the load of a signature.
+ghost use Rattle.std.specs.Prelude.{◌≡◌, [], false, Some, IfOk, IfErr, IfSome, OnOk};
+ghost use Rattle.eo_run.specs.Answer.{AnswerHasCause};
+ghost use Rattle.eo_run.specs.Judging.{IsCheckAnswer, IsLoadAnswer, IsPlaced, RunsNamed, RunsPart, AnswersJob, AnswersProof, AnswersLoad};
+ghost use Rattle.eo_run.specs.Judging.{MayRun, StandsFor, BeginsNamed};
+ghost use Rattle.eo_run.specs.Opening.{IsStop};
+ghost use Rattle.eo_run.specs.Progress.{progress_of, Begins};
 ghost use Rattle.eo_run.specs.Reading.{LibraryStays};
-ghost use Rattle.eo_run.specs.Refutation.{CorrectRefutes};
-ghost use Rattle.eo_run.specs.Judging.{stop_verdict, IsPlainJob, IsCheckAnswer, RunsPath, IsPathAnswer, AnswersFiles, AnswersProof};
-ghost use Rattle.eo_run.specs.State.{first_state, begin_reference};
-ghost use Rattle.eo_run.specs.Stepping.{IsMemory};
+ghost use Rattle.eo_run.specs.Refutation.{CorrectRefutes, ClosedKeepsRules};
+ghost use Rattle.eo_run.specs.Run.{first_progress, first_load as load_progress, with_folded, if_given, refusal_at, shown};
+ghost use Rattle.eo_run.specs.Run.{run_signature, run_job_reference, before_proof, run_proof};
+ghost use Rattle.eo_run.specs.State.{begin_reference};
+ghost use Rattle.eo_io.specs.Paths.{fold_path};
+ghost use Rattle.eo_sexp.specs.Texts.{first_spot};
 
 use crate::laws::soundness_law;
-use crate::reading::{Stop, check_file};
+use crate::opening::{OPENS, Run, Source, check_file, refused};
 use crate::{CheckJob, EndAnswer, Origin, Refused, Session, Verdict};
-use eo_base::{Fault, Place};
-use eo_io::{Library, Paths};
+use eo_base::{Fault, FaultName, Place, Text};
+use eo_io::{Library, PathRefused, Paths, fold_path};
+use eo_sexp::Spot;
 use std::alloc::{AllocError, Global};
 
-/// Bytes of one read.
-const PIECE: usize = 65_536;
+/// The place of the first byte of a file.
+const START: Spot = Spot { line: 1, offset: 0 };
 
-/// Checks the job's proof against its reference file.
+/// A file that the job names.
+#[derive(Clone, Copy, Debug)]
+pub(crate) struct Named<'a> {
+    /// Its path, as it is given.
+    pub(crate) name: &'a [u8],
+    /// What it is.
+    pub(crate) from: Origin,
+    /// Whether its commands may be wrapped as those of a proof.
+    pub(crate) wrapped: bool,
+    /// How many files may be open inside it, one opened by the other.
+    pub(crate) opens: usize,
+}
+
+/// Checks the job's proof: first its include file is read, then its reference file, and then the
+/// proof, each in pieces and each command as it comes.
 ///
-/// The reference file holds `(assert S)` alone, S being `true` or `false`, and the proof declares
-/// constants, types of literals, macros, programs and rules, assumes terms, and derives others by
-/// rules. Each file is read in pieces, and each command is checked as it comes: first those of the
-/// reference file, and then those of the proof.
+/// A command may include a file, which is looked for beside the file that names it, or name the
+/// reference file. A file that is included already is not read again; the include file and the
+/// proof count as included from the start.
 ///
-/// - `Refused` with `FileAbsent`, at a file's first byte: it is not there.
+/// - `Refused` with `BadPath` or `FileAbsent`, at a file's first byte: the path that the job gives
+///   is none, or the file is not there.
+/// - `Refused` with `SecondReference`, at the first byte of the job's reference file: the include
+///   file named one.
+/// - `Refused` with `BadPath`, `IncludeDepth` or `FileAbsent`, at a command that names a file: the
+///   path is none, the file would be included more than 16 deep, or it is not there.
 /// - `Refused` with a fault of the text, at its place: `BadByte`, `Unclosed`, `ExtraClose`,
 ///   `TokenLong`, `CommandLong`, `Nesting`, `Width` or `FileLong`, once each command before it is
 ///   accepted.
 /// - `Refused` at a command's first byte, with the fault that [`Session::command`] answers.
-/// - `Refused` behind the last byte of the proof, with `ScopeOpen`: a scope is open, or
-///   `NoRefutation`: `false` is no fact.
+/// - `Refused` behind the last byte of the proof, with `ScopeOpen`: a scope is open,
+///   `NoReference`: there is no reference file, or `NoRefutation`: `false` is no fact.
 /// - `Incomplete`: none of these, but a step used a rule that is marked as unproved.
 /// - `Correct`: none of these. Then `false` is derivable from what the reference file asserts, by the
 ///   rules of the proof's signature.
 /// - `ReadFault`: a call of the library failed.
 /// - `OutOfMemory`: there was no memory left.
 ///
-/// The job has a reference file, no file to be included, and is not closed. No file of the library
-/// is open, before or after. The file of a refusal is one of the paths.
+/// No file of the library is open, before or after. The file of a refusal is one of the paths. In a
+/// closed check the programs and rules are those that were declared before the proof.
 pub fn check_files<L: Library>(
     alloc: Global,
     job: &CheckJob,
     files: &mut L,
     paths: &mut Paths,
 ) -> Verdict
-    requires job { IsPlainJob job.now }
     requires no_paths { paths.old ≡ [] }
     requires none_open { L.open_files files.old ≡ [] }
-    ensures verdict { AnswersFiles (L.told files.old) (unwrap_or job.now.reference []) job.now.proof paths.new result }
-    ensures sound { CorrectRefutes (L.told files.old) (unwrap_or job.now.reference []) job.now.proof result }
+    ensures verdict { AnswersJob (L.told files.old) job.now paths.new result }
+    ensures sound { CorrectRefutes (L.told files.old) job.now result }
+    ensures closed { IfSome (L.told files.old) (λ f. ClosedKeepsRules f job.now) }
     ensures cause { AnswerHasCause result (L.told files.old) (L.faults files.old) (L.faults files.new) }
     ensures kind { IsCheckAnswer paths.new result }
-    ensures place { FileInRange paths.new result }
     ensures stays { LibraryStays L.told L.open_files L.faults files.old files.new }
 {
     soundness_law();
-    match &job.reference {
-        None => unreachable!(),
-        Some(reference) => {
-            let Ok(mut buffer) = new_buffer(alloc) else {
-                return Verdict::OutOfMemory;
-            };
-            let proof = job.proof.as_bytes();
-            check_paths(
-                alloc,
-                reference.as_bytes(),
-                proof,
-                files,
-                paths,
-                &mut buffer,
-            )
-        }
-    }
+    check_whole(alloc, job, files, paths)
 }
 
-/// The verdict of a reference file and a proof by their paths, read into a buffer that is not empty.
-fn check_paths<L: Library>(
+/// The same from the beginning of its run.
+fn check_whole<L: Library>(
     alloc: Global,
-    reference: &[u8],
-    proof: &[u8],
+    job: &CheckJob,
     files: &mut L,
     paths: &mut Paths,
-    buffer: &mut [u8],
 ) -> Verdict
     requires none_open { L.open_files files.old ≡ [] }
-    requires buffer { 0 < length buffer.old }
-    ensures verdict { AnswersFiles (L.told files.old) reference.now proof.now paths.new result }
+    ensures verdict { AnswersJob (L.told files.old) job.now paths.new result }
     ensures cause { AnswerHasCause result (L.told files.old) (L.faults files.old) (L.faults files.new) }
     ensures kind { IsCheckAnswer paths.new result }
     ensures stays { LibraryStays L.told L.open_files L.faults files.old files.new }
 {
-    match first_session(alloc) {
-        Ok(mut session) => check_both(alloc, reference, proof, files, &mut session, paths, buffer),
+    let Ok(mut run) = first_run(alloc, job) else {
+        return Verdict::OutOfMemory;
+    };
+    check_job(alloc, job, files, &mut run, paths)
+}
+
+/// The verdict of a job whose run begins.
+fn check_job<L: Library>(
+    alloc: Global,
+    job: &CheckJob,
+    files: &mut L,
+    run: &mut Run,
+    paths: &mut Paths,
+) -> Verdict
+    requires none_open { L.open_files files.old ≡ [] }
+    requires begins { Begins run.old (first_progress job.now) }
+    ensures verdict { AnswersJob (L.told files.old) job.now paths.new result }
+    ensures cause { AnswerHasCause result (L.told files.old) (L.faults files.old) (L.faults files.new) }
+    ensures kind { IsCheckAnswer paths.new result }
+    ensures stays { LibraryStays L.told L.open_files L.faults files.old files.new }
+{
+    match check_before(alloc, job, files, run, paths) {
+        Err(verdict) => verdict,
+        Ok(()) => check_proof(alloc, job.proof.as_bytes(), files, run, paths),
+    }
+}
+
+/// Checks the files of a job before its proof.
+fn check_before<L: Library>(
+    alloc: Global,
+    job: &CheckJob,
+    files: &mut L,
+    run: &mut Run,
+    paths: &mut Paths,
+) -> Result<(), Verdict>
+    requires none_open { L.open_files files.old ≡ [] }
+    requires begins { Begins run.old (first_progress job.now) }
+    ensures going { OnOk result (run.new.session.ended ≡ false) }
+    ensures runs { RunsPart (L.told files.old) (λ f. before_proof f job.now) result (progress_of run.new) paths.new }
+    ensures cause { IfErr result (λ v. AnswerHasCause v (L.told files.old) (L.faults files.old) (L.faults files.new)) }
+    ensures kind { IfErr result (IsStop paths.new) }
+    ensures stays { LibraryStays L.told L.open_files L.faults files.old files.new }
+{
+    check_include(alloc, &job.include, files, run, paths)?;
+    check_reference(alloc, &job.reference, files, run, paths)
+}
+
+/// Checks the include file, if there is one.
+fn check_include<L: Library>(
+    alloc: Global,
+    name: &Option<Text>,
+    files: &mut L,
+    run: &mut Run,
+    paths: &mut Paths,
+) -> Result<(), Verdict>
+    requires none_open { L.open_files files.old ≡ [] }
+    requires going { run.old.session.ended ≡ false }
+    ensures going { OnOk result (run.new.session.ended ≡ false) }
+    ensures runs { RunsPart (L.told files.old) (λ f. if_given (run_signature f) name.now (progress_of run.old)) result
+        (progress_of run.new) paths.new }
+    ensures cause { IfErr result (λ v. AnswerHasCause v (L.told files.old) (L.faults files.old) (L.faults files.new)) }
+    ensures kind { IfErr result (IsStop paths.new) }
+    ensures stays { LibraryStays L.told L.open_files L.faults files.old files.new }
+{
+    let Some(name) = name else {
+        return Ok(());
+    };
+    let named = Named {
+        name: name.as_bytes(),
+        from: Origin::Signature(0),
+        wrapped: false,
+        opens: OPENS,
+    };
+    check_named(alloc, &named, files, run, paths)?;
+    Ok(())
+}
+
+/// Checks the reference file, if the job names one. `SecondReference` at its first byte: there is
+/// one.
+fn check_reference<L: Library>(
+    alloc: Global,
+    name: &Option<Text>,
+    files: &mut L,
+    run: &mut Run,
+    paths: &mut Paths,
+) -> Result<(), Verdict>
+    requires none_open { L.open_files files.old ≡ [] }
+    requires going { run.old.session.ended ≡ false }
+    ensures going { OnOk result (run.new.session.ended ≡ false) }
+    ensures runs { RunsPart (L.told files.old) (λ f. if_given (run_job_reference f) name.now (progress_of run.old)) result
+        (progress_of run.new) paths.new }
+    ensures cause { IfErr result (λ v. AnswerHasCause v (L.told files.old) (L.faults files.old) (L.faults files.new)) }
+    ensures kind { IfErr result (IsStop paths.new) }
+    ensures stays { LibraryStays L.told L.open_files L.faults files.old files.new }
+{
+    let Some(name) = name else {
+        return Ok(());
+    };
+    begin_named(alloc, name.as_bytes(), &mut run.session, paths)?;
+    let named = Named {
+        name: name.as_bytes(),
+        from: Origin::Reference(0),
+        wrapped: false,
+        opens: 0,
+    };
+    check_named(alloc, &named, files, run, paths)?;
+    Ok(())
+}
+
+/// Begins the job's reference file, whose faults are shown at its first byte.
+fn begin_named(
+    alloc: Global,
+    name: &[u8],
+    session: &mut Session,
+    paths: &mut Paths,
+) -> Result<(), Verdict>
+    requires going { session.old.ended ≡ false }
+    ensures going { OnOk result (session.new.ended ≡ false) }
+    ensures begins { BeginsNamed paths.new name.now result (begin_reference session.old.state) session.new.state }
+{
+    match session.begin_reference() {
+        Ok(()) => Ok(()),
+        Err(Refused::Fault(fault)) => Err(refuse_named(alloc, fault, name, paths)),
+        Err(Refused::Ended) => unreachable!(),
+        Err(Refused::Memory(_)) => Err(Verdict::OutOfMemory),
+    }
+}
+
+/// The verdict of a fault at the first byte of a file that the job names, which is shown by its
+/// folded path, or as it is given where that is none.
+fn refuse_named(alloc: Global, fault: FaultName, name: &[u8], paths: &mut Paths) -> Verdict
+    ensures { StandsFor paths.new result (refusal_at (shown name.now) first_spot fault) }
+{
+    match fold_path(alloc, b"", name) {
+        Ok(path) => refuse_at_start(fault, path.as_bytes(), paths),
+        Err(PathRefused::Bad) => refuse_at_start(fault, name, paths),
+        Err(PathRefused::Memory(_)) => Verdict::OutOfMemory,
+    }
+}
+
+/// The verdict of a fault at the first byte of the file with this path.
+fn refuse_at_start(fault: FaultName, path: &[u8], paths: &mut Paths) -> Verdict
+    ensures { StandsFor paths.new result (refusal_at path.now first_spot fault) }
+{
+    match paths.add(path) {
+        Ok(file) => Verdict::Refused(Fault {
+            name: fault,
+            place: Place {
+                file,
+                line: START.line,
+                offset: START.offset,
+            },
+        }),
         Err(_) => Verdict::OutOfMemory,
     }
 }
 
-/// The verdict of a reference file, which has begun, and a proof.
-fn check_both<L: Library>(
-    alloc: Global,
-    reference: &[u8],
-    proof: &[u8],
-    files: &mut L,
-    session: &mut Session,
-    paths: &mut Paths,
-    buffer: &mut [u8],
-) -> Verdict
-    requires none_open { L.open_files files.old ≡ [] }
-    requires buffer { 0 < length buffer.old }
-    requires going { session.old.ended ≡ false }
-    requires begun { begin_reference (first_state false) ≡ Ok session.old.state }
-    ensures verdict { AnswersFiles (L.told files.old) reference.now proof.now paths.new result }
-    ensures cause { AnswerHasCause result (L.told files.old) (L.faults files.old) (L.faults files.new) }
-    ensures kind { IsCheckAnswer paths.new result }
-    ensures stays { LibraryStays L.told L.open_files L.faults files.old files.new }
-{
-    match check_path(
-        alloc,
-        reference,
-        Origin::Reference,
-        files,
-        session,
-        paths,
-        buffer,
-    ) {
-        Ok(_) => check_proof(alloc, proof, files, session, paths, buffer),
-        Err(verdict) => verdict,
-    }
-}
-
-/// A session of which the reference file begins. `Err` is want of memory.
-fn first_session(alloc: Global) -> Result<Session, Refused>
-    ensures going { IfOk result (λ s. s.ended ≡ false) }
-    ensures state { IfOk result (λ s. begin_reference (first_state false) ≡ Ok s.state) }
-    ensures memory { IfErr result IsMemory }
-{
-    let mut session = Session::new(alloc, false)?;
-    session.begin_reference()?;
-    Ok(session)
-}
-
-/// The verdict of a proof, behind its reference file.
+/// The verdict of the proof, behind what was read before it.
 fn check_proof<L: Library>(
     alloc: Global,
-    path: &[u8],
+    name: &[u8],
     files: &mut L,
-    session: &mut Session,
+    run: &mut Run,
     paths: &mut Paths,
-    buffer: &mut [u8],
 ) -> Verdict
     requires none_open { L.open_files files.old ≡ [] }
-    requires buffer { 0 < length buffer.old }
-    requires going { session.old.ended ≡ false }
-    ensures verdict { AnswersProof (L.told files.old) path.now session.old.state paths.new result }
+    requires going { run.old.session.ended ≡ false }
+    ensures verdict { AnswersProof (L.told files.old) name.now (λ f. run_proof f name.now (progress_of run.old)) paths.new result }
     ensures cause { AnswerHasCause result (L.told files.old) (L.faults files.old) (L.faults files.new) }
     ensures kind { IsCheckAnswer paths.new result }
     ensures stays { LibraryStays L.told L.open_files L.faults files.old files.new }
 {
-    match check_path(alloc, path, Origin::Proof, files, session, paths, buffer) {
+    let named = Named {
+        name,
+        from: Origin::Proof(0),
+        wrapped: true,
+        opens: OPENS,
+    };
+    match check_named(alloc, &named, files, run, paths) {
         Err(verdict) => verdict,
-        Ok(place) => match session.end() {
+        Ok(place) => match run.session.end() {
             EndAnswer::Correct => Verdict::Correct,
             EndAnswer::Incomplete => Verdict::Incomplete,
             EndAnswer::Fault(name) => Verdict::Refused(Fault { name, place }),
@@ -169,59 +284,159 @@ fn check_proof<L: Library>(
     }
 }
 
-/// Reads the file with this path, and checks its commands. Answers the place behind its last byte.
+/// Runs a signature file, with the files that it includes and the reference file that it names.
+///
+/// `Loaded`: it is accepted, with how many commands. The refusals are those of [`check_files`], but
+/// for those behind the last byte of a proof. No file of the library is open, before or after.
+pub fn load_files<L: Library>(
+    alloc: Global,
+    file: &Text,
+    files: &mut L,
+    paths: &mut Paths,
+) -> Verdict
+    requires no_paths { paths.old ≡ [] }
+    requires none_open { L.open_files files.old ≡ [] }
+    ensures verdict { AnswersLoad (L.told files.old) file.now paths.new result }
+    ensures cause { AnswerHasCause result (L.told files.old) (L.faults files.old) (L.faults files.new) }
+    ensures kind { IsLoadAnswer paths.new result }
+    ensures stays { LibraryStays L.told L.open_files L.faults files.old files.new }
+{
+    let Ok(mut run) = first_load(alloc, file) else {
+        return Verdict::OutOfMemory;
+    };
+    load_named(alloc, file.as_bytes(), files, &mut run, paths)
+}
+
+/// The same from the beginning of its run.
+fn load_named<L: Library>(
+    alloc: Global,
+    name: &[u8],
+    files: &mut L,
+    run: &mut Run,
+    paths: &mut Paths,
+) -> Verdict
+    requires none_open { L.open_files files.old ≡ [] }
+    requires begins { Begins run.old (load_progress name.now) }
+    ensures verdict { AnswersLoad (L.told files.old) name.now paths.new result }
+    ensures cause { AnswerHasCause result (L.told files.old) (L.faults files.old) (L.faults files.new) }
+    ensures kind { IsLoadAnswer paths.new result }
+    ensures stays { LibraryStays L.told L.open_files L.faults files.old files.new }
+{
+    let named = Named {
+        name,
+        from: Origin::Signature(0),
+        wrapped: false,
+        opens: OPENS,
+    };
+    match check_named(alloc, &named, files, run, paths) {
+        Err(verdict) => verdict,
+        Ok(_) => Verdict::Loaded {
+            commands: run.session.commands(),
+        },
+    }
+}
+
+/// Reads a file that the job names and checks its commands, with those of the files that they open.
+/// Answers the place behind its last byte. At its first byte: `BadPath`: its path is none;
+/// `FileAbsent`: it is not there.
+fn check_named<L: Library>(
+    alloc: Global,
+    named: &Named<'_>,
+    files: &mut L,
+    run: &mut Run,
+    paths: &mut Paths,
+) -> Result<Place, Verdict>
+    requires ready { MayRun named.now run.old (L.open_files files.old) }
+    ensures going { OnOk result (run.new.session.ended ≡ false) }
+    ensures runs { RunsNamed (L.told files.old) named.now result (progress_of run.old) (progress_of run.new) paths.new }
+    ensures cause { IfErr result (λ v. AnswerHasCause v (L.told files.old) (L.faults files.old) (L.faults files.new)) }
+    ensures kind { IsPlaced paths.new result }
+    ensures stays { LibraryStays L.told L.open_files L.faults files.old files.new }
+{
+    match fold_path(alloc, b"", named.name) {
+        Ok(path) => check_path(alloc, path.as_bytes(), named, files, run, paths),
+        Err(PathRefused::Bad) => Err(refuse_at_start(FaultName::BadPath, named.name, paths)),
+        Err(PathRefused::Memory(_)) => Err(Verdict::OutOfMemory),
+    }
+}
+
+/// The same by its folded path.
 fn check_path<L: Library>(
     alloc: Global,
     path: &[u8],
-    from: Origin,
+    named: &Named<'_>,
     files: &mut L,
-    session: &mut Session,
+    run: &mut Run,
     paths: &mut Paths,
-    buffer: &mut [u8],
 ) -> Result<Place, Verdict>
-    requires none_open { L.open_files files.old ≡ [] }
-    requires buffer { 0 < length buffer.old }
-    requires going { session.old.ended ≡ false }
-    ensures going { OnOk result (session.new.ended ≡ false) }
-    ensures runs { RunsPath (L.told files.old) path.now from result session.old.state session.new.state paths.new }
+    requires ready { MayRun named.now run.old (L.open_files files.old) }
+    requires folds { fold_path [] named.now.name.now ≡ Some path.now }
+    ensures going { OnOk result (run.new.session.ended ≡ false) }
+    ensures runs { RunsNamed (L.told files.old) named.now result (progress_of run.old) (progress_of run.new) paths.new }
     ensures cause { IfErr result (λ v. AnswerHasCause v (L.told files.old) (L.faults files.old) (L.faults files.new)) }
-    ensures kind { IsPathAnswer paths.new result }
+    ensures kind { IsPlaced paths.new result }
     ensures stays { LibraryStays L.told L.open_files L.faults files.old files.new }
 {
     let Ok(file) = paths.add(path) else {
         return Err(Verdict::OutOfMemory);
     };
-    match check_file(alloc, path, from, files, session, buffer) {
-        Ok(at) => Ok(Place {
+    let source = Source {
+        path,
+        from: named.from.in_file(file),
+        wrapped: named.wrapped,
+        opens: named.opens,
+    };
+    match check_file(alloc, &source, files, run, paths)? {
+        Some(at) => Ok(Place {
             file,
             line: at.line,
             offset: at.offset,
         }),
-        Err(stop) => Err(refuse(stop, file)),
+        None => Err(refused(FaultName::FileAbsent, &source, START)),
     }
 }
 
-/// Room for the bytes of one read. `Err` is want of memory.
-fn new_buffer(alloc: Global) -> Result<Vec<u8>, AllocError>
-    ensures { IfOk result (λ buffer. 0 < vec_len buffer) }
+/// The run of a job before its first command.
+fn first_run(alloc: Global, job: &CheckJob) -> Result<Run, AllocError>
+    ensures { IfOk result (λ r. Begins r (first_progress job.now)) }
 {
-    vec![in alloc; 0u8; PIECE]
+    let included = first_included(alloc, job)?;
+    let session = Session::new(alloc, job.closed)?;
+    Ok(Run { session, included })
 }
 
-/// The verdict of a file, by its number among the paths, that is not read to its end.
-fn refuse(stop: Stop, file: usize) -> Verdict
-    ensures { result ≡ stop_verdict stop file }
+/// The files of a job that count as included from the start.
+fn first_included(alloc: Global, job: &CheckJob) -> Result<Paths, AllocError>
+    ensures { IfOk result (λ paths. paths ≡ (first_progress job.now).included) }
 {
-    match stop {
-        Stop::Fault { name, at } => Verdict::Refused(Fault {
-            name,
-            place: Place {
-                file,
-                line: at.line,
-                offset: at.offset,
-            },
-        }),
-        Stop::ReadFault => Verdict::ReadFault,
-        Stop::Memory => Verdict::OutOfMemory,
+    let mut included = Paths::new(alloc)?;
+    if let Some(include) = &job.include {
+        add_folded(alloc, &mut included, include.as_bytes())?;
+    }
+    add_folded(alloc, &mut included, job.proof.as_bytes())?;
+    Ok(included)
+}
+
+/// The run of a load before its first command.
+fn first_load(alloc: Global, file: &Text) -> Result<Run, AllocError>
+    ensures { IfOk result (λ r. Begins r (load_progress file.now)) }
+{
+    let mut included = Paths::new(alloc)?;
+    add_folded(alloc, &mut included, file.as_bytes())?;
+    let session = Session::new(alloc, false)?;
+    Ok(Run { session, included })
+}
+
+/// Adds a file that the job names to those that were included, unless its path is none.
+fn add_folded(alloc: Global, included: &mut Paths, name: &[u8]) -> Result<(), AllocError>
+    ensures { OnOk result (included.new ≡ with_folded included.old (Some name.now)) }
+{
+    match fold_path(alloc, b"", name) {
+        Ok(path) => {
+            included.add(path.as_bytes())?;
+            Ok(())
+        }
+        Err(PathRefused::Bad) => Ok(()),
+        Err(PathRefused::Memory(e)) => Err(e),
     }
 }

@@ -5,9 +5,11 @@ ghost use Rattle.eo_sig.specs.Reading.{ConstBelow, MacroBelow, ProgramBelow, IsF
 ghost use Rattle.eo_shape.specs.Reading.{read_attribute as shape_of, read_program as program_of};
 ghost use Rattle.eo_term.specs.Tree.{Tree};
 ghost use Rattle.eo_term.specs.Growth.{tree_in};
+ghost use Rattle.eo_names.specs.Scopes.{read_setting};
 ghost use Rattle.eo_elab.specs.Declaring.{MayRepeat, MayBeMacro};
 ghost use Rattle.eo_elab.specs.Fitting.{macro_is_bound};
 ghost use Rattle.eo_elab.specs.Worlds.{context_in};
+ghost use Rattle.eo_run.specs.Numbered.{origin_of};
 ghost use Rattle.eo_run.specs.Held.{state_of, IsWhole};
 ghost use Rattle.eo_run.specs.Step as step;
 ghost use Rattle.eo_run.specs.Step.{declare_parameterized as declared_over, define_program, added_program, is_in_proof};
@@ -17,11 +19,12 @@ use crate::held::Held;
 use crate::{Origin, Refused};
 use eo_base::FaultName;
 use eo_elab::{
-    declared_const, declared_fun, declared_literals, declared_parameterized, declared_program,
-    declared_sort, defined, ordering_law,
+    Setting, declared_const, declared_fun, declared_literals, declared_parameterized,
+    declared_program, declared_sort, defined, defined_fun, defined_sort, ordering_law,
+    reference_law,
 };
 use eo_sexp::{Children, Sexp};
-use eo_shape::{AttributeShape, ParameterShapes, ProgramShape};
+use eo_shape::{AttributeShape, ParameterShapes, ProgramShape, Symbols};
 use eo_sig::{Attribute, ConstDecl, Entry, LiteralClass, MacroDecl, ProgramDecl};
 use eo_term::Id;
 
@@ -30,19 +33,22 @@ impl Held {
     /// may be repeated without attribute, with an equal type.
     pub(crate) fn declare_const(
         &mut self,
+        setting: Setting,
         name: &[u8],
         ty: &Sexp<'_>,
         shape: &AttributeShape<'_>,
     ) -> Result<(), Refused>
         requires { IsWhole self.old }
         ensures whole { IsWhole self.new }
-        ensures does { Does result (step.declare_const (state_of self.old) name.now ty.now (shape_of shape.now)) self.new }
+        ensures does { Does result
+            (step.declare_const (state_of self.old) (read_setting setting) name.now ty.now (shape_of shape.now)) self.new }
     {
         let d = declared_const(
             self.alloc,
             name,
             ty,
             shape,
+            setting,
             &self.signature,
             &mut self.table,
         )?;
@@ -52,19 +58,21 @@ impl Held {
     /// Declares a constant of a function type, which may repeat one as `declare_const` says.
     pub(crate) fn declare_fun(
         &mut self,
+        setting: Setting,
         name: &[u8],
         inputs: &Children<'_>,
         output: &Sexp<'_>,
     ) -> Result<(), Refused>
         requires { IsWhole self.old }
         ensures whole { IsWhole self.new }
-        ensures does { Does result (step.declare_fun (state_of self.old) name.now inputs.now output.now) self.new }
+        ensures does { Does result (step.declare_fun (state_of self.old) (read_setting setting) name.now inputs.now output.now) self.new }
     {
         let d = declared_fun(
             self.alloc,
             name,
             inputs,
             output,
+            setting,
             &self.signature,
             &mut self.table,
         )?;
@@ -73,12 +81,24 @@ impl Held {
 
     /// Declares a constant that makes a type of so many types, which may repeat one as
     /// `declare_const` says.
-    pub(crate) fn declare_sort(&mut self, name: &[u8], arity: u8) -> Result<(), Refused>
+    pub(crate) fn declare_sort(
+        &mut self,
+        setting: Setting,
+        name: &[u8],
+        arity: u8,
+    ) -> Result<(), Refused>
         requires { IsWhole self.old }
         ensures whole { IsWhole self.new }
-        ensures does { Does result (step.declare_sort (state_of self.old) name.now arity) self.new }
+        ensures does { Does result (step.declare_sort (state_of self.old) (read_setting setting) name.now arity) self.new }
     {
-        let d = declared_sort(self.alloc, name, arity, &self.signature, &mut self.table)?;
+        let d = declared_sort(
+            self.alloc,
+            name,
+            arity,
+            setting,
+            &self.signature,
+            &mut self.table,
+        )?;
         self.add_valued(d)
     }
 
@@ -144,6 +164,56 @@ impl Held {
         self.add_macro(d)
     }
 
+    /// Defines a macro of the reference file, whose body has a type that says nothing. It may repeat
+    /// one as `define` says.
+    pub(crate) fn define_fun(
+        &mut self,
+        name: &[u8],
+        params: &ParameterShapes<'_>,
+        output: &Sexp<'_>,
+        body: &Sexp<'_>,
+    ) -> Result<(), Refused>
+        requires { IsWhole self.old }
+        ensures whole { IsWhole self.new }
+        ensures does { Does result (step.define_fun (state_of self.old) name.now params.now output.now body.now) self.new }
+    {
+        reference_law();
+        let d = defined_fun(
+            self.alloc,
+            name,
+            params,
+            output,
+            body,
+            &self.signature,
+            &mut self.table,
+        )?;
+        self.add_macro(d)
+    }
+
+    /// Defines a macro of the reference file, whose parameters stand for types. It may repeat one as
+    /// `define` says.
+    pub(crate) fn define_sort(
+        &mut self,
+        name: &[u8],
+        params: &Symbols<'_>,
+        ty: &Sexp<'_>,
+    ) -> Result<(), Refused>
+        requires { IsWhole self.old }
+        ensures whole { IsWhole self.new }
+        ensures does { Does result (step.define_sort (state_of self.old) name.now params.now ty.now) self.new }
+    {
+        reference_law();
+        let d = defined_sort(
+            self.alloc,
+            name,
+            params,
+            ty,
+            &self.signature,
+            &mut self.table,
+        )?;
+        self.add_macro(d)
+    }
+
     /// Defines a program. A closed proof may define none.
     pub(crate) fn define_program(
         &mut self,
@@ -152,7 +222,7 @@ impl Held {
     ) -> Result<(), Refused>
         requires { IsWhole self.old }
         ensures whole { IsWhole self.new }
-        ensures does { Does result (define_program (state_of self.old) from (program_of shape.now)) self.new }
+        ensures does { Does result (define_program (state_of self.old) (origin_of from) (program_of shape.now)) self.new }
     {
         if !self.may_declare(from) {
             return Err(Refused::Fault(FaultName::ProofDeclares));
@@ -162,7 +232,7 @@ impl Held {
 
     /// Whether rules and programs may be declared there.
     pub(crate) fn may_declare(&self, from: Origin) -> bool
-        ensures { result ≡ not ((state_of self.now).closed && is_in_proof from) }
+        ensures { result ≡ not ((state_of self.now).closed && is_in_proof (origin_of from)) }
     {
         !(self.closed && from.is_proof())
     }

@@ -5,11 +5,11 @@ ghost use Rattle.eo_eval.specs.Outcomes.{outcome_of, IsValueOf};
 ghost use Rattle.eo_rule.specs.Answers.{GivesTerm as GivesFound};
 ghost use Rattle.eo_term.specs.Growth.{tree_in};
 ghost use Rattle.eo_run.specs.Held.{state_of, IsWhole, Keeps};
-ghost use Rattle.eo_run.specs.Step.{evaluated, typed, type_value};
+ghost use Rattle.eo_run.specs.Step.{evaluated, typed, type_value, formula_of};
 ghost use Rattle.eo_run.specs.Stepping.{GivesKind, GivesTerm};
 
 use crate::Refused;
-use crate::held::{Held, TYPE_CONSTANT};
+use crate::held::{BOOL_CONSTANT, Held, TYPE_CONSTANT};
 use eo_base::FaultName;
 use eo_rule::{RuleRefused, value_of, value_type};
 use eo_term::Id;
@@ -39,6 +39,21 @@ impl Held {
         let value = self.evaluate(id)?;
         if !self.has_kind(value, TYPE_CONSTANT)? {
             return Err(Refused::Fault(FaultName::IllTyped));
+        }
+        Ok(value)
+    }
+
+    /// The value of a term, which is `NotBool` where the type of the value is not `Bool`.
+    pub(crate) fn formula_of(&mut self, id: Id) -> Result<Id, Refused>
+        requires whole { IsWhole self.old }
+        requires live { id < length self.old.table.trees }
+        ensures gives { GivesTerm self.new result (formula_of (state_of self.old) (tree_in self.old.table id)) }
+        ensures value { IfOk result (IsValueOf self.new.table) }
+        ensures keeps { Keeps self.old self.new }
+    {
+        let value = self.evaluate(id)?;
+        if !self.has_kind(value, BOOL_CONSTANT)? {
+            return Err(Refused::Fault(FaultName::NotBool));
         }
         Ok(value)
     }

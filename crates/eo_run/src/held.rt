@@ -1,27 +1,25 @@
 //! What a session holds between two commands.
-ghost use Rattle.std.specs.Prelude.{◌≡◌, ◌<◌, [], false, Ok, not, if◌then◌else◌, length, IfOk, IfErr};
-ghost use Rattle.eo_term.specs.Tree.{truth as tree_of_truth};
+ghost use Rattle.std.specs.Prelude.{◌≡◌, ◌<◌, [], false, Ok, not, length, IfOk};
 ghost use Rattle.eo_term.specs.Growth.{tree_in};
 ghost use Rattle.eo_elab.specs.Meaning.{meaning};
 ghost use Rattle.eo_eval.specs.Outcomes.{IsValueOf};
 ghost use Rattle.eo_proof.specs.Scopes as proof;
 ghost use Rattle.eo_run.specs.Held.{state_of, IsWhole, Keeps};
-ghost use Rattle.eo_run.specs.State.{context, is_asserted, is_in_scope, with_assertion, with_fact};
-ghost use Rattle.eo_run.specs.Step.{is_free_fact, value, formula, assume as assumed, assert as asserted, asserted_truth};
+ghost use Rattle.eo_run.specs.State.{context, is_asserted, is_in_scope, with_fact};
+ghost use Rattle.eo_run.specs.Step.{is_free_fact, value, formula, assume as assumed};
 ghost use Rattle.eo_run.specs.Stepping.{GivesTerm, Does};
 
 use crate::Refused;
-use crate::assertions::Assertions;
 use crate::marks::Marks;
 use eo_base::FaultName;
 use eo_elab::{Locals, term};
 use eo_eval::Evaluator;
 use eo_pattern::Subst;
 use eo_proof::Facts;
+use eo_ref::Reference;
 use eo_sexp::Sexp;
-use eo_shape::symbol;
 use eo_sig::{Signature, is_reserved};
-use eo_term::{FALSE, Id, TRUE, Table};
+use eo_term::{Id, Table};
 use eo_type::Types;
 use std::alloc::Global;
 
@@ -29,7 +27,7 @@ use std::alloc::Global;
 pub(crate) const TYPE_CONSTANT: usize = 0;
 
 /// The number of the constant `Bool`.
-const BOOL_CONSTANT: usize = 1;
+pub(crate) const BOOL_CONSTANT: usize = 1;
 
 /// What a session holds between two commands. All terms are those of the table.
 #[derive(Drop)]
@@ -43,7 +41,7 @@ pub(crate) struct Held {
     /// The assignment by which rules are used.
     pub(crate) subst: Subst,
     /// What the reference file asserts.
-    pub(crate) assertions: Assertions,
+    pub(crate) assertions: Reference,
     /// Whether there is a reference file.
     pub(crate) has_reference: bool,
     /// The facts, in scopes.
@@ -91,27 +89,6 @@ impl Held {
         Ok(())
     }
 
-    /// Adds a formula to those that are asserted.
-    pub(crate) fn assert(&mut self, formula: &Sexp<'_>) -> Result<(), Refused>
-        requires { IsWhole self.old }
-        ensures whole { IsWhole self.new }
-        ensures does { Does result (asserted (state_of self.old) formula.now) self.new }
-    {
-        let formula = truth(formula)?;
-        self.add_assertion(formula)
-    }
-
-    // The formula `true` or `false` is asserted.
-    fn add_assertion(&mut self, truth: bool) -> Result<(), Refused>
-        requires { IsWhole self.old }
-        ensures whole { IsWhole self.new }
-        ensures does { Does result (Ok (with_assertion (state_of self.old) (tree_of_truth truth))) self.new }
-    {
-        self.table.laws();
-        self.assertions.add(term_of(truth))?;
-        Ok(())
-    }
-
     /// Whether `false` is a fact outside all scopes.
     pub(crate) fn refutes(&self) -> bool
         requires { IsWhole self.now }
@@ -152,7 +129,7 @@ impl Held {
         ensures { result ≡ is_asserted (state_of self.now) (tree_in self.now.table formula) }
     {
         self.table.laws();
-        self.assertions.has(formula)
+        self.assertions.asserts(formula)
     }
 
     /// The value of a term, which is a formula.
@@ -162,11 +139,8 @@ impl Held {
         ensures value { IfOk result (IsValueOf self.new.table) }
         ensures keeps { Keeps self.old self.new }
     {
-        let value = self.value(s)?;
-        if !self.has_kind(value, BOOL_CONSTANT)? {
-            return Err(Refused::Fault(FaultName::NotBool));
-        }
-        Ok(value)
+        let id = self.meant(s)?;
+        self.formula_of(id)
     }
 
     /// The value of what a term means.
@@ -189,29 +163,5 @@ impl Held {
         let locals = Locals::new(self.alloc)?;
         let id = term(self.alloc, s, &locals, &self.signature, &mut self.table)?;
         Ok(id)
-    }
-}
-
-/// The term `true` or `false`.
-fn term_of(truth: bool) -> Id
-    ensures { result ≡ (if truth then 2 else 3) }
-{
-    if truth { TRUE } else { FALSE }
-}
-
-/// The formula that is the symbol `true` or `false`; anything else is an `UnknownSymbol`.
-fn truth(s: &Sexp<'_>) -> Result<bool, FaultName>
-    ensures exact { result ≡ asserted_truth s.now }
-    ensures unknown { IfErr result (λ name. name ≡ FaultName.UnknownSymbol) }
-{
-    let Some(word) = symbol(s) else {
-        return Err(FaultName::UnknownSymbol);
-    };
-    if word == b"true".as_slice() {
-        Ok(true)
-    } else if word == b"false".as_slice() {
-        Ok(false)
-    } else {
-        Err(FaultName::UnknownSymbol)
     }
 }

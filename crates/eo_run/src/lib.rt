@@ -1,11 +1,11 @@
 //! One check, from the files to the verdict and the line that is printed of it.
 //!
-//! A check has a reference file of assertions of `true` or `false`, and a proof that declares
-//! constants, macros, programs and rules, assumes terms, which are evaluated, and derives others by
-//! rules, in scopes.
+//! A check has a reference file, which is an SMT-LIB benchmark whose formulas are asserted, and a
+//! proof that declares constants, macros, programs and rules, assumes terms, which are evaluated, and derives others by
+//! rules, in scopes. A signature file may come first, and files may include others.
 #![tactic(auto)]
 
-mod assertions;
+mod asserting;
 mod beginning;
 mod checking;
 mod declaring;
@@ -13,6 +13,8 @@ mod evaluating;
 mod held;
 mod laws;
 mod marks;
+mod naming;
+mod opening;
 mod premises;
 mod printing;
 mod reading;
@@ -21,8 +23,10 @@ mod rules;
 mod scopes;
 mod session;
 mod steps;
+#[cfg(test)]
+mod tests;
 
-pub use checking::check_files;
+pub use checking::{check_files, load_files};
 use eo_base::{Fault, Text};
 pub use laws::soundness_law;
 pub use printing::{print_line, print_verdict};
@@ -42,13 +46,28 @@ pub struct CheckJob {
     pub closed: bool,
 }
 
-/// The file that a command stands in.
+/// The file that a command stands in, by its number in the table of paths.
 #[derive(Clone, Copy, Debug, PartialEq, Eq)]
 pub enum Origin {
-    /// The proof.
-    Proof,
-    /// The reference file.
-    Reference,
+    /// A signature, or a file that it includes.
+    Signature(usize),
+    /// The proof, or a file that it includes.
+    Proof(usize),
+    /// A reference file.
+    Reference(usize),
+}
+
+/// What is done behind a command, before the next one.
+#[derive(Debug, Drop)]
+pub enum Next {
+    /// Nothing.
+    Done,
+    /// The file with this path, seen from the file of the command, is included.
+    Include(Text),
+    /// The file with this path is the reference file.
+    Reference(Text),
+    /// The file ends.
+    Exit,
 }
 
 /// What a check or a load answers.

@@ -3,6 +3,7 @@ ghost use Rattle.std.specs.Prelude.{◌≡◌, length};
 ghost use Rattle.eo_shape.specs.Reading.{read_rule as shape_of};
 ghost use Rattle.eo_sig.specs.Reading.{read_rule, RuleBelow, IsFreeRule};
 ghost use Rattle.eo_sig.specs.Usable.{AreOrdered};
+ghost use Rattle.eo_run.specs.Numbered.{origin_of};
 ghost use Rattle.eo_run.specs.Held.{state_of, IsWhole};
 ghost use Rattle.eo_run.specs.Step.{declare_rule, added_rule, checked_rule};
 ghost use Rattle.eo_run.specs.Stepping.{Does};
@@ -23,7 +24,7 @@ impl Held {
     ) -> Result<(), Refused>
         requires { IsWhole self.old }
         ensures whole { IsWhole self.new }
-        ensures does { Does result (declare_rule (state_of self.old) from (shape_of shape.now)) self.new }
+        ensures does { Does result (declare_rule (state_of self.old) (origin_of from) (shape_of shape.now)) self.new }
     {
         if !self.may_declare(from) {
             return Err(Refused::Fault(FaultName::ProofDeclares));

@@ -3,38 +3,78 @@ ghost use Rattle.std.specs.Prelude.{◌≡◌, ◌≢◌, false, true, not, ◌|
 ghost use Rattle.eo_base.specs.declared.FaultName.TheVariants.{FileAbsent};
 ghost use Rattle.eo_run.specs.declared.refused.Refused.TheVariants.{Fault};
 ghost use Rattle.eo_run.specs.Held.{state_of, IsWhole};
+ghost use Rattle.eo_run.specs.Numbered.{origin_of, number_of};
 ghost use Rattle.eo_run.specs.State.{first_state, begin_reference, end_fault, is_in_scope};
-ghost use Rattle.eo_run.specs.Step.{is_in_proof, is_in_reference, by_command, scoped_command, uncounted, step};
-ghost use Rattle.eo_run.specs.Step as definition;
+ghost use Rattle.eo_names.specs.Scopes.{read_setting};
+ghost use Rattle.eo_run.specs.Step.{is_in_proof, is_in_reference, setting_of};
+ghost use Rattle.eo_run.specs.Commands.{by_command, scoped_command, placed_command, uncounted, step};
+ghost use Rattle.eo_run.specs.Commands as definition;
 ghost use Rattle.eo_shape.specs.Reading.{read_command};
-ghost use Rattle.eo_run.specs.Stepping.{Does, Steps, EndsWith};
+ghost use Rattle.eo_run.specs.Stepping.{Does, DoesNext, Steps, StepsTo, EndsWith};
 
 use crate::held::Held;
-use crate::{Origin, Refused};
+use crate::{Next, Origin, Refused};
 use eo_base::FaultName;
+use eo_elab::Setting;
 use eo_sexp::Sexp;
 use eo_shape::{Command, command_of};
 use std::alloc::{AllocError, Global};
 use std::marker::Model;
 
 impl Origin {
-    /// Whether it is a proof.
+    /// Whether it is the proof, or a file that it includes.
     pub(crate) fn is_proof(self) -> bool
-        ensures { result ≡ is_in_proof self }
+        ensures { result ≡ is_in_proof (origin_of self) }
     {
         match self {
-            Origin::Proof => true,
-            Origin::Reference => false,
+            Origin::Signature(_) => false,
+            Origin::Proof(_) => true,
+            Origin::Reference(_) => false,
         }
     }
 
     /// Whether it is a reference file.
     pub(crate) fn is_reference(self) -> bool
-        ensures { result ≡ is_in_reference self }
+        ensures { result ≡ is_in_reference (origin_of self) }
     {
         match self {
-            Origin::Proof => false,
-            Origin::Reference => true,
+            Origin::Signature(_) => false,
+            Origin::Proof(_) => false,
+            Origin::Reference(_) => true,
+        }
+    }
+
+    /// What may stand in it.
+    pub(crate) fn setting(self) -> Setting
+        ensures { read_setting result ≡ setting_of (origin_of self) }
+    {
+        match self {
+            Origin::Signature(_) => Setting::Proof,
+            Origin::Proof(_) => Setting::Proof,
+            Origin::Reference(_) => Setting::Reference,
+        }
+    }
+
+    /// The number of the file in the table of paths.
+    pub(crate) fn file(self) -> usize
+        ensures { result ≡ number_of self }
+    {
+        match self {
+            Origin::Signature(file) => file,
+            Origin::Proof(file) => file,
+            Origin::Reference(file) => file,
+        }
+    }
+
+    /// The same with the number of another file.
+    pub(crate) fn in_file(self, file: usize) -> Origin
+        ensures same { origin_of result ≡ origin_of self }
+        ensures file { number_of result ≡ file }
+    {
+        match self {
+            Origin::Signature(_) => Origin::Signature(file),
+            Origin::Proof(_) => Origin::Proof(file),
+            Origin::Reference(_) => Origin::Reference(file),
         }
     }
 }
@@ -132,7 +172,18 @@ impl Session {
     ///   stated; those of the arguments; a fault of the rule's use ([`eo_rule::conclude`]).
     /// - `step-pop`: `NoScope`: no scope is open; `Redeclared`: a fact outside the innermost scope
     ///   has the name, or it is reserved; then as of `step`.
-    /// - `assert`: `UnknownSymbol`: it is neither `true` nor `false`.
+    /// - `include`: `BadPath`: the path is not UTF-8.
+    /// - `reference`: `SecondReference`: there is a reference file; `BadPath`, as of `include`.
+    ///
+    /// In a reference file, whose commands are others (SMT-LIB 2.6, section 4.2 "Commands"):
+    ///
+    /// - `declare-const`, `declare-fun`, `declare-sort`: as above.
+    /// - `define-fun`: as of `define`; its type is read before its body.
+    /// - `define-sort`: as of `define`.
+    /// - `assert`: the term, where a name that a term gives itself and that may not be declared is
+    ///   `Redeclared`; its evaluation, whose value is what is asserted; `IllTyped`, `NumberRange`,
+    ///   `TermHeight`, `NotBool`, as of `assume`. Then the names are macros of the reference file.
+    /// - `exit`: nothing behind it is read. The other commands say nothing.
     ///
     /// The faults of a term are those that [`eo_elab::term`] answers. An evaluation has one fault,
     /// which says how it ends ([`eo_eval::Evaluator::evaluate`]):
@@ -143,18 +194,21 @@ impl Session {
     /// - `NumberRange`: a number is out of range.
     /// - `TermHeight`: a term is too tall.
     ///
+    /// It answers what is done before the next command: a file that the command names is opened, or
+    /// the file of the command ends, which is no part of this call.
+    ///
     /// `Ended`: an earlier call was refused. `Memory`: want of memory.
-    pub fn command(&mut self, s: &Sexp<'_>, from: Origin) -> Result<(), Refused>
-        ensures steps { Steps result (step self.old.state from s.now) self.old self.new }
+    pub fn command(&mut self, s: &Sexp<'_>, from: Origin) -> Result<Next, Refused>
+        ensures steps { StepsTo result (step self.old.state (origin_of from) s.now) self.old self.new }
         ensures present { result ≢ Err (Fault FileAbsent) }
     {
         if self.ended {
             return Err(Refused::Ended);
         }
         match run_command(&mut self.held, s, from) {
-            Ok(()) => {
+            Ok(next) => {
                 self.held.commands = self.held.commands.saturating_add(1);
-                Ok(())
+                Ok(next)
             }
             Err(e) => {
                 self.ended = true;
@@ -194,20 +248,30 @@ impl Session {
 }
 
 // Checks a command, and does what it says.
-fn run_command(held: &mut Held, s: &Sexp<'_>, from: Origin) -> Result<(), Refused>
+fn run_command(held: &mut Held, s: &Sexp<'_>, from: Origin) -> Result<Next, Refused>
     requires { IsWhole held.old }
     ensures whole { IsWhole held.new }
-    ensures does { Does result (uncounted (state_of held.old) from s.now) held.new }
+    ensures does { DoesNext result (uncounted (state_of held.old) (origin_of from) s.now) held.new }
 {
     let command = command_of(s, from.is_reference())?;
-    run_scoped(held, &command, from)
+    run_placed(held, &command, from)
+}
+
+// Does what a command says, and answers what is done next.
+fn run_placed(held: &mut Held, command: &Command<'_>, from: Origin) -> Result<Next, Refused>
+    requires { IsWhole held.old }
+    ensures whole { IsWhole held.new }
+    ensures does { DoesNext result (placed_command (state_of held.old) (origin_of from) (read_command command.now)) held.new }
+{
+    run_scoped(held, command, from)?;
+    held.next_by(command)
 }
 
 // Does what a command says, where it may stand.
 fn run_scoped(held: &mut Held, command: &Command<'_>, from: Origin) -> Result<(), Refused>
     requires { IsWhole held.old }
     ensures whole { IsWhole held.new }
-    ensures does { Does result (scoped_command (state_of held.old) from (read_command command.now)) held.new }
+    ensures does { Does result (scoped_command (state_of held.old) (origin_of from) (read_command command.now)) held.new }
 {
     if !may_stand(held, command) {
         return Err(Refused::Fault(FaultName::InScope));
@@ -239,20 +303,20 @@ fn may_be_in_scope(command: &Command<'_>) -> bool
 fn run_shape(held: &mut Held, command: &Command<'_>, from: Origin) -> Result<(), Refused>
     requires { IsWhole held.old }
     ensures whole { IsWhole held.new }
-    ensures does { Does result (by_command (state_of held.old) from (read_command command.now)) held.new }
+    ensures does { Does result (by_command (state_of held.old) (origin_of from) (read_command command.now)) held.new }
 {
     match command {
         Command::DeclareConst {
             name,
             ty,
             attribute,
-        } => held.declare_const(name, ty, attribute),
+        } => held.declare_const(from.setting(), name, ty, attribute),
         Command::DeclareFun {
             name,
             inputs,
             output,
-        } => held.declare_fun(name, inputs, output),
-        Command::DeclareSort { name, arity } => held.declare_sort(name, *arity),
+        } => held.declare_fun(from.setting(), name, inputs, output),
+        Command::DeclareSort { name, arity } => held.declare_sort(from.setting(), name, *arity),
         Command::DeclareParameterized {
             name,
             params,
@@ -267,6 +331,17 @@ fn run_shape(held: &mut Held, command: &Command<'_>, from: Origin) -> Result<(),
         Command::AssumePush { name, formula } => held.assume_push(name, formula),
         Command::Step(shape) => held.step(shape),
         Command::StepPop(shape) => held.step_pop(shape),
+        Command::Include { .. } => Ok(()),
+        Command::Refer { .. } => Ok(()),
+        Command::DefineFun {
+            name,
+            params,
+            output,
+            body,
+        } => held.define_fun(name, params, output, body),
+        Command::DefineSort { name, params, ty } => held.define_sort(name, params, ty),
         Command::Assert { formula } => held.assert(formula),
+        Command::Exit => Ok(()),
+        Command::Skip => Ok(()),
     }
 }

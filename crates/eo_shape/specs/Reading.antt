@@ -16,7 +16,7 @@ use Rattle.eo_shape.specs.declared.Command as code_command
 use Rattle.eo_shape.specs.declared.Command.TheVariants as command
 use Rattle.eo_shape.specs.declared.ShapeRefused.{ShapeRefused}
 use Rattle.eo_shape.specs.declared.ShapeRefused.TheVariants as refused
-use Rattle.eo_shape.specs.Shapes.{ParameterShape, AttributeShape, NoAttribute, RightNilShape, LeftNilShape, RightShape, LeftShape, ChainShape, PairsShape, BinderShape, CaseShape, ProgramShape, PremisesShape, EachShape, JoinedShape, RuleShape, StepShape, Command, DeclareConst, DeclareFun, DeclareSort, DeclareParameterized, DeclareLiterals, Define, DefineProgram, DeclareRule, Assume, AssumePush, Step, StepPop, Assert}
+use Rattle.eo_shape.specs.Shapes.{ParameterShape, AttributeShape, NoAttribute, RightNilShape, LeftNilShape, RightShape, LeftShape, ChainShape, PairsShape, BinderShape, CaseShape, ProgramShape, PremisesShape, EachShape, JoinedShape, RuleShape, StepShape, Command, DeclareConst, DeclareFun, DeclareSort, DeclareParameterized, DeclareLiterals, Define, DefineProgram, DeclareRule, Assume, AssumePush, Step, StepPop, Include, Refer, DefineFun, DefineSort, Assert, Exit, Skip}
 
 abbrev pub read_parameter : code_parameter.ParameterShape → ParameterShape
 read_parameter p = record { name = p.name.now; type = p.ty; implicit = p.implicit; list = p.list }
@@ -72,7 +72,13 @@ read_command (command.Assume name formula) = Assume name.now formula
 read_command (command.AssumePush name formula) = AssumePush name.now formula
 read_command (command.Step s) = Step (read_step s)
 read_command (command.StepPop s) = StepPop (read_step s)
+read_command (command.Include path) = Include path.now
+read_command (command.Refer path) = Refer path.now
+read_command (command.DefineFun name params output body) = DefineFun name.now params output body
+read_command (command.DefineSort name params ty) = DefineSort name.now params ty
 read_command (command.Assert formula) = Assert formula
+read_command command.Exit = Exit
+read_command command.Skip = Skip
 
 abbrev pub fault_of : ShapeRefused → FaultName
 fault_of refused.UnknownCommand = fault.UnknownCommand

@@ -1,12 +1,13 @@
 -- The shape of each command. A command is a list that begins with a symbol, the word of the command.
-use Rattle.std.specs.Prelude.{ℕ, Bool, true, false, not, ◌&&◌, nat_le, if◌then◌else◌, List, [], ◌∷◌, Option, Some, None, option_map, option_and_then, bytes_eq, codes, Err}
+use Rattle.std.specs.Prelude.{ℕ, Bool, true, false, not, ◌&&◌, nat_le, if◌then◌else◌, List, [], ◌∷◌, map, Option, Some, None, option_map, option_and_then, bytes_eq, codes, Err}
+use Rattle.std.specs.List.{list_all}
 use Rattle.eo_base.specs.declared.FaultName.TheVariants.{UnknownCommand, BadCommand}
 use Rattle.eo_base.specs.Checks.{Checked, ◌>>=◌, value_or}
 use Rattle.eo_sexp.specs.AtomKind as kind
 use Rattle.eo_sexp.specs.Sexp.{Sexp, Atom, Listed, Next, children_of}
 use Rattle.eo_lit.specs.declared.LiteralClass.{LiteralClass}
 use Rattle.eo_lit.specs.declared.LiteralClass.TheVariants.{Numeral, Binary, String}
-use Rattle.eo_shape.specs.Words.{symbol_of, keyword_of, numeral_of, is_some_word}
+use Rattle.eo_shape.specs.Words.{symbol_of, keyword_of, numeral_of, string_of, is_some_word}
 
 -- ---- parts
 
@@ -75,8 +76,15 @@ pub data Command : Type 0 where
   AssumePush : (name : List ℕ) (formula : Sexp) → Command
   Step : (step : StepShape) → Command
   StepPop : (step : StepShape) → Command
+  -- a file by its path, as it is written between the quotes
+  Include : (path : List ℕ) → Command
+  Refer : (path : List ℕ) → Command
   -- in reference files alone
+  DefineFun : (name : List ℕ) (parameters : List ParameterShape) (output body : Sexp) → Command
+  DefineSort : (name : List ℕ) (parameters : List (List ℕ)) (type : Sexp) → Command
   Assert : (formula : Sexp) → Command
+  Exit : Command
+  Skip : Command
 
 -- ---- lists of parts
 
@@ -312,9 +320,46 @@ step_of [] = None
 abbrev pub step : (StepShape → Command) → List Sexp → Option Command
 step command parts = option_map command (step_of parts)
 
+abbrev pub one_string : (List ℕ → Command) → List Sexp → Option Command
+one_string command (s ∷ []) = option_map command (string_of s)
+one_string command ss = None
+
+-- ---- in reference files alone
+
+-- a constant without attribute
+abbrev pub declare_plain : List Sexp → Option Command
+declare_plain (s ∷ t ∷ []) = declare_const (s ∷ t ∷ [])
+declare_plain ss = None
+
+abbrev pub is_unmarked : ParameterShape → Bool
+is_unmarked p = not p.implicit && not p.list
+
+abbrev pub if_unmarked : List ParameterShape → Option (List ParameterShape)
+if_unmarked ps = if list_all is_unmarked ps then Some ps else None
+
+-- ((x T) ..)
+abbrev pub unmarked_of : Sexp → Option (List ParameterShape)
+unmarked_of s = option_and_then if_unmarked (parameters_of s)
+
+abbrev pub define_fun : List Sexp → Option Command
+define_fun (s ∷ ps ∷ output ∷ body ∷ []) = option_and_then (λ name. option_map (λ parameters. DefineFun name parameters output body) (unmarked_of ps)) (symbol_of s)
+define_fun ss = None
+
+abbrev pub define_sort : List Sexp → Option Command
+define_sort (s ∷ ps ∷ t ∷ []) = option_and_then (λ name. option_map (λ parameters. DefineSort name parameters t) (symbols_of ps)) (symbol_of s)
+define_sort ss = None
+
 abbrev pub assert : List Sexp → Option Command
 assert (t ∷ []) = Some (Assert t)
 assert ss = None
+
+abbrev pub exit : List Sexp → Option Command
+exit [] = Some Exit
+exit ss = None
+
+-- whatever it holds
+abbrev pub skip : List Sexp → Option Command
+skip ss = Some Skip
 
 -- ---- the words of commands
 
@@ -332,11 +377,25 @@ abbrev pub forms : List Form
 forms =
     (codes "declare-const", declare_const) ∷ (codes "declare-fun", declare_fun) ∷ (codes "declare-sort", declare_sort)
     ∷ (codes "declare-parameterized-const", declare_parameterized) ∷ (codes "declare-consts", declare_literals)
-    ∷ (codes "define", define) ∷ (codes "program", define_program) ∷ (codes "declare-rule", declare_rule) ∷ proving_forms
+    ∷ (codes "define", define) ∷ (codes "program", define_program) ∷ (codes "declare-rule", declare_rule)
+    ∷ (codes "include", one_string Include) ∷ (codes "reference", one_string Refer) ∷ proving_forms
+
+-- commands of reference files that say nothing here
+abbrev pub skipped : List (List ℕ)
+skipped =
+    codes "set-logic" ∷ codes "set-info" ∷ codes "set-option" ∷ codes "check-sat" ∷ codes "get-model" ∷ codes "get-proof"
+    ∷ codes "get-unsat-core" ∷ codes "get-info" ∷ codes "get-option" ∷ codes "get-value" ∷ codes "get-assertions"
+    ∷ codes "get-assignment" ∷ codes "echo" ∷ []
+
+abbrev pub skipping_forms : List (List ℕ) → List Form
+skipping_forms words = map (λ word. (word, skip)) words
 
 -- in reference files (SMT-LIB 2.6, section 4.2 "Commands")
 abbrev pub reference_forms : List Form
-reference_forms = (codes "assert", assert) ∷ []
+reference_forms =
+    (codes "declare-const", declare_plain) ∷ (codes "declare-fun", declare_fun) ∷ (codes "declare-sort", declare_sort)
+    ∷ (codes "define-fun", define_fun) ∷ (codes "define-sort", define_sort) ∷ (codes "assert", assert) ∷ (codes "exit", exit)
+    ∷ skipping_forms skipped
 
 abbrev pub form_of : List Form → List ℕ → Option (List Sexp → Option Command)
 form_of [] word = None

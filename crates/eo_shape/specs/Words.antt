@@ -16,6 +16,11 @@ abbrev pub numeral_of : Sexp → Option ℕ
 numeral_of (Atom kind.Literal text span) = numeral text
 numeral_of s = None
 
+-- between the quotes, as it is written
+abbrev pub string_of : Sexp → Option (List ℕ)
+string_of (Atom kind.String text span) = Some text
+string_of s = None
+
 -- whether an atom is this word
 abbrev pub is_some_word : List ℕ → Option (List ℕ) → Bool
 is_some_word word None = false

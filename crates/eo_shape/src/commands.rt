@@ -5,9 +5,10 @@ ghost use Rattle.eo_shape.specs.Shapes as shapes;
 
 use crate::attributes::attribute;
 use crate::cases::cases;
-use crate::parameters::parameters;
-use crate::words::{arity, class, is_keyword, symbol};
-use crate::{Command, ParameterShapes, ProgramShape};
+use crate::parameters::{parameters, unmarked_parameters};
+use crate::sequences::symbols_in;
+use crate::words::{arity, class, is_keyword, string, symbol};
+use crate::{AttributeShape, Command, ParameterShapes, ProgramShape};
 use eo_sexp::{Children, Sexp};
 
 pub(crate) fn declare_const<'b>(parts: &Children<'b>) -> Option<Command<'b>>
@@ -146,9 +147,72 @@ pub(crate) fn assume_push<'b>(parts: &Children<'b>) -> Option<Command<'b>>
     })
 }
 
+pub(crate) fn include<'b>(parts: &Children<'b>) -> Option<Command<'b>>
+    ensures { option_map read_command result ≡ shapes.one_string shapes.Include parts.now }
+{
+    let path = parts.only_one()?;
+    Some(Command::Include {
+        path: string(&path)?,
+    })
+}
+
+pub(crate) fn refer<'b>(parts: &Children<'b>) -> Option<Command<'b>>
+    ensures { option_map read_command result ≡ shapes.one_string shapes.Refer parts.now }
+{
+    let path = parts.only_one()?;
+    Some(Command::Refer {
+        path: string(&path)?,
+    })
+}
+
 pub(crate) fn assert<'b>(parts: &Children<'b>) -> Option<Command<'b>>
     ensures { option_map read_command result ≡ shapes.assert parts.now }
 {
     let formula = parts.only_one()?;
     Some(Command::Assert { formula })
+}
+
+/// A constant without attribute.
+pub(crate) fn declare_plain<'b>(parts: &Children<'b>) -> Option<Command<'b>>
+    ensures { option_map read_command result ≡ shapes.declare_plain parts.now }
+{
+    let (name, ty) = parts.only_two()?;
+    Some(Command::DeclareConst {
+        name: symbol(&name)?,
+        ty,
+        attribute: AttributeShape::None,
+    })
+}
+
+pub(crate) fn define_fun<'b>(parts: &Children<'b>) -> Option<Command<'b>>
+    ensures { option_map read_command result ≡ shapes.define_fun parts.now }
+{
+    let (name, params, output, rest) = parts.split_three()?;
+    let body = rest.only_one()?;
+    Some(Command::DefineFun {
+        name: symbol(&name)?,
+        params: unmarked_parameters(&params)?,
+        output,
+        body,
+    })
+}
+
+pub(crate) fn define_sort<'b>(parts: &Children<'b>) -> Option<Command<'b>>
+    ensures { option_map read_command result ≡ shapes.define_sort parts.now }
+{
+    let (name, params, ty) = parts.only_three()?;
+    Some(Command::DefineSort {
+        name: symbol(&name)?,
+        params: symbols_in(&params)?,
+        ty,
+    })
+}
+
+pub(crate) fn exit<'b>(parts: &Children<'b>) -> Option<Command<'b>>
+    ensures { option_map read_command result ≡ shapes.exit parts.now }
+{
+    if parts.len() != 0 {
+        return None;
+    }
+    Some(Command::Exit)
 }

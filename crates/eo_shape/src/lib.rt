@@ -195,10 +195,38 @@ pub enum Command<'a> {
     Step(StepShape<'a>),
     /// `(step-pop NAME [FORMULA] :rule RULE [:premises (NAME ..)] [:args (TERM ..)])`
     StepPop(StepShape<'a>),
+    /// `(include "PATH")`
+    Include {
+        /// The path, as it is written between the quotes.
+        path: &'a [u8],
+    },
+    /// `(reference "PATH")`
+    Refer {
+        /// The path, as it is written between the quotes.
+        path: &'a [u8],
+    },
+    /// `(define-fun NAME ((PARAMETER TYPE) ..) OUTPUT BODY)`, in a reference file alone.
+    DefineFun {
+        name: &'a [u8],
+        /// The parameters, none of which has a mark.
+        params: ParameterShapes<'a>,
+        output: Sexp<'a>,
+        body: Sexp<'a>,
+    },
+    /// `(define-sort NAME (PARAMETER ..) TYPE)`, in a reference file alone.
+    DefineSort {
+        name: &'a [u8],
+        params: Symbols<'a>,
+        ty: Sexp<'a>,
+    },
     /// `(assert FORMULA)`, in a reference file alone.
     Assert {
         formula: Sexp<'a>,
     },
+    /// `(exit)`, in a reference file alone.
+    Exit,
+    /// A command of a reference file that says nothing here, as `check-sat`.
+    Skip,
 }
 
 /// Why an s-expression is no command.

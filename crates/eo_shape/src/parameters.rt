@@ -3,7 +3,9 @@ ghost use Rattle.std.specs.Prelude.{◌≡◌, ◌<◌, List, ◌∷◌, Some, l
 ghost use Rattle.eo_sexp.specs.Sexp.{Sexp};
 ghost use Rattle.eo_shape.specs.Parameters.{shaped_parameter, AddsMark};
 ghost use Rattle.eo_shape.specs.Reading.{read_parameter};
+ghost use Rattle.std.specs.List.{list_all};
 ghost use Rattle.eo_shape.specs.Shapes.{every, parameter_of, parameters_of, with_marks};
+ghost use Rattle.eo_shape.specs.Shapes.{is_unmarked, unmarked_of};
 
 use crate::ParameterShape;
 use crate::words::{is_keyword, symbol};
@@ -75,6 +77,36 @@ pub(crate) fn parameters<'b>(s: &Sexp<'b>) -> Option<ParameterShapes<'b>>
         return None;
     }
     Some(ParameterShapes { items })
+}
+
+/// The parameters in this list, where each part has the shape of one, and none has a mark.
+pub(crate) fn unmarked_parameters<'b>(s: &Sexp<'b>) -> Option<ParameterShapes<'b>>
+    ensures { result ≡ unmarked_of s.now }
+{
+    let params = parameters(s)?;
+    if !are_unmarked(&params) {
+        return None;
+    }
+    Some(params)
+}
+
+/// Whether none has a mark.
+fn are_unmarked(params: &ParameterShapes<'_>) -> bool
+    ensures { result ≡ list_all is_unmarked params.now }
+{
+    for parameter in params.again() {
+        if !is_unmarked(&parameter) {
+            return false;
+        }
+    }
+    true
+}
+
+/// Whether it has no mark.
+fn is_unmarked(parameter: &ParameterShape<'_>) -> bool
+    ensures { result ≡ is_unmarked (read_parameter parameter.now) }
+{
+    !parameter.implicit & !parameter.list
 }
 
 /// Whether each has the shape of a parameter.

@@ -1,18 +1,37 @@
 //! The command that an s-expression is.
-ghost use Rattle.std.specs.Prelude.{◌≡◌, Ok, Err, IfOk, IfErr, option_map, if◌then◌else◌};
+ghost use Rattle.std.specs.Prelude.{◌≡◌, Ok, Err, IfOk, IfErr, bytes_eq, option_map, if◌then◌else◌};
+ghost use Rattle.std.specs.List.{list_any};
 ghost use Rattle.eo_shape.specs.Forms.{shape_by};
 ghost use Rattle.eo_shape.specs.Reading.{read_command, fault_of};
-ghost use Rattle.eo_shape.specs.Shapes.{command_of, form_of, forms, proving_forms, reference_forms};
+ghost use Rattle.eo_shape.specs.Shapes.{command_of, form_of, forms, proving_forms, reference_forms, skipped, skipping_forms};
 
 use crate::commands::{
     assert, assume, assume_push, declare_const, declare_fun, declare_literals,
-    declare_parameterized, declare_sort, define, program,
+    declare_parameterized, declare_plain, declare_sort, define, define_fun, define_sort, exit,
+    include, program, refer,
 };
 use crate::rules::declare_rule;
 use crate::steps::{step, step_pop};
 use crate::words::symbol;
 use crate::{Command, ShapeRefused};
 use eo_sexp::{Children, Sexp};
+
+/// The commands of reference files that say nothing here.
+const SKIPPED: [&[u8]; 13] = [
+    b"set-logic",
+    b"set-info",
+    b"set-option",
+    b"check-sat",
+    b"get-model",
+    b"get-proof",
+    b"get-unsat-core",
+    b"get-info",
+    b"get-option",
+    b"get-value",
+    b"get-assertions",
+    b"get-assignment",
+    b"echo",
+];
 
 /// The commands, by their words.
 #[derive(Clone, Copy)]
@@ -29,7 +48,14 @@ pub(crate) enum Form {
     AssumePush,
     Step,
     StepPop,
+    Include,
+    Refer,
+    DeclarePlain,
+    DefineFun,
+    DefineSort,
     Assert,
+    Exit,
+    Skip,
 }
 
 /// The command that the s-expression is, in a reference file, or else in a signature or a proof
@@ -72,10 +98,45 @@ fn form_named(word: &[u8], in_reference: bool) -> Option<Form>
 fn reference_form(word: &[u8]) -> Option<Form>
     ensures { option_map shape_by result ≡ form_of reference_forms word.now }
 {
+    if word == b"declare-const".as_slice() {
+        return Some(Form::DeclarePlain);
+    }
+    if word == b"declare-fun".as_slice() {
+        return Some(Form::DeclareFun);
+    }
+    if word == b"declare-sort".as_slice() {
+        return Some(Form::DeclareSort);
+    }
+    if word == b"define-fun".as_slice() {
+        return Some(Form::DefineFun);
+    }
+    if word == b"define-sort".as_slice() {
+        return Some(Form::DefineSort);
+    }
     if word == b"assert".as_slice() {
         return Some(Form::Assert);
     }
+    if word == b"exit".as_slice() {
+        return Some(Form::Exit);
+    }
+    skipping_form(word)
+}
+
+/// The command of this word, where it says nothing here.
+fn skipping_form(word: &[u8]) -> Option<Form>
+    ensures { option_map shape_by result ≡ form_of (skipping_forms skipped) word.now }
+{
+    if is_one_of(&SKIPPED, word) {
+        return Some(Form::Skip);
+    }
     None
+}
+
+/// Whether the word is one of these.
+fn is_one_of(words: &[&[u8]], word: &[u8]) -> bool
+    ensures { result ≡ list_any (λ w. bytes_eq w.now word.now) words.now }
+{
+    words.iter().any(|w| *w == word)
 }
 
 /// The command of this word in a signature or a proof.
@@ -105,6 +166,12 @@ fn proof_form(word: &[u8]) -> Option<Form>
     }
     if word == b"declare-rule".as_slice() {
         return Some(Form::DeclareRule);
+    }
+    if word == b"include".as_slice() {
+        return Some(Form::Include);
+    }
+    if word == b"reference".as_slice() {
+        return Some(Form::Refer);
     }
     proving_form(word)
 }
@@ -145,6 +212,13 @@ fn shaped<'b>(form: Form, parts: &Children<'b>) -> Option<Command<'b>>
         Form::AssumePush => assume_push(parts),
         Form::Step => step(parts),
         Form::StepPop => step_pop(parts),
+        Form::Include => include(parts),
+        Form::Refer => refer(parts),
+        Form::DeclarePlain => declare_plain(parts),
+        Form::DefineFun => define_fun(parts),
+        Form::DefineSort => define_sort(parts),
         Form::Assert => assert(parts),
+        Form::Exit => exit(parts),
+        Form::Skip => Some(Command::Skip),
     }
 }

@@ -3,7 +3,8 @@ mod proofs;
 mod text;
 
 use crate::{
-    AttributeShape, CaseShapes, Command, ParameterShapes, ProgramShape, ShapeRefused, command_of,
+    AttributeShape, CaseShapes, Command, ParameterShapes, ProgramShape, ShapeRefused, Symbols,
+    command_of,
 };
 use eo_sexp::{Children, Sexp};
 use std::alloc::Global;
@@ -47,6 +48,13 @@ fn write_parameters(out: &mut String, params: &ParameterShapes<'_>) -> Result<()
         if p.list {
             out.push_str("list ")?;
         }
+    }
+    Ok(())
+}
+
+fn write_names(out: &mut String, names: &Symbols<'_>) -> Result<(), Fail> {
+    for name in names.again() {
+        write_bytes(out, name)?;
     }
     Ok(())
 }
@@ -136,7 +144,33 @@ fn write_command(out: &mut String, command: Command<'_>) -> Result<(), Fail> {
             out.push_str("pop ")?;
             proofs::write_step(out, &step)
         }
+        Command::Include { path } => {
+            out.push_str("include ")?;
+            write_bytes(out, path)
+        }
+        Command::Refer { path } => {
+            out.push_str("reference ")?;
+            write_bytes(out, path)
+        }
+        Command::DefineFun {
+            name,
+            params,
+            output,
+            body,
+        } => {
+            write_bytes(out, name)?;
+            write_parameters(out, &params)?;
+            write_bytes(out, output.text())?;
+            write_bytes(out, body.text())
+        }
+        Command::DefineSort { name, params, ty } => {
+            write_bytes(out, name)?;
+            write_names(out, &params)?;
+            write_bytes(out, ty.text())
+        }
         Command::Assert { formula } => write_bytes(out, formula.text()),
+        Command::Exit => Ok(out.push_str("exit ")?),
+        Command::Skip => Ok(out.push_str("skip ")?),
     }
 }
 
@@ -216,7 +250,30 @@ fn right(alloc: Global) -> Result<Option<usize>, Fail> {
             ),
             ("(program p () :signature (A) B ())", false, "p A B "),
             ("(assume a f)", false, "a f "),
+            ("(include \"a.eo\")", false, "include a.eo "),
+            ("(reference \"a\"\"b\")", false, "reference a\"\"b "),
             ("(assert f)", true, "f "),
+            ("(declare-const c T)", true, "c T none "),
+            ("(declare-fun f (A B) C)", true, "f A B C "),
+            ("(declare-sort S 64)", true, "S 64 "),
+            ("(define-fun f ((x A) (y B)) C t)", true, "f x A y B C t "),
+            ("(define-fun |f g| () C t)", true, "f g C t "),
+            ("(define-sort S (A B) T)", true, "S A B T "),
+            ("(define-sort S () T)", true, "S T "),
+            ("(exit)", true, "exit "),
+            ("(set-logic QF_UF)", true, "skip "),
+            ("(set-info :status unsat)", true, "skip "),
+            ("(set-option)", true, "skip "),
+            ("(check-sat)", true, "skip "),
+            ("(get-model)", true, "skip "),
+            ("(get-proof)", true, "skip "),
+            ("(get-unsat-core)", true, "skip "),
+            ("(get-info :name)", true, "skip "),
+            ("(get-option)", true, "skip "),
+            ("(get-value (p q))", true, "skip "),
+            ("(get-assertions)", true, "skip "),
+            ("(get-assignment)", true, "skip "),
+            ("(echo \"a\")", true, "skip "),
         ],
     )
 }
@@ -232,6 +289,30 @@ fn wrong(alloc: Global) -> Result<Option<usize>, Fail> {
             ("(assume a f)", true, "unknown"),
             ("(assert f)", false, "unknown"),
             ("(assert)", true, "bad"),
+            ("(include a)", false, "bad"),
+            ("(include \"a\" \"b\")", false, "bad"),
+            ("(reference)", false, "bad"),
+            ("(include \"a\")", true, "unknown"),
+            ("(declare-const c T :left-assoc)", true, "bad"),
+            ("(declare-const c)", true, "bad"),
+            ("(declare-sort S)", true, "bad"),
+            ("(define-fun f ((x A :list)) C t)", true, "bad"),
+            ("(define-fun f ((x A :implicit)) C t)", true, "bad"),
+            ("(define-fun f ((x)) C t)", true, "bad"),
+            ("(define-fun f () C)", true, "bad"),
+            ("(define-fun f () C t u)", true, "bad"),
+            ("(define-sort S ((A B)) T)", true, "bad"),
+            ("(define-sort S A T)", true, "bad"),
+            ("(define-sort S () T T)", true, "bad"),
+            ("(exit 0)", true, "bad"),
+            ("(assert f g)", true, "bad"),
+            ("(push 1)", true, "unknown"),
+            ("(define-fun-rec f () C t)", true, "unknown"),
+            ("(check-sat-assuming ())", true, "unknown"),
+            ("(define m () x)", true, "unknown"),
+            ("(exit)", false, "unknown"),
+            ("(check-sat)", false, "unknown"),
+            ("(define-fun f () C t)", false, "unknown"),
             ("(assume a)", false, "bad"),
             ("(assume (a) f)", false, "bad"),
             ("(declare-const c)", false, "bad"),

@@ -3,7 +3,7 @@ ghost use Rattle.std.specs.Prelude.{◌≡◌, option_and_then, nat_le, if◌the
 ghost use Rattle.std.specs.Option.{option_copied};
 ghost use Rattle.eo_lit.specs.Literals.{numeral};
 ghost use Rattle.eo_shape.specs.Shapes.{arity_of, class_named, is_keyword};
-ghost use Rattle.eo_shape.specs.Words.{symbol_of, keyword_of, is_some_word};
+ghost use Rattle.eo_shape.specs.Words.{symbol_of, keyword_of, string_of, is_some_word};
 
 use eo_lit::{LiteralClass, read_numeral};
 use eo_sexp::{Kind, Sexp};
@@ -17,6 +17,16 @@ pub fn symbol<'b>(s: &Sexp<'b>) -> Option<&'b [u8]>
 {
     match s.kind() {
         Kind::Symbol => Some(s.text()),
+        _ => None,
+    }
+}
+
+/// The bytes of a string as they are written between the quotes; none of any other s-expression.
+pub(crate) fn string<'b>(s: &Sexp<'b>) -> Option<&'b [u8]>
+    ensures { option_copied result ≡ string_of s.now }
+{
+    match s.kind() {
+        Kind::String => Some(s.text()),
         _ => None,
     }
 }

@@ -1,6 +1,6 @@
 -- How a run ends, by the answer of its check.
 use Rattle.std.proofs.Common.{◌≡◌, ◌≢◌, ℕ, List, [], Option, None, Some, refl, sym, ◌∙◌, ap, subst, inl, inr}
-use Rattle.std.specs.Prelude.{IfSome, slice_get, unwrap_or}
+use Rattle.std.specs.Prelude.{slice_get, unwrap_or}
 use Rattle.eo_base.specs.Causes.{Rose}
 use Rattle.eo_base.specs.declared.Fault.{Fault}
 use Rattle.eo_base.specs.declared.Status.{Status}
@@ -9,12 +9,15 @@ use Rattle.eo_io.specs.Library.{Files}
 use Rattle.eo_run.specs.Verdict as verdict
 use Rattle.eo_run.specs.Printed.{Due, verdict_due, verdict_status, usage_due, read_fault_due, out_of_memory_due}
 use Rattle.eo_run.specs.Answer.{Denotes, Answers, AnswerHasCause, answer_due, refusal_of, WritesDue}
-use Rattle.eo_run.specs.Check as check
-use Rattle.ethos.specs.CheckWords.{FirstWords}
+use Rattle.eo_run.specs.Check.{verdict as check_verdict, load_verdict}
+use Rattle.eo_run.specs.Judging.{AnswersJob, AnswersLoad}
 use Rattle.eo_run.specs.declared.Verdict.{Verdict}
 use Rattle.eo_run.specs.declared.Verdict.TheVariants as answer
 use Rattle.ethos.specs.Ends.{Ends, EndHasCause}
-use Rattle.ethos.specs.FirstProgram.{first_due, EndsAs}
+use Rattle.ethos.specs.Program.{due, EndsAs}
+use Rattle.ethos.specs.declared.words.Request.{Request}
+use Rattle.ethos.specs.declared.words.Request.TheVariants.{Check, Load}
+use Rattle.eo_run.specs.declared.CheckJob.{CheckJob}
 
 -- the status of a verdict is none of a fault of the outside
 no_fault_status : (v : verdict.Verdict) → (verdict_status v ≢ status.ReadFault) × (verdict_status v ≢ status.OutOfMemory) × (verdict_status v ≢ status.Usage)
@@ -83,11 +86,17 @@ answer_ends paths (answer.Refused fault) v s w x (r, e, d) h = of_verdict s (ver
 answer_ends paths answer.ReadFault v s w x e h = read_fault_ends s (verdict_due v) w x h
 answer_ends paths answer.OutOfMemory v s w x e h = out_of_memory_ends s (verdict_due v) w x h
 
-pub told_ends : (told : Option Files) (words : FirstWords) (paths : List (List ℕ)) (a : Verdict) (s : Status) (w x : Option (List ℕ))
-    → IfSome told (λ files. Answers paths a (check.verdict files words.reference words.proof)) → WritesDue s (answer_due paths a) w x → EndsAs told s (Some words) w x
-unfolding first_due
-told_ends None words paths a s w x h writes = tt
-told_ends (Some files) words paths a s w x h writes = answer_ends paths a (check.verdict files words.reference words.proof) s w x h writes
+-- the line of the answer to a check, and to a load
+module _ (paths : List (List ℕ)) (a : Verdict) (s : Status) (w x : Option (List ℕ)) where
+  pub check_ends : (told : Option Files) (job : CheckJob) → AnswersJob told job paths a → WritesDue s (answer_due paths a) w x → EndsAs told s (Some (Check job)) w x
+  unfolding due
+  check_ends None job h writes = tt
+  check_ends (Some files) job h writes = answer_ends paths a (check_verdict files job) s w x h writes
+
+  pub load_ends : (told : Option Files) (file : List ℕ) → AnswersLoad told file paths a → WritesDue s (answer_due paths a) w x → EndsAs told s (Some (Load file)) w x
+  unfolding due
+  load_ends None file h writes = tt
+  load_ends (Some files) file h writes = answer_ends paths a (load_verdict files file) s w x h writes
 
 -- an answer other than a fault of reading has no such status
 read_fault_is : {F : Type 0} (told : Option F) (paths : List (List ℕ)) (a : Verdict) (before now : ℕ) → status.ReadFault ≡ (answer_due paths a).status → AnswerHasCause a told before now → Rose before now
@@ -129,17 +138,17 @@ no_usage paths a status.WriteFault w x h = λ e. cc
 no_usage paths a status.Usage w x h = λ _. no_usage_due paths a (sym h.0)
 
 -- there is no memory, whatever was read of the words
-pub memory_ends : (told : Option Files) (s : Status) (w x : Option (List ℕ)) (reading : Option FirstWords) → WritesDue s out_of_memory_due w x → EndsAs told s reading w x
+pub memory_ends : (told : Option Files) (s : Status) (w x : Option (List ℕ)) (reading : Option Request) → WritesDue s out_of_memory_due w x → EndsAs told s reading w x
 memory_ends None s w x reading h = tt
-memory_ends (Some files) s w x reading h = out_of_memory_ends s (first_due files reading) w x h
+memory_ends (Some files) s w x reading h = out_of_memory_ends s (due files reading) w x h
 
 -- the words have this reading
-pub reading_ends : (told : Option Files) (s : Status) (w x : Option (List ℕ)) (reading other : Option FirstWords) → reading ≡ other
+pub reading_ends : (told : Option Files) (s : Status) (w x : Option (List ℕ)) (reading other : Option Request) → reading ≡ other
     → EndsAs told s reading w x → EndsAs told s other w x
-reading_ends told s w x reading other e h = subst (λ (o : Option FirstWords). EndsAs told s o w x) e h
+reading_ends told s w x reading other e h = subst (λ (o : Option Request). EndsAs told s o w x) e h
 
 -- the words have no reading
 pub no_reading_ends : (told : Option Files) (s : Status) (w x : Option (List ℕ)) → Ends s usage_due w x → EndsAs told s None w x
-unfolding first_due
+unfolding due
 no_reading_ends None s w x h = tt
 no_reading_ends (Some files) s w x h = h

@@ -1,5 +1,7 @@
-mod WordLemmas
-mod EndLemmas
 mod AbsentLemmas
-mod WordVectors
+mod EndLemmas
+mod InRange
+mod Readings
 mod Refuting
+mod Taken
+mod WordVectors

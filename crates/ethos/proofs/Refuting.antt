@@ -6,14 +6,16 @@ use Rattle.eo_base.specs.declared.Status.{Status}
 use Rattle.eo_base.specs.declared.Status.TheVariants as status
 use Rattle.eo_io.specs.Library.{Files}
 use Rattle.eo_run.specs.Check.{checked, ended, verdict}
-use Rattle.eo_run.specs.Printed.{verdict_status}
-use Rattle.eo_run.specs.Refutation.{Refutes}
+use Rattle.eo_run.specs.Printed.{verdict_due, verdict_status}
+use Rattle.eo_run.specs.Refutation.{Refutes, ClosedKeepsRules}
 use Rattle.eo_run.specs.Run.{Ran, run_check}
 use Rattle.eo_run.specs.State.{end_fault}
 use Rattle.eo_run.specs.Verdict.{Correct}
-use Rattle.ethos.specs.CheckWords.{FirstWords}
 use Rattle.ethos.specs.Ends.{Ends}
-use Rattle.ethos.specs.FirstProgram.{EndsAs, OkRefutes, first_due}
+use Rattle.ethos.specs.Program.{due, EndsAs, OkRefutes, ClosedKeeps}
+use Rattle.ethos.specs.declared.words.Request.{Request}
+use Rattle.ethos.specs.declared.words.Request.TheVariants.{Check}
+use Rattle.eo_run.specs.declared.CheckJob.{CheckJob}
 
 -- a check with the status of a correct one is correct: it is never said to be loaded
 module _ (files : Files) (proof : List ℕ) where
@@ -24,18 +26,21 @@ module _ (files : Files) (proof : List ℕ) where
 
   correct_checked : (ran : Ran) → verdict_status (checked files proof ran) ≡ status.Ok → checked files proof ran ≡ Correct
   correct_checked (Err refusal) e = absurd cc
-  correct_checked (Ok st) e = correct_ended st.sorry (end_fault st) e
+  correct_checked (Ok p) e = correct_ended p.state.sorry (end_fault p.state) e
 
-  ok_correct : (reference : List ℕ) → verdict_status (verdict files reference proof) ≡ status.Ok → verdict files reference proof ≡ Correct
-  unfolding verdict
-  ok_correct reference e = correct_checked (run_check files reference proof) e
+ok_correct : (files : Files) (job : CheckJob) → verdict_status (verdict files job) ≡ status.Ok → verdict files job ≡ Correct
+unfolding verdict
+ok_correct files job e = correct_checked files job.proof (run_check files job) e
 
-module _ (law : (files : Files) (reference proof : List ℕ) → verdict files reference proof ≡ Correct → Refutes files reference proof) where
-  told_refutes : (files : Files) (reading : Option FirstWords) (w x : Option (List ℕ)) → Ends status.Ok (first_due files reading) w x → (words : FirstWords) × (reading ≡ Some words) × Refutes files words.reference words.proof
-  unfolding first_due
-  told_refutes files None w x h = absurd cc
-  told_refutes files (Some words) w x h = (words, refl, law files words.reference words.proof (ok_correct files words.proof words.reference (sym h.0)))
+module _ (law : (files : Files) (job : CheckJob) → verdict files job ≡ Correct → Refutes files job) where
+  told_refutes : (files : Files) (s : Status) (job : CheckJob) (w x : Option (List ℕ)) → Ends s (due files (Some (Check job))) w x → s ≡ status.Ok → Refutes files job
+  unfolding due
+  told_refutes files s job w x h ok = law files job (ok_correct files job (sym (subst (λ (s : Status). Ends s (verdict_due (verdict files job)) w x) ok h).0))
 
-  pub ok_refutes : (told : Option Files) (s : Status) (reading : Option FirstWords) (w x : Option (List ℕ)) → EndsAs told s reading w x → OkRefutes told s reading
-  ok_refutes None s reading w x h e = tt
-  ok_refutes (Some files) s reading w x h e = told_refutes files reading w x (subst (λ (s : Status). Ends s (first_due files reading) w x) e h)
+  pub ok_refutes : (told : Option Files) (s : Status) (reading : Option Request) (w x : Option (List ℕ)) → EndsAs told s reading w x → OkRefutes told s reading
+  ok_refutes None s reading w x h = λ job is ok. tt
+  ok_refutes (Some files) s reading w x h = λ job is ok. told_refutes files s job w x (subst (λ (r : Option Request). Ends s (due files r) w x) is h) ok
+
+pub closed_keeps : ((files : Files) (job : CheckJob) → ClosedKeepsRules files job) → (told : Option Files) (reading : Option Request) → ClosedKeeps told reading
+closed_keeps law None reading = λ job is. tt
+closed_keeps law (Some files) reading = λ job is. law files job

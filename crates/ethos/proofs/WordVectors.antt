@@ -1,23 +1,99 @@
 -- Words of the command line with their readings.
-use Rattle.std.proofs.Common.{◌≡◌, refl, ℕ, List, [], ◌∷◌, Some, None}
+use Rattle.std.proofs.Common.{◌≡◌, refl, true, false, List, [], ◌∷◌, Option, Some, None}
 use Rattle.std.specs.Prelude.{codes}
-use Rattle.ethos.specs.CheckWords.{first_words}
+use Rattle.clap.proofs.OnLiterals.{clap_on_literals}
+use Rattle.clap.specs.Words.{Text}
+use Rattle.ethos.specs.CommandLine.{request}
+use Rattle.ethos.specs.declared.words.Request.{Request}
+use Rattle.ethos.specs.declared.words.Request.TheVariants.{Check, Load}
 
--- `ethos check` and two more words
-abbrev words : List ℕ → List ℕ → List (List ℕ)
-words option proof = codes "ethos" ∷ codes "check" ∷ option ∷ proof ∷ []
+-- the words behind the program's name are read so
+abbrev Reads : List Text → Option Request → Type 0
+Reads words reading = request (codes "ethos" ∷ words) ≡ reading
 
-first : first_words (words (codes "--reference=r.smt2") (codes "p.eo")) ≡ Some (record { reference = codes "r.smt2"; proof = codes "p.eo" })
-first = refl
+-- the check of this proof alone
+abbrev plain : Text → Option Request
+plain proof = Some (Check (record { include = None; reference = None; proof = proof; closed = false }))
 
-rooted : first_words (words (codes "--reference=/a/r") (codes "b/p")) ≡ Some (record { reference = codes "/a/r"; proof = codes "b/p" })
-rooted = refl
+all_options : Reads (codes "check" ∷ codes "--include=c.eo" ∷ codes "--reference=r.smt2" ∷ codes "--closed" ∷ codes "p.eo" ∷ [])
+    (Some (Check (record { include = Some (codes "c.eo"); reference = Some (codes "r.smt2"); proof = codes "p.eo"; closed = true })))
+unfolding clap_on_literals request
+all_options = refl
 
-no_path : first_words (words (codes "--reference=") (codes "p.eo")) ≡ None
-no_path = refl
+any_order : Reads (codes "check" ∷ codes "p.eo" ∷ codes "--reference" ∷ codes "r.smt2" ∷ [])
+    (Some (Check (record { include = None; reference = Some (codes "r.smt2"); proof = codes "p.eo"; closed = false })))
+unfolding clap_on_literals request
+any_order = refl
 
-up : first_words (words (codes "--reference=r") (codes "../p.eo")) ≡ None
-up = refl
+alone : Reads (codes "check" ∷ codes "p.eo" ∷ []) (plain (codes "p.eo"))
+unfolding clap_on_literals request
+alone = refl
 
-flag : first_words (words (codes "--reference=r") (codes "-p.eo")) ≡ None
-flag = refl
+behind_dashes : Reads (codes "check" ∷ codes "--" ∷ codes "-p.eo" ∷ []) (plain (codes "-p.eo"))
+unfolding clap_on_literals request
+behind_dashes = refl
+
+empty_word : Reads (codes "check" ∷ codes "" ∷ []) (plain (codes ""))
+unfolding clap_on_literals request
+empty_word = refl
+
+empty_value : Reads (codes "check" ∷ codes "--include=" ∷ codes "p.eo" ∷ [])
+    (Some (Check (record { include = Some (codes ""); reference = None; proof = codes "p.eo"; closed = false })))
+unfolding clap_on_literals request
+empty_value = refl
+
+an_option_for_a_value : Reads (codes "check" ∷ codes "--include" ∷ codes "--closed" ∷ codes "p.eo" ∷ []) None
+unfolding clap_on_literals request
+an_option_for_a_value = refl
+
+flag_twice : Reads (codes "check" ∷ codes "--closed" ∷ codes "p.eo" ∷ codes "--closed" ∷ []) None
+unfolding clap_on_literals request
+flag_twice = refl
+
+option_twice : Reads (codes "check" ∷ codes "--reference=a" ∷ codes "--reference=a" ∷ codes "p.eo" ∷ []) None
+unfolding clap_on_literals request
+option_twice = refl
+
+flag_with_a_value : Reads (codes "check" ∷ codes "--closed=true" ∷ codes "p.eo" ∷ []) None
+unfolding clap_on_literals request
+flag_with_a_value = refl
+
+unknown_option : Reads (codes "check" ∷ codes "--open" ∷ codes "p.eo" ∷ []) None
+unfolding clap_on_literals request
+unknown_option = refl
+
+two_proofs : Reads (codes "check" ∷ codes "p.eo" ∷ codes "q.eo" ∷ []) None
+unfolding clap_on_literals request
+two_proofs = refl
+
+no_proof : Reads (codes "check" ∷ []) None
+unfolding clap_on_literals request
+no_proof = refl
+
+no_command : Reads [] None
+unfolding clap_on_literals request
+no_command = refl
+
+no_words : request [] ≡ None
+unfolding clap_on_literals request
+no_words = refl
+
+help : Reads (codes "check" ∷ codes "--help" ∷ codes "p.eo" ∷ []) None
+unfolding clap_on_literals request
+help = refl
+
+help_command : Reads (codes "help" ∷ []) None
+unfolding clap_on_literals request
+help_command = refl
+
+load : Reads (codes "load" ∷ codes "a.eo" ∷ []) (Some (Load (codes "a.eo")))
+unfolding clap_on_literals request
+load = refl
+
+load_of_two : Reads (codes "load" ∷ codes "a.eo" ∷ codes "b.eo" ∷ []) None
+unfolding clap_on_literals request
+load_of_two = refl
+
+bench : Reads (codes "bench" ∷ codes "1" ∷ []) None
+unfolding clap_on_literals request
+bench = refl

@@ -1,4 +1,4 @@
-pub mod CheckWords
+pub mod CommandLine
 pub mod Ends
-pub mod FirstProgram
+pub mod Program
 pub mod Words

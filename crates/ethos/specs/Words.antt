@@ -1,7 +1,8 @@
--- How the code reads the words.
-use Rattle.ethos.specs.CheckWords as first
-use Rattle.ethos.specs.declared.words.FilePaths.{FilePaths}
+-- How the code has what `clap` finds.
+use Rattle.std.specs.Prelude.{List}
+use Rattle.clap.specs.Words.{Row, found_of, rows_of}
+use Rattle.clap.specs.declared.parser.matches.ArgMatches.{ArgMatches}
 
--- the paths that the words name
-abbrev pub paths_of : FilePaths → first.FirstWords
-paths_of paths = record { reference = paths.reference.now; proof = paths.proof.now }
+-- what was found for the arguments of a command
+abbrev pub rows_in : ArgMatches → List Row
+rows_in matches = rows_of (found_of matches)

@@ -1,4 +1,4 @@
-//! The program `ethos`: it checks a proof against a reference file.
+//! The program `ethos`: it checks proofs against reference files, and loads signatures.
 #![tactic(auto)]
 
 mod program;

@@ -1,19 +1,18 @@
 //! A run of the program.
-ghost use Rattle.std.specs.Prelude.{◌≡◌, ◌≢◌, [], None, Some, IfOk};
-ghost use Rattle.eo_run.specs.Judging.{IsPlainJob};
+ghost use Rattle.std.specs.Prelude.{◌≡◌, ◌≢◌, [], None, Some};
 ghost use Rattle.eo_run.specs.Printed.{usage_due};
-ghost use Rattle.ethos.specs.CheckWords.{first_words as read};
+ghost use Rattle.ethos.specs.CommandLine.{request};
 ghost use Rattle.ethos.specs.Ends.{Ends, EndHasCause, UsageFits, AbsentHasCause};
-ghost use Rattle.ethos.specs.FirstProgram.{EndsAs, OkRefutes, words_of};
-ghost use Rattle.ethos.specs.Words.{paths_of};
+ghost use Rattle.ethos.specs.Program.{EndsAs, OkRefutes, ClosedKeeps};
 
-use crate::words::{FilePaths, read_words};
+use crate::words::{Request, read_words};
 use eo_base::{Status, Text};
 use eo_io::{HonestLibrary, Library, Paths, Sink};
-use eo_run::{CheckJob, check_files, print_line, print_verdict, soundness_law};
+use eo_run::{CheckJob, check_files, load_files, print_line, print_verdict, soundness_law};
 use std::alloc::{AllocError, Global};
 
-/// The line for words that have no reading.
+/// The line for words that have no reading. It names a command that is not built yet and has no
+/// reading so far, `bench`.
 const USAGE: &[u8] =
     b"usage: ethos check [--include=F] [--reference=F] [--closed] PROOF | ethos load FILE | ethos bench N\n";
 
@@ -23,11 +22,12 @@ const OUT_OF_MEMORY: &[u8] = b"out of memory\n";
 /// Runs the program on the words of its command line, the first of which is the program's name and
 /// is ignored, over a library of files and a sink for what it writes.
 ///
-/// The words are `ethos check --reference=F PROOF`, as `read_words` says. Then the two files are
-/// checked, and the line of the verdict is written.
+/// The words are read as `read_words` says: `check [--include=F] [--reference=F] [--closed] PROOF`
+/// checks a proof, `load FILE` runs a signature file. Then the line of the verdict is written.
 ///
-/// - `Ok`, `Refused`: exactly as the verdict of the two files. With `Ok`, where `correct` is written,
-///   `false` is derivable from what the reference file asserts, by the rules of the proof's signature.
+/// - `Ok`, `Incomplete`, `Refused`: exactly as the verdict of the files. With `Ok` of a check, where
+///   `correct` is written, `false` is derivable from what the reference file asserts, by rules that
+///   are declared and not marked as unproved; with `--closed`, by none that the proof declares.
 /// - `Usage`: exactly where the words have no reading; the usage line is written.
 /// - `ReadFault`: only where the library's count of faults rose; `read fault` is written.
 /// - `WriteFault`: only where the sink's count of faults rose; a front of the line is written.
@@ -41,17 +41,20 @@ pub fn ethos_main<L: Library, W: Sink>(
     out: &mut W,
 ) -> Status
     requires { L.open_files files.old ≡ [] }
-    ensures exact { EndsAs (L.told files.old) result (read words.now) (W.written out.old) (W.written out.new) }
-    ensures refutes { OkRefutes (L.told files.old) result (read words.now) }
-    ensures own { read words.now ≡ None → Ends result usage_due (W.written out.old) (W.written out.new) }
+    ensures exact { EndsAs (L.told files.old) result (request words.now) (W.written out.old) (W.written out.new) }
+    ensures refutes { OkRefutes (L.told files.old) result (request words.now) }
+    ensures closed { ClosedKeeps (L.told files.old) (request words.now) }
+    ensures own { request words.now ≡ None → Ends result usage_due (W.written out.old) (W.written out.new) }
     ensures cause { EndHasCause result (L.faults files.old) (L.faults files.new) (W.faults out.old) (W.faults out.new) }
-    ensures usage { UsageFits result (read words.now) }
+    ensures usage { UsageFits result (request words.now) }
     ensures absent { AbsentHasCause (L.told files.old) (W.written out.old) (W.written out.new) (L.faults files.old) (L.faults files.new) }
 {
     soundness_law();
-    match read_words(words) {
-        None => print_line(out, Status::Usage, &[USAGE]),
-        Some(paths) => check(alloc, paths, files, out),
+    match read_words(alloc, words) {
+        Ok(Some(Request::Check(job))) => check(alloc, &job, files, out),
+        Ok(Some(Request::Load(file))) => load(alloc, &file, files, out),
+        Ok(None) => print_line(out, Status::Usage, &[USAGE]),
+        Err(AllocError) => print_line(out, Status::OutOfMemory, &[OUT_OF_MEMORY]),
     }
 }
 
@@ -64,63 +67,44 @@ pub fn run_in_memory<W: Sink>(
     out: &mut W,
 ) -> Status
     requires { ⟦<HonestLibrary as Library>⟧.open_files files.old ≡ [] }
-    ensures exact { EndsAs (⟦<HonestLibrary as Library>⟧.told files.old) result (read words.now) (W.written out.old) (W.written out.new) }
+    ensures exact { EndsAs (⟦<HonestLibrary as Library>⟧.told files.old) result (request words.now)
+        (W.written out.old) (W.written out.new) }
+    ensures refutes { OkRefutes (⟦<HonestLibrary as Library>⟧.told files.old) result (request words.now) }
     ensures no_read_fault { result ≢ Status.ReadFault }
 {
     ethos_main(alloc, words, files, out)
 }
 
-/// Checks the files with these paths, and prints the verdict, or that there is no memory for it.
-fn check<L: Library, W: Sink>(
-    alloc: Global,
-    paths: FilePaths<'_>,
-    files: &mut L,
-    out: &mut W,
-) -> Status
+/// Checks the files of a job, and prints the verdict, or that there is no memory for the table of
+/// their paths.
+fn check<L: Library, W: Sink>(alloc: Global, job: &CheckJob, files: &mut L, out: &mut W) -> Status
     requires { L.open_files files.old ≡ [] }
-    ensures exact { EndsAs (L.told files.old) result (Some (paths_of paths.entry)) (W.written out.old) (W.written out.new) }
-    ensures cause { EndHasCause result (L.faults files.old) (L.faults files.new) (W.faults out.old) (W.faults out.new) }
-    ensures usage { result ≢ Status.Usage }
-    ensures absent { AbsentHasCause (L.told files.old) (W.written out.old) (W.written out.new) (L.faults files.old) (L.faults files.new) }
-{
-    match make_job(alloc, paths) {
-        Ok(job) => check_job(alloc, &job, files, out),
-        Err(_) => print_line(out, Status::OutOfMemory, &[OUT_OF_MEMORY]),
-    }
-}
-
-/// The job of checking the files with these paths. `Err` is want of memory.
-fn make_job(alloc: Global, paths: FilePaths<'_>) -> Result<CheckJob, AllocError>
-    ensures first { IfOk result IsPlainJob }
-    ensures words { IfOk result (λ job. words_of job ≡ paths_of paths.entry) }
-{
-    Ok(CheckJob {
-        include: None,
-        reference: Some(Text::new(alloc, paths.reference)?),
-        proof: Text::new(alloc, paths.proof)?,
-        closed: false,
-    })
-}
-
-/// Checks the files of a job in first form, and prints the verdict, or that there is no memory for
-/// the table of paths.
-fn check_job<L: Library, W: Sink>(
-    alloc: Global,
-    job: &CheckJob,
-    files: &mut L,
-    out: &mut W,
-) -> Status
-    requires first { IsPlainJob job.now }
-    requires none_open { L.open_files files.old ≡ [] }
-    ensures exact { EndsAs (L.told files.old) result (Some (words_of job.now)) (W.written out.old) (W.written out.new) }
+    ensures exact { EndsAs (L.told files.old) result (Some (Request.Check job.now)) (W.written out.old) (W.written out.new) }
     ensures cause { EndHasCause result (L.faults files.old) (L.faults files.new) (W.faults out.old) (W.faults out.new) }
     ensures usage { result ≢ Status.Usage }
     ensures absent { AbsentHasCause (L.told files.old) (W.written out.old) (W.written out.new) (L.faults files.old) (L.faults files.new) }
 {
     match Paths::new(alloc) {
-        Ok(mut table) => {
-            let verdict = check_files(alloc, job, files, &mut table);
-            print_verdict(out, &verdict, &table)
+        Ok(mut paths) => {
+            let verdict = check_files(alloc, job, files, &mut paths);
+            print_verdict(out, &verdict, &paths)
+        }
+        Err(_) => print_line(out, Status::OutOfMemory, &[OUT_OF_MEMORY]),
+    }
+}
+
+/// Runs a signature file, and prints the verdict, or that there is no memory for the table of paths.
+fn load<L: Library, W: Sink>(alloc: Global, file: &Text, files: &mut L, out: &mut W) -> Status
+    requires { L.open_files files.old ≡ [] }
+    ensures exact { EndsAs (L.told files.old) result (Some (Request.Load file.now)) (W.written out.old) (W.written out.new) }
+    ensures cause { EndHasCause result (L.faults files.old) (L.faults files.new) (W.faults out.old) (W.faults out.new) }
+    ensures usage { result ≢ Status.Usage }
+    ensures absent { AbsentHasCause (L.told files.old) (W.written out.old) (W.written out.new) (L.faults files.old) (L.faults files.new) }
+{
+    match Paths::new(alloc) {
+        Ok(mut paths) => {
+            let verdict = load_files(alloc, file, files, &mut paths);
+            print_verdict(out, &verdict, &paths)
         }
         Err(_) => print_line(out, Status::OutOfMemory, &[OUT_OF_MEMORY]),
     }

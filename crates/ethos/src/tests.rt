@@ -1,7 +1,11 @@
 ghost use Rattle.std.specs.Prelude.{◌≤◌};
 
+mod benchmarks;
+mod command_line;
 mod declarations;
 mod evaluation;
+mod loads;
+mod opened;
 mod programs;
 mod rules;
 mod scopes;
@@ -180,26 +184,6 @@ fn declarations_of_a_proof(rt: HostRuntime) {
     let asserts_false = b"(assert false)\n".as_slice();
     let proof = b"(define f ((x Bool)) x)\n(assume a (let ((y (f false))) y))\n".as_slice();
     assert!(&rt; gives(rt.alloc(), asserts_false, proof, b"correct\n", Status::Ok));
-}
-
-#[test]
-fn other_words_are_no_reading(rt: HostRuntime) {
-    match usage_run(rt.alloc()) {
-        Ok((status, out)) => {
-            assert!(&rt; status == Status::Usage);
-            assert!(&rt; out.bytes().starts_with(b"usage: ethos check [--include=F]"));
-        }
-        Err(AllocError) => assert!(&rt; false),
-    }
-}
-
-fn usage_run(alloc: Global) -> Result<(Status, MemorySink), AllocError> {
-    let mut files = HonestLibrary::new(alloc)?;
-    let mut out = MemorySink::new(alloc, ROOM)?;
-    let mut words = Vec::new(alloc);
-    words.push(Text::new(alloc, "ethos")?)?;
-    let status = run_in_memory(alloc, words.as_slice(), &mut files, &mut out);
-    Ok((status, out))
 }
 
 /// The first check, with a library whose file of the proof may be absent, with reads of at most 8

@@ -1,100 +1,161 @@
-//! Reading the words of the command line.
-ghost use Rattle.std.specs.Prelude.{◌≡◌, ◌==◌, ◌&&◌, not, option_map, slice_index};
-ghost use Rattle.std.specs.List.{list_all, slice_split};
-ghost use Rattle.std.specs.Option.{option_copied};
-ghost use Rattle.eo_io.specs.Paths.{is_slash};
-ghost use Rattle.ethos.specs.CheckWords as first;
-ghost use Rattle.ethos.specs.Words.{paths_of};
+//! The words of the command line, read by `clap`.
+ghost use Rattle.std.specs.Prelude.{◌≡◌, IfOk, map, option_map, option_and_then, false};
+ghost use Rattle.clap.specs.Words.{app_of, first_of, rule_of, subcommand_rows_of};
+ghost use Rattle.ethos.specs.CommandLine as line;
+ghost use Rattle.ethos.specs.Words.{rows_in};
 
+use clap::error::ErrorKind;
+use clap::{Arg, ArgAction, ArgMatches, Command};
 use eo_base::Text;
+use eo_run::CheckJob;
+use std::alloc::{AllocError, Global};
 
-/// The most bytes of a path.
-const PATH_LIMIT: usize = 4_096;
-
-/// What stands before the path of the reference file.
-const REFERENCE: &str = "--reference=";
-
-/// The paths of the files of a check.
-#[derive(Clone, Copy)]
-pub struct FilePaths<'a> {
-    pub reference: &'a str,
-    pub proof: &'a str,
+/// What the words ask for.
+#[derive(Debug, Drop)]
+pub enum Request {
+    /// The proof of this job is to be checked.
+    Check(CheckJob),
+    /// The signature file with this path is to be run.
+    Load(Text),
 }
 
-/// Reads the words `ethos check --reference=F PROOF`, the first of which may be any. Each path has 1
-/// to 4,096 bytes and no part that is empty, `.` or `..`, apart from a leading `/`, and PROOF does
-/// not begin with `-`. No other words have a reading.
-pub fn read_words(words: &[Text]) -> Option<FilePaths<'_>>
-    ensures { option_map paths_of result ≡ first.first_words words.now }
+/// Reads the words behind the first, which is the program's name and may be any:
+///
+/// - `check [--include=F] [--reference=F] [--closed] PROOF`
+/// - `load FILE`
+///
+/// A value F may also be the next word. Options and PROOF come in any order, and each option at most
+/// once. Behind `--` each word is PROOF or FILE. All other words have no reading, a request for help
+/// among them. `Err` is want of memory.
+pub fn read_words(alloc: Global, words: &[Text]) -> Result<Option<Request>, AllocError>
+    ensures { IfOk result (λ reading. reading ≡ line.request words.now) }
 {
-    match words {
-        [_, command, option, proof] if command.as_bytes() == b"check".as_slice() => {
-            file_paths(reference_path(option.as_str())?, proof.as_str())
-        }
-        _ => None,
+    let texts = texts_of(alloc, words)?;
+    match program(alloc)?.try_get_matches_from(texts.as_slice()) {
+        Ok(matches) => request_of(alloc, &matches),
+        Err(error) => match error.kind() {
+            ErrorKind::OutOfMemory => Err(AllocError),
+            _ => Ok(None),
+        },
     }
 }
 
-/// The paths, where they may be given.
-fn file_paths<'a>(reference: &'a str, proof: &'a str) -> Option<FilePaths<'a>>
-    ensures { option_map paths_of result ≡ first.first_paths proof.now reference.now }
+/// The words as `clap` takes them.
+fn texts_of<'a>(alloc: Global, words: &'a [Text]) -> Result<Vec<&'a str>, AllocError>
+    ensures { IfOk result (λ texts. map (λ text. text.now) texts.items ≡ words.now) }
 {
-    if are_file_paths(reference.as_bytes(), proof.as_bytes()) {
-        Some(FilePaths { reference, proof })
-    } else {
-        None
+    let mut texts = Vec::new(alloc);
+    for word in words {
+        texts.push(word.as_str())?;
+    }
+    Ok(texts)
+}
+
+// ---- the command
+
+/// The command `ethos`, with one of its two.
+fn program<'a>(alloc: Global) -> Result<Command<'a>, AllocError>
+    ensures { IfOk result (λ command. app_of command ≡ line.program) }
+{
+    let check = Command::new(alloc, "check")
+        .arg(valued(alloc, "include"))?
+        .arg(valued(alloc, "reference"))?
+        .arg(flag(alloc, "closed"))?
+        .arg(positional(alloc, "PROOF"))?;
+    let load = Command::new(alloc, "load").arg(positional(alloc, "FILE"))?;
+    Command::new(alloc, "ethos")
+        .subcommand_required(true)
+        .subcommand(check)?
+        .subcommand(load)
+}
+
+/// `--name=VALUE` or `--name VALUE`
+fn valued<'a>(alloc: Global, name: &'a str) -> Arg<'a>
+    ensures rule { rule_of result ≡ line.valued name.entry.now }
+    ensures local { result.global ≡ false }
+{
+    Arg::new(alloc, name).long(name).action(ArgAction::Set)
+}
+
+/// `--name`
+fn flag<'a>(alloc: Global, name: &'a str) -> Arg<'a>
+    ensures rule { rule_of result ≡ line.flag name.entry.now }
+    ensures local { result.global ≡ false }
+{
+    Arg::new(alloc, name).long(name).action(ArgAction::SetTrue)
+}
+
+/// A word that has to be there.
+fn positional<'a>(alloc: Global, name: &'a str) -> Arg<'a>
+    ensures rule { rule_of result ≡ line.positional name.entry.now }
+    ensures local { result.global ≡ false }
+{
+    Arg::new(alloc, name).required(true).action(ArgAction::Set)
+}
+
+// ---- what was found
+
+/// What the command that stands among the words asks for. `Err` is want of memory.
+fn request_of(alloc: Global, matches: &ArgMatches<'_>) -> Result<Option<Request>, AllocError>
+    ensures { IfOk result (λ reading. reading ≡ option_and_then line.request_of (subcommand_rows_of matches.now)) }
+{
+    match matches.subcommand() {
+        Some(("check", found)) => check_of(alloc, found),
+        Some(("load", found)) => load_of(alloc, found),
+        _ => Ok(None),
     }
 }
 
-/// Whether these may be the path of a reference file and of a proof.
-fn are_file_paths(reference: &[u8], proof: &[u8]) -> bool
-    ensures { result ≡ (first.is_plain_path reference.now && first.is_plain_path proof.now && not (slice_index proof.now 0 == 45)) }
+fn check_of(alloc: Global, found: &ArgMatches<'_>) -> Result<Option<Request>, AllocError>
+    ensures { IfOk result (λ reading. reading ≡ line.check_of (rows_in found.now)) }
 {
-    is_plain_path(reference) && is_plain_path(proof) && !is_option(proof)
-}
-
-/// What follows `--reference=`.
-fn reference_path(word: &str) -> Option<&str>
-    ensures { option_copied result ≡ first.reference_path word.now }
-{
-    word.strip_prefix(REFERENCE)
-}
-
-/// Whether a path is its own folding.
-fn is_plain_path(path: &[u8]) -> bool
-    ensures { result ≡ first.is_plain_path path.now }
-{
-    !path.is_empty() && path.len() <= PATH_LIMIT && has_plain_parts(rootless(path))
-}
-
-/// Whether the parts between the slashes stay as they are.
-fn has_plain_parts(path: &[u8]) -> bool
-    ensures { result ≡ list_all first.is_plain_part (slice_split is_slash path.now) }
-{
-    path.split(|byte| *byte == b'/')
-        .all(|part| is_plain_part(part))
-}
-
-/// A path without its leading `/`.
-fn rootless(path: &[u8]) -> &[u8]
-    ensures { result.now ≡ first.rootless path.now }
-{
-    match path {
-        [b'/', rest @ ..] => rest,
-        _ => path,
+    match value_of(found, "PROOF") {
+        Some(proof) => Ok(Some(Request::Check(job_of(alloc, found, proof)?))),
+        None => Ok(None),
     }
 }
 
-/// Whether a part of a path stays as it is.
-fn is_plain_part(part: &[u8]) -> bool
-    ensures { result ≡ first.is_plain_part part.now }
+fn load_of(alloc: Global, found: &ArgMatches<'_>) -> Result<Option<Request>, AllocError>
+    ensures { IfOk result (λ reading. reading ≡ line.load_of (rows_in found.now)) }
 {
-    !matches!(part, b"" | b"." | b"..")
+    match value_of(found, "FILE") {
+        Some(file) => Ok(Some(Request::Load(Text::new(alloc, file)?))),
+        None => Ok(None),
+    }
 }
 
-/// Whether a word begins with `-`.
-fn is_option(word: &[u8]) -> bool
-    ensures { result ≡ (slice_index word.now 0 == 45) }
+/// The job of checking this proof.
+fn job_of(alloc: Global, found: &ArgMatches<'_>, proof: &str) -> Result<CheckJob, AllocError>
+    ensures { IfOk result (λ job. job ≡ line.job_of (rows_in found.now) proof.now) }
 {
-    matches!(word, [b'-', ..])
+    Ok(CheckJob {
+        include: text_of(alloc, found, "include")?,
+        reference: text_of(alloc, found, "reference")?,
+        proof: Text::new(alloc, proof)?,
+        closed: is_set(found, "closed"),
+    })
+}
+
+/// The value of an option, as a text of its own.
+fn text_of(alloc: Global, found: &ArgMatches<'_>, name: &str) -> Result<Option<Text>, AllocError>
+    ensures { IfOk result (λ text. text ≡ first_of name.now (rows_in found.now)) }
+{
+    match value_of(found, name) {
+        Some(value) => Ok(Some(Text::new(alloc, value)?)),
+        None => Ok(None),
+    }
+}
+
+/// Whether a flag stands among the words: `clap` gives it the text `true` then, and else `false`.
+fn is_set(found: &ArgMatches<'_>, name: &str) -> bool
+    ensures { result ≡ line.is_set name.now (rows_in found.now) }
+{
+    matches!(value_of(found, name), Some("true"))
+}
+
+/// The value of an argument.
+fn value_of<'a>(found: &ArgMatches<'a>, name: &str) -> Option<&'a str>
+    ensures { option_map (λ value. value.now) result ≡ first_of name.now (rows_in found.now) }
+{
+    found.get_str(name)
 }

@@ -2,8 +2,8 @@
 use super::rows::Want::{Fault, Formula};
 use super::world::wrong;
 use eo_base::FaultName::{
-    ConclusionDiffers, EvalDepth, IllTyped, NotBool, NumberRange, PremiseMismatch, Stuck,
-    TermHeight, WrongKind,
+    ConclusionDiffers, EvalCalls, EvalDepth, IllTyped, NotBool, NumberRange, PremiseMismatch,
+    Stuck, TermHeight, WrongKind,
 };
 use std::alloc::Global;
 use std::test::Fail;
@@ -198,6 +198,7 @@ fn formulas_in_types(alloc: Global) -> Result<Option<usize>, Fail> {
 fn conclusions_are_evaluated(rt: HostRuntime) -> Result<(), Fail> {
     assert_eq!(rt; operators_are_evaluated(rt.alloc())?, None);
     assert_eq!(rt; endless_programs(rt.alloc())?, None);
+    assert_eq!(rt; many_calls(rt.alloc())?, None);
     assert_eq!(rt; programs_are_called(rt.alloc())?, None);
     Ok(())
 }
@@ -231,6 +232,21 @@ fn endless_programs(alloc: Global) -> Result<Option<usize>, Fail> {
         &[("x", "!x")],
         &[("deep", "B", "", "", "x", "", "!x")],
         &[("deep", "", "", "p", "", Fault(EvalDepth))],
+    )
+}
+
+// `many` calls a program on a formula and 0, which calls itself on the formula without a negation and
+// on twice the number, and on that and one more, as long as there is a negation. So on n negations
+// there are 2^(n + 1) - 1 different calls: at 19 more than 1,000,000.
+fn many_calls(alloc: Global) -> Result<Option<usize>, Fail> {
+    wrong(
+        alloc,
+        &[("&ty", "t"), ("&~xy", "&!&x+yy!&x++yy1")],
+        &[("many", "B", "", "", "x", "", "!&x0")],
+        &[
+            ("many", "", "", "~~t", "", Formula("&&tt&tt")),
+            ("many", "", "", "~~~~~~~~~~~~~~~~~~~t", "", Fault(EvalCalls)),
+        ],
     )
 }
 

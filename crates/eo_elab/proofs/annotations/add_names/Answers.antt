@@ -1,4 +1,4 @@
-use Rattle.std.proofs.Common.{◌≡◌, ◌∷◌, [], ◌+◌, ℕ, List, Bor, ap, ◌∙◌, map, drop, arith}
+use Rattle.std.proofs.Common.{[], ◌+◌, ℕ, List, Bor, ap, ◌∙◌, map, drop, arith}
 use Rattle.std.proofs.lemmas.List.{drop_more, drop_all}
 use Rattle.eo_base.proofs.Answering.{tells_on}
 use Rattle.eo_names.specs.Refused.{told}

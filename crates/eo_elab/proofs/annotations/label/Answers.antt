@@ -1,4 +1,4 @@
-use Rattle.std.proofs.Common.{◌≡◌, ap, sym, subst, ◌∙◌, map}
+use Rattle.std.proofs.Common.{ap, sym, subst, ◌∙◌, map}
 use Rattle.eo_names.specs.Contexts.{InAssert}
 use Rattle.eo_names.specs.Scopes.{read_setting}
 use Rattle.eo_elab.specs.Gives.{GivesLabels}

@@ -1,4 +1,4 @@
-use Rattle.std.proofs.Common.{◌≡◌, ap, sym, ◌∙◌, Some}
+use Rattle.std.proofs.Common.{ap, sym, ◌∙◌}
 use Rattle.eo_sexp.specs.Sexp.{sexps_of}
 use Rattle.eo_shape.specs.Words.{numeral_of}
 use Rattle.eo_elab.specs.Meaning.{bit_vector, bits_of}

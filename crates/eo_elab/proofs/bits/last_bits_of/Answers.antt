@@ -1,4 +1,4 @@
-use Rattle.std.proofs.Common.{◌≡◌, ap, sym, ◌∙◌, ◌^◌, arith}
+use Rattle.std.proofs.Common.{ap, sym, ◌∙◌, ◌^◌}
 use Rattle.eo_lit.specs.Literals.{with_digits}
 use Rattle.eo_elab.proofs.BitLemmas.{last, last_next}
 use Rattle.eo_elab.proofs.bits.last_bits_of.Goals as goal

@@ -101,6 +101,30 @@ pub returns-in-StepPop-clause-gives : goal.returns-in-StepPop-clause-gives
 unfolding declaration
 returns-in-StepPop-clause-gives c = ap (λ k. or_bad (declaration (context_in c.args.table.now c.args.sig.now) (shapes.read_command k))) c.in-StepPop.is
 
+pub returns-in-Include-clause-gives : goal.returns-in-Include-clause-gives
+unfolding declaration
+returns-in-Include-clause-gives c = ap (λ k. or_bad (declaration (context_in c.args.table.now c.args.sig.now) (shapes.read_command k))) c.in-Include.is
+
+pub returns-in-Refer-clause-gives : goal.returns-in-Refer-clause-gives
+unfolding declaration
+returns-in-Refer-clause-gives c = ap (λ k. or_bad (declaration (context_in c.args.table.now c.args.sig.now) (shapes.read_command k))) c.in-Refer.is
+
 pub returns-in-Assert-clause-gives : goal.returns-in-Assert-clause-gives
 unfolding declaration
 returns-in-Assert-clause-gives c = ap (λ k. or_bad (declaration (context_in c.args.table.now c.args.sig.now) (shapes.read_command k))) c.in-Assert.is
+
+pub returns-in-DefineFun-clause-gives : goal.returns-in-DefineFun-clause-gives
+unfolding declaration
+returns-in-DefineFun-clause-gives c = ap (λ k. or_bad (declaration (context_in c.args.table.now c.args.sig.now) (shapes.read_command k))) c.in-DefineFun.is
+
+pub returns-in-DefineSort-clause-gives : goal.returns-in-DefineSort-clause-gives
+unfolding declaration
+returns-in-DefineSort-clause-gives c = ap (λ k. or_bad (declaration (context_in c.args.table.now c.args.sig.now) (shapes.read_command k))) c.in-DefineSort.is
+
+pub returns-in-Exit-clause-gives : goal.returns-in-Exit-clause-gives
+unfolding declaration
+returns-in-Exit-clause-gives c = ap (λ k. or_bad (declaration (context_in c.args.table.now c.args.sig.now) (shapes.read_command k))) c.in-Exit.is
+
+pub returns-in-Skip-clause-gives : goal.returns-in-Skip-clause-gives
+unfolding declaration
+returns-in-Skip-clause-gives c = ap (λ k. or_bad (declaration (context_in c.args.table.now c.args.sig.now) (shapes.read_command k))) c.in-Skip.is

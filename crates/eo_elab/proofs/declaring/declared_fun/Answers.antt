@@ -4,7 +4,7 @@ use Rattle.eo_base.proofs.Answering.{fails}
 use Rattle.eo_term.specs.Growth.{tree_in}
 use Rattle.eo_elab.specs.Declarations.{declared_fun}
 use Rattle.eo_elab.specs.Gives.{GivesConstant}
-use Rattle.eo_elab.specs.Worlds.{context_in}
+use Rattle.eo_elab.specs.Worlds.{context_at}
 use Rattle.eo_elab.proofs.CheckedLemmas.{require-no}
 use Rattle.eo_elab.proofs.DeclaringLemmas.{fun-link, fun-fault}
 use Rattle.eo_elab.proofs.declaring.declared_fun.Goals as goal
@@ -17,11 +17,11 @@ pub returns-in_err-ty-clause-gives : goal.returns-in_err-ty-clause-gives
 returns-in_err-ty-clause-gives c =
     let t = c.args.table.now in
     fails _ _ _ _ _ _ _ c.from_residual.ensures.1
-    (λ f e. fun-fault (context_in t c.args.sig.now) c.args.name.now c.args.inputs.now c.args.output.now f (sym (c.may_declare.ensures t.trees) ∙ c.if-not-may_declare.false) e) c.in_err-ty.ensures.gives
+    (λ f e. fun-fault (context_at t c.args.sig.now c.args.setting) c.args.name.now c.args.inputs.now c.args.output.now f (sym (c.may_declare.ensures t.trees) ∙ c.if-not-may_declare.false) e) c.in_err-ty.ensures.gives
 
 pub returns-clause-gives : goal.returns-clause-gives
 returns-clause-gives c =
     let t = c.args.table.now in
     let us = c.type_of_function.new.table in
-    let link = fun-link (context_in t c.args.sig.now) c.args.name.now c.args.inputs.now c.args.output.now (tree_in us c.in_ok-ty.ty) (sym (c.may_declare.ensures t.trees) ∙ c.if-not-may_declare.false) c.in_ok-ty.ensures.gives.is in
-    subst (GivesConstant us c.plain_constant.result) (sym link) (c.plain_constant.ensures.gives t.trees c.args.sig.now)
+    let link = fun-link (context_at t c.args.sig.now c.args.setting) c.args.name.now c.args.inputs.now c.args.output.now (tree_in us c.in_ok-ty.ty) (sym (c.may_declare.ensures t.trees) ∙ c.if-not-may_declare.false) c.in_ok-ty.ensures.gives.is in
+    subst (GivesConstant us c.plain_constant.result) (sym link) (c.plain_constant.ensures.gives t c.args.sig.now)

@@ -10,51 +10,52 @@ use Rattle.eo_term.specs.Terms.{tree_at}
 use Rattle.eo_elab.specs.Declarations.{function_type}
 use Rattle.eo_elab.specs.Declaring.{type_of_function}
 use Rattle.eo_names.specs.Folding.{arrow}
-use Rattle.eo_names.specs.Worlds.{World, world_of}
-use Rattle.eo_elab.specs.Worlds.{context_in, meaning_in, meanings_in}
+use Rattle.eo_names.specs.Scopes.{read_setting}
+use Rattle.eo_names.specs.Worlds.{World}
+use Rattle.eo_elab.specs.Worlds.{context_at, world_in, in_setting, meaning_in, meanings_in}
 use Rattle.eo_elab.proofs.ConstantLemmas.{trees-grown, ids-more}
 use Rattle.eo_elab.proofs.DeclaringLemmas.{function-no-inputs, function-no-output, function-whole, arrow-onto, low, high, low-height}
 use Rattle.eo_elab.proofs.Giving.{none_ready, tall_told}
 use Rattle.eo_elab.proofs.declaring.type_of_function.Goals as goal
 
-pub meanings-requires : goal.meanings-requires
-meanings-requires c = record { ready = none_ready c.args.sig.now _ _ c.in_ok-none.ensures c.requires }
+pub meanings_at-requires : goal.meanings_at-requires
+meanings_at-requires c = record { ready = none_ready c.args.sig.now _ _ c.in_ok-none.ensures c.requires }
 
-pub term-requires : goal.term-requires
-term-requires c = record { ready = (c.names_law.ensures.stays c.args.sig.now _ c.args.table.now c.meanings.new.table (none_ready c.args.sig.now _ _ c.in_ok-none.ensures c.requires) c.in_ok-types.ensures.grows).ready }
+pub term_at-requires : goal.term_at-requires
+term_at-requires c = record { ready = (c.names_law.ensures.stays c.args.sig.now _ c.args.table.now c.meanings_at.new.table (none_ready c.args.sig.now _ _ c.in_ok-none.ensures c.requires) c.in_ok-types.ensures.grows).ready }
 
 pub returns-in_err-types-clause-gives : goal.returns-in_err-types-clause-gives
 returns-in_err-types-clause-gives c =
-    let x = context_in c.args.table.now c.args.sig.now in
-    let alone : world_of c.args.table.now c.args.sig.now c.in_ok-none.none ≡ record { names = x; locals = [] } = ap (world_of c.args.table.now c.args.sig.now) c.in_ok-none.ensures in
+    let x = context_at c.args.table.now c.args.sig.now c.args.setting in
+    let alone : world_in c.args.table.now c.args.sig.now c.in_ok-none.none c.args.setting ≡ record { names = x; locals = [] } = ap (λ ls. world_in c.args.table.now c.args.sig.now ls c.args.setting) c.in_ok-none.ensures in
     fails _ _ _ _ _ _ _ c.from_residual-in_err-types.ensures.1
     (λ f e. function-no-inputs x c.args.inputs.now c.args.output.now f (ap (λ (u : World). meanings_in u c.args.inputs.now) (sym alone) ∙ e)) c.in_err-types.ensures.gives
 
 pub returns-in_err-output-clause-gives : goal.returns-in_err-output-clause-gives
 returns-in_err-output-clause-gives c =
     let k = c.args.sig.now in
-    let x = context_in c.args.table.now k in
-    let us = c.meanings.new.table in
-    let alone : world_of c.args.table.now k c.in_ok-none.none ≡ record { names = x; locals = [] } = ap (world_of c.args.table.now k) c.in_ok-none.ensures in
-    let same = (c.names_law.ensures.stays k c.in_ok-none.none c.args.table.now us (none_ready k _ _ c.in_ok-none.ensures c.requires) c.in_ok-types.ensures.grows).world in
+    let x = context_at c.args.table.now k c.args.setting in
+    let us = c.meanings_at.new.table in
+    let alone : world_in c.args.table.now k c.in_ok-none.none c.args.setting ≡ record { names = x; locals = [] } = ap (λ ls. world_in c.args.table.now k ls c.args.setting) c.in_ok-none.ensures in
+    let same = ap (in_setting (read_setting c.args.setting)) (c.names_law.ensures.stays k c.in_ok-none.none c.args.table.now us (none_ready k _ _ c.in_ok-none.ensures c.requires) c.in_ok-types.ensures.grows).world in
     fails _ _ _ _ _ _ _ c.from_residual-in_err-output.ensures.1
     (λ f e. function-no-output x c.args.inputs.now c.args.output.now (trees_in us c.in_ok-types.types) (ap (λ (u : World). meanings_in u c.args.inputs.now) (sym alone) ∙ c.in_ok-types.ensures.gives.is) f (ap (λ (u : World). meaning_in u c.args.output.now) (sym (same ∙ alone)) ∙ e)) c.in_err-output.ensures.gives
 
 pub function_type-requires-clause-types : goal.function_type-requires-clause-types
 function_type-requires-clause-types c =
-    let us = c.meanings.new.table in
-    let vs = c.term.new.table in
+    let us = c.meanings_at.new.table in
+    let vs = c.term_at.new.table in
     subst (All (λ i. i < length vs.trees)) (sym (c.as_slice.ensures ∙ c.in_ok-push.ensures.pushed))
     (All-append (λ i. i < length vs.trees) c.in_ok-types.types (c.in_ok-output.output ∷ []) (ids-more (length us.trees) (length vs.trees) c.in_ok-types.types c.in_ok-output.ensures.grows.now.more_trees c.in_ok-types.ensures.gives.live) (All-cons (λ i. i < length vs.trees) c.in_ok-output.output [] c.in_ok-output.ensures.gives.live (All-nil (λ i. i < length vs.trees))))
 
 pub returns-in_err-made-clause-gives : goal.returns-in_err-made-clause-gives
 returns-in_err-made-clause-gives c =
     let k = c.args.sig.now in
-    let x = context_in c.args.table.now k in
-    let us = c.meanings.new.table in
-    let vs = c.term.new.table in
-    let alone : world_of c.args.table.now k c.in_ok-none.none ≡ record { names = x; locals = [] } = ap (world_of c.args.table.now k) c.in_ok-none.ensures in
-    let same = (c.names_law.ensures.stays k c.in_ok-none.none c.args.table.now us (none_ready k _ _ c.in_ok-none.ensures c.requires) c.in_ok-types.ensures.grows).world in
+    let x = context_at c.args.table.now k c.args.setting in
+    let us = c.meanings_at.new.table in
+    let vs = c.term_at.new.table in
+    let alone : world_in c.args.table.now k c.in_ok-none.none c.args.setting ≡ record { names = x; locals = [] } = ap (λ ls. world_in c.args.table.now k ls c.args.setting) c.in_ok-none.ensures in
+    let same = ap (in_setting (read_setting c.args.setting)) (c.names_law.ensures.stays k c.in_ok-none.none c.args.table.now us (none_ready k _ _ c.in_ok-none.ensures c.requires) c.in_ok-types.ensures.grows).world in
     let is = trees_in us c.in_ok-types.types in
     let t = tree_in vs c.in_ok-output.output in
     let parts = function-whole x c.args.inputs.now c.args.output.now is (ap (λ (u : World). meanings_in u c.args.inputs.now) (sym alone) ∙ c.in_ok-types.ensures.gives.is) t (ap (λ (u : World). meaning_in u c.args.output.now) (sym (same ∙ alone)) ∙ c.in_ok-output.ensures.gives.is) in
@@ -68,11 +69,11 @@ returns-in_err-made-clause-gives c =
 pub returns-clause-gives : goal.returns-clause-gives
 returns-clause-gives c =
     let k = c.args.sig.now in
-    let x = context_in c.args.table.now k in
-    let us = c.meanings.new.table in
-    let vs = c.term.new.table in
-    let alone : world_of c.args.table.now k c.in_ok-none.none ≡ record { names = x; locals = [] } = ap (world_of c.args.table.now k) c.in_ok-none.ensures in
-    let same = (c.names_law.ensures.stays k c.in_ok-none.none c.args.table.now us (none_ready k _ _ c.in_ok-none.ensures c.requires) c.in_ok-types.ensures.grows).world in
+    let x = context_at c.args.table.now k c.args.setting in
+    let us = c.meanings_at.new.table in
+    let vs = c.term_at.new.table in
+    let alone : world_in c.args.table.now k c.in_ok-none.none c.args.setting ≡ record { names = x; locals = [] } = ap (λ ls. world_in c.args.table.now k ls c.args.setting) c.in_ok-none.ensures in
+    let same = ap (in_setting (read_setting c.args.setting)) (c.names_law.ensures.stays k c.in_ok-none.none c.args.table.now us (none_ready k _ _ c.in_ok-none.ensures c.requires) c.in_ok-types.ensures.grows).world in
     let is = trees_in us c.in_ok-types.types in
     let t = tree_in vs c.in_ok-output.output in
     let parts = function-whole x c.args.inputs.now c.args.output.now is (ap (λ (u : World). meanings_in u c.args.inputs.now) (sym alone) ∙ c.in_ok-types.ensures.gives.is) t (ap (λ (u : World). meaning_in u c.args.output.now) (sym (same ∙ alone)) ∙ c.in_ok-output.ensures.gives.is) in

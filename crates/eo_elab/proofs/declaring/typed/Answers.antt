@@ -4,44 +4,45 @@ use Rattle.eo_base.proofs.Answering.{fails}
 use Rattle.eo_shape.specs.Reading as shapes
 use Rattle.eo_term.specs.Growth.{tree_in}
 use Rattle.eo_sig.specs.Reading.{read_attribute}
-use Rattle.eo_names.specs.Worlds.{World, world_of}
-use Rattle.eo_elab.specs.Worlds.{context_in, meaning_in, attribute_in}
+use Rattle.eo_names.specs.Scopes.{read_setting}
+use Rattle.eo_names.specs.Worlds.{World}
+use Rattle.eo_elab.specs.Worlds.{context_at, world_in, in_setting, meaning_in, attribute_in}
 use Rattle.eo_elab.proofs.DeclaringLemmas.{typed-no-type, typed-no-attribute, typed-both}
 use Rattle.eo_elab.proofs.Giving.{none_ready}
 use Rattle.eo_elab.proofs.declaring.typed.Goals as goal
 
-pub term-requires : goal.term-requires
-term-requires c = record { ready = none_ready c.args.sig.now _ _ c.in_ok-none.ensures c.requires }
+pub term_at-requires : goal.term_at-requires
+term_at-requires c = record { ready = none_ready c.args.sig.now _ _ c.in_ok-none.ensures c.requires }
 
 pub attribute_meant-requires : goal.attribute_meant-requires
-attribute_meant-requires c = record { ready = (c.names_law.ensures.stays c.args.sig.now _ c.args.table.now c.term.new.table (none_ready c.args.sig.now _ _ c.in_ok-none.ensures c.requires) c.in_ok-ty.ensures.grows).ready }
+attribute_meant-requires c = record { ready = (c.names_law.ensures.stays c.args.sig.now _ c.args.table.now c.term_at.new.table (none_ready c.args.sig.now _ _ c.in_ok-none.ensures c.requires) c.in_ok-ty.ensures.grows).ready }
 
 pub returns-in_err-ty-clause-gives : goal.returns-in_err-ty-clause-gives
 returns-in_err-ty-clause-gives c =
-    let x = context_in c.args.table.now c.args.sig.now in
+    let x = context_at c.args.table.now c.args.sig.now c.args.setting in
     let ready = none_ready c.args.sig.now _ _ c.in_ok-none.ensures c.requires in
-    let alone : world_of c.args.table.now c.args.sig.now c.in_ok-none.none ≡ record { names = x; locals = [] } = ap (world_of c.args.table.now c.args.sig.now) c.in_ok-none.ensures in
+    let alone : world_in c.args.table.now c.args.sig.now c.in_ok-none.none c.args.setting ≡ record { names = x; locals = [] } = ap (λ ls. world_in c.args.table.now c.args.sig.now ls c.args.setting) c.in_ok-none.ensures in
     fails _ _ _ _ _ _ _ c.from_residual-in_err-ty.ensures.1
     (λ f e. typed-no-type x [] c.args.ty.now (shapes.read_attribute c.args.attribute.now) f (ap (λ (u : World). meaning_in u c.args.ty.now) (sym alone) ∙ e)) c.in_err-ty.ensures.gives
 
 pub returns-in_err-attribute-clause-gives : goal.returns-in_err-attribute-clause-gives
 returns-in_err-attribute-clause-gives c =
     let k = c.args.sig.now in
-    let x = context_in c.args.table.now k in
+    let x = context_at c.args.table.now k c.args.setting in
     let ready = none_ready k _ _ c.in_ok-none.ensures c.requires in
-    let alone : world_of c.args.table.now k c.in_ok-none.none ≡ record { names = x; locals = [] } = ap (world_of c.args.table.now k) c.in_ok-none.ensures in
-    let same = (c.names_law.ensures.stays k c.in_ok-none.none c.args.table.now c.term.new.table ready c.in_ok-ty.ensures.grows).world in
+    let alone : world_in c.args.table.now k c.in_ok-none.none c.args.setting ≡ record { names = x; locals = [] } = ap (λ ls. world_in c.args.table.now k ls c.args.setting) c.in_ok-none.ensures in
+    let same = ap (in_setting (read_setting c.args.setting)) (c.names_law.ensures.stays k c.in_ok-none.none c.args.table.now c.term_at.new.table ready c.in_ok-ty.ensures.grows).world in
     fails _ _ _ _ _ _ _ c.from_residual-in_err-attribute.ensures.1
-    (λ f e. typed-no-attribute x [] c.args.ty.now (shapes.read_attribute c.args.attribute.now) (tree_in c.term.new.table c.in_ok-ty.ty) f (ap (λ (u : World). meaning_in u c.args.ty.now) (sym alone) ∙ c.in_ok-ty.ensures.gives.is)
+    (λ f e. typed-no-attribute x [] c.args.ty.now (shapes.read_attribute c.args.attribute.now) (tree_in c.term_at.new.table c.in_ok-ty.ty) f (ap (λ (u : World). meaning_in u c.args.ty.now) (sym alone) ∙ c.in_ok-ty.ensures.gives.is)
     (ap (λ (u : World). attribute_in u c.args.attribute.now) (sym (same ∙ alone)) ∙ e)) c.in_err-attribute.ensures.gives
 
 pub returns-clause-gives : goal.returns-clause-gives
 returns-clause-gives c =
     let k = c.args.sig.now in
-    let x = context_in c.args.table.now k in
+    let x = context_at c.args.table.now k c.args.setting in
     let ready = none_ready k _ _ c.in_ok-none.ensures c.requires in
-    let alone : world_of c.args.table.now k c.in_ok-none.none ≡ record { names = x; locals = [] } = ap (world_of c.args.table.now k) c.in_ok-none.ensures in
-    let same = (c.names_law.ensures.stays k c.in_ok-none.none c.args.table.now c.term.new.table ready c.in_ok-ty.ensures.grows).world in
+    let alone : world_in c.args.table.now k c.in_ok-none.none c.args.setting ≡ record { names = x; locals = [] } = ap (λ ls. world_in c.args.table.now k ls c.args.setting) c.in_ok-none.ensures in
+    let same = ap (in_setting (read_setting c.args.setting)) (c.names_law.ensures.stays k c.in_ok-none.none c.args.table.now c.term_at.new.table ready c.in_ok-ty.ensures.grows).world in
     let last = c.attribute_meant.new.table in
     let type = c.in_ok-attribute.ensures.grows.now.tree c.in_ok-ty.ty c.in_ok-ty.ensures.gives.live in
     record {

@@ -1,4 +1,4 @@
-use Rattle.std.proofs.Common.{◌≡◌, length, subst, sym, rules}
+use Rattle.std.proofs.Common.{◌≡◌, length, subst, rules}
 use Rattle.eo_names.specs.declared.scope.Scope.{Scope, the_lemmas}
 use Rattle.eo_names.specs.declared.scope.Scope.TheVariants as scopes
 use Rattle.eo_names.specs.Ready.{IsReady}

@@ -7,15 +7,16 @@ use Rattle.eo_base.proofs.Answering.{fails}
 use Rattle.eo_base.proofs.Elements.{push_same, push_below}
 use Rattle.eo_term.specs.Terms.{tree_at}
 use Rattle.eo_term.specs.Growth.{tree_in, trees_in}
-use Rattle.eo_names.specs.Worlds.{World, world_of}
-use Rattle.eo_elab.specs.Worlds.{meaning_in, meanings_in}
+use Rattle.eo_names.specs.Scopes.{read_setting}
+use Rattle.eo_names.specs.Worlds.{World}
+use Rattle.eo_elab.specs.Worlds.{meaning_in, meanings_in, world_in, in_setting}
 use Rattle.eo_elab.proofs.ConstantLemmas.{behind, behind-none, meanings-next, meanings-refused, meanings-end}
 use Rattle.eo_elab.proofs.terms.mean_terms.Goals as goal
 
 pub loop-s-init : goal.loop-s-init
 loop-s-init c =
     let t = c.args.table.now in
-    let w = world_of t c.args.sig.now c.args.locals.now in
+    let w = world_in t c.args.sig.now c.args.locals.now c.args.setting in
     let left = c.into_iter-s-iterator.result in
     let all : left ≡ c.args.terms.now = cc in
     let none = ap length c.new-ids.ensures in
@@ -32,8 +33,8 @@ mean_term-requires c = record { ready = (c.names_law.ensures.stays c.args.sig.no
 
 pub returns-in_err-id-clause-gives : goal.returns-in_err-id-clause-gives
 returns-in_err-id-clause-gives c =
-    let w = world_of c.args.table.now c.args.sig.now c.args.locals.now in
-    let same = (c.names_law.ensures.stays c.args.sig.now c.args.locals.now c.args.table.now c.loop-s.table c.requires.ready c.loop-s.invariant.grows).world in
+    let w = world_in c.args.table.now c.args.sig.now c.args.locals.now c.args.setting in
+    let same = ap (in_setting (read_setting c.args.setting)) (c.names_law.ensures.stays c.args.sig.now c.args.locals.now c.args.table.now c.loop-s.table c.requires.ready c.loop-s.invariant.grows).world in
     let done = trees_in c.loop-s.table c.loop-s.ids in
     let s = c.in-Some.s in
     let step = c.loop-s.invariant.left ∙ ap (λ ss. behind done (meanings_in w ss)) c.in-Some.ensures.steps in
@@ -41,8 +42,8 @@ returns-in_err-id-clause-gives c =
 
 pub loop-s-preserved : goal.loop-s-preserved
 loop-s-preserved c =
-    let w = world_of c.args.table.now c.args.sig.now c.args.locals.now in
-    let same = (c.names_law.ensures.stays c.args.sig.now c.args.locals.now c.args.table.now c.loop-s.table c.requires.ready c.loop-s.invariant.grows).world in
+    let w = world_in c.args.table.now c.args.sig.now c.args.locals.now c.args.setting in
+    let same = ap (in_setting (read_setting c.args.setting)) (c.names_law.ensures.stays c.args.sig.now c.args.locals.now c.args.table.now c.loop-s.table c.requires.ready c.loop-s.invariant.grows).world in
     let now = c.loop-s.table in
     let new = c.mean_term.new.table in
     let done = trees_in now c.loop-s.ids in
@@ -63,7 +64,7 @@ loop-s-preserved c =
 
 pub returns-clause-gives : goal.returns-clause-gives
 returns-clause-gives c =
-    let w = world_of c.args.table.now c.args.sig.now c.args.locals.now in
+    let w = world_in c.args.table.now c.args.sig.now c.args.locals.now c.args.setting in
     let done = trees_in c.loop-s.table c.loop-s.ids in
     record { live = c.loop-s.invariant.live; is = c.loop-s.invariant.left ∙ ap (λ ss. behind done (meanings_in w ss)) c.in-None.ensures.steps.0 ∙ meanings-end w.names w.locals done }
 

@@ -1,14 +1,13 @@
 use Rattle.std.proofs.Common.{◌≡◌, ◌+◌, ◌<◌, length, All}
 use Rattle.eo_term.specs.Growth.{trees_in, Grows}
-use Rattle.eo_names.specs.Worlds.{world_of}
-use Rattle.eo_elab.specs.Worlds.{meanings_in}
+use Rattle.eo_elab.specs.Worlds.{meanings_in, world_in}
 use Rattle.eo_elab.proofs.ConstantLemmas.{behind}
 use Rattle.eo_elab.proofs.terms.mean_terms.Given as goal
 
 -- the terms read so far, and then those that are left, are all of them
 abbrev pub invariant-loop-s : goal.invariant-loop-s
 invariant-loop-s l =
-    let w = world_of l.fn.table l.sig l.locals in
+    let w = world_in l.fn.table l.sig l.locals l.setting in
     record {
       left : meanings_in w l.terms ≡ behind (trees_in l.table l.ids) (meanings_in w l.s-iterator);
       count : length l.ids + length l.s-iterator ≡ length l.terms;

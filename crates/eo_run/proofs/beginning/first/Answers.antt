@@ -5,15 +5,15 @@ use Rattle.eo_run.proofs.beginning.first.Goals as goal
 
 pub returns-clause-whole : goal.returns-clause-whole
 returns-clause-whole c =
-    let h : Held = record { alloc = c.args.alloc; table = c.args.table; signature = c.args.signature; types = c.args.tools.types; evaluator = c.args.tools.evaluator; subst = c.args.tools.subst; assertions = c.new.result; has_reference = false; facts = c.args.tools.facts; marks = c.new-2.result; sorry = false; closed = c.args.closed; commands = 0 } in
+    let h : Held = record { alloc = c.args.alloc; table = c.args.table; signature = c.args.signature; types = c.args.tools.types; evaluator = c.args.tools.evaluator; subst = c.args.tools.subst; assertions = c.args.tools.assertions; has_reference = false; facts = c.args.tools.facts; marks = c.new.result; sorry = false; closed = c.args.closed; commands = 0 } in
     let first : IsFirst h c.args.closed = record {
       trees = c.requires.trees;
       kept = c.requires.signature.kept;
       signature = c.requires.signature.read h.table.trees (ap (take 4) c.requires.trees);
-      assertions = c.new.ensures;
+      assertions = c.requires.tools.assertions;
       reference = refl;
       facts = c.requires.tools.facts;
-      marks = c.new-2.ensures;
+      marks = c.new.ensures;
       sorry = refl;
       closed_is = refl;
       commands = refl;
@@ -22,15 +22,15 @@ returns-clause-whole c =
 
 pub returns-clause-state : goal.returns-clause-state
 returns-clause-state c =
-    let h : Held = record { alloc = c.args.alloc; table = c.args.table; signature = c.args.signature; types = c.args.tools.types; evaluator = c.args.tools.evaluator; subst = c.args.tools.subst; assertions = c.new.result; has_reference = false; facts = c.args.tools.facts; marks = c.new-2.result; sorry = false; closed = c.args.closed; commands = 0 } in
+    let h : Held = record { alloc = c.args.alloc; table = c.args.table; signature = c.args.signature; types = c.args.tools.types; evaluator = c.args.tools.evaluator; subst = c.args.tools.subst; assertions = c.args.tools.assertions; has_reference = false; facts = c.args.tools.facts; marks = c.new.result; sorry = false; closed = c.args.closed; commands = 0 } in
     state_first h c.args.closed (record {
       trees = c.requires.trees;
       kept = c.requires.signature.kept;
       signature = c.requires.signature.read h.table.trees (ap (take 4) c.requires.trees);
-      assertions = c.new.ensures;
+      assertions = c.requires.tools.assertions;
       reference = refl;
       facts = c.requires.tools.facts;
-      marks = c.new-2.ensures;
+      marks = c.new.ensures;
       sorry = refl;
       closed_is = refl;
       commands = refl;

@@ -4,6 +4,9 @@ pub returns : goal.returns
 returns c = record {
   rules = c.ordering_law.ensures.rules;
   macros = c.ordering_law.ensures.macros;
+  functions = c.reference_law.ensures.functions;
+  sorts = c.reference_law.ensures.sorts;
+  labels = c.reference_law.ensures.labels;
   values = c.values_law.ensures;
   concludes = c.conclusion_law.ensures.sound;
   weakens = c.derivability_law.ensures.formulas;

@@ -1,19 +1,22 @@
-use Rattle.std.proofs.Common.{◌≡◌, ◌+◌, ◌≤◌, [], ◌++◌, length, false}
+use Rattle.std.proofs.Common.{◌≡◌, ◌+◌, ◌-◌, ◌≤◌, [], length, drop, false}
 use Rattle.eo_base.specs.Limits.{limits}
 use Rattle.eo_sexp.specs.Collecting.{IsLive, here_of}
-use Rattle.eo_sexp.specs.Cutting.{IsWaiting, rest_of}
-use Rattle.eo_run.specs.Reading.{Leads, behind}
-use Rattle.eo_run.proofs.Feeding.{count_of}
+use Rattle.eo_sexp.specs.Cutting.{IsWaiting}
+use Rattle.eo_run.specs.Numbered.{origin_of}
+use Rattle.eo_run.specs.Reading.{LeadsOn, behind, count_of}
 use Rattle.eo_run.proofs.reading.check_piece.Given as goal
 
 abbrev pub invariant-commands : goal.invariant-commands
 invariant-commands l = record {
-  leads : Leads l.from l.initial.session.state l.session.state (behind l.initial.collector l.piece) (behind l.collector l.rest);
+  leads : LeadsOn (origin_of l.from) l.initial.session.state (behind l.initial.collector l.piece) l.session.state (behind l.collector l.rest);
   live : IsLive l.collector;
   waiting : IsWaiting limits l.collector;
   here : (here_of l.collector).offset + length l.rest ≤ (here_of l.initial.collector).offset + length l.piece;
+  tail : drop (length l.piece - length l.rest) l.piece ≡ l.rest;
+  size : length l.rest ≤ length l.piece;
+  fewer : count_of (behind l.collector l.rest false []) ≤ count_of (behind l.initial.collector l.piece false []);
   going : l.session.ended ≡ false;
 }
 
 abbrev pub decreases-commands : goal.decreases-commands
-decreases-commands l = count_of (rest_of limits false l.collector (l.rest ++ []))
+decreases-commands l = count_of (behind l.collector l.rest false [])

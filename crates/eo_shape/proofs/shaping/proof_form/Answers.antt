@@ -14,4 +14,6 @@ returns c =
     let sixth = differs w (codes "define") c.eq-6.result (c.eq-6.ensures ∙ ap (bytes_eq w) c.as_slice-6.ensures) c.if-eq-6.false in
     let seventh = differs w (codes "program") c.eq-7.result (c.eq-7.ensures ∙ ap (bytes_eq w) c.as_slice-7.ensures) c.if-eq-7.false in
     let eighth = differs w (codes "declare-rule") c.eq-8.result (c.eq-8.ensures ∙ ap (bytes_eq w) c.as_slice-8.ensures) c.if-eq-8.false in
-    rw (first, second, third, fourth, fifth, sixth, seventh, eighth) c.proving_form.ensures
+    let ninth = differs w (codes "include") c.eq-9.result (c.eq-9.ensures ∙ ap (bytes_eq w) c.as_slice-9.ensures) c.if-eq-9.false in
+    let tenth = differs w (codes "reference") c.eq-10.result (c.eq-10.ensures ∙ ap (bytes_eq w) c.as_slice-10.ensures) c.if-eq-10.false in
+    rw (first, second, third, fourth, fifth, sixth, seventh, eighth, ninth, tenth) c.proving_form.ensures

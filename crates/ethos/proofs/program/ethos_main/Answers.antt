@@ -1,22 +1,25 @@
-use Rattle.std.proofs.Common.{arith, Some, None}
-use Rattle.ethos.specs.CheckWords.{first_words}
-use Rattle.ethos.specs.Words.{paths_of}
+use Rattle.std.proofs.Common.{◌≡◌, ◌∙◌, ap, sym, arith, Some, None}
+use Rattle.ethos.specs.CommandLine.{request}
+use Rattle.ethos.specs.declared.words.Request.{Request}
+use Rattle.ethos.specs.declared.words.Request.TheVariants.{Check}
 use Rattle.ethos.proofs.EndLemmas.{reading_ends, no_reading_ends, usage_ends}
 use Rattle.ethos.proofs.AbsentLemmas.{absent_by_letter}
 use Rattle.ethos.proofs.Refuting.{ok_refutes}
 use Rattle.ethos.proofs.program.ethos_main.Goals as goal
 
-pub returns-in-None-clause-exact : goal.returns-in-None-clause-exact
-returns-in-None-clause-exact g c = reading_ends _ _ _ _ None (first_words c.args.words.now) c.in-None.ensures (no_reading_ends _ _ _ _ (usage_ends _ _ _ c.print_line.ensures.due))
+pub returns-in-Ok-Some-Check-clause-refutes : goal.returns-in-Ok-Some-Check-clause-refutes
+returns-in-Ok-Some-Check-clause-refutes g c =
+    let reading : Some (Check c.in-Ok-Some-Check.job) ≡ request c.args.words.now =
+    sym (c.in-Ok-Some-Check.field-0-is ∙ ap (λ (r : Request). Some r) c.in-Ok-Some-Check.field-0-0-is) ∙ c.in-Ok-Some-Check.ensures in
+    ok_refutes c.soundness_law.ensures.correct _ _ _ _ _ (reading_ends _ _ _ _ _ _ reading c.check.ensures.exact)
 
-pub returns-in-None-clause-absent : goal.returns-in-None-clause-absent
-returns-in-None-clause-absent g c = absent_by_letter _ 117 _ _ _ _ _ _ _ (omega arith) c.print_line.ensures.due
+pub returns-in-Ok-None-clause-exact : goal.returns-in-Ok-None-clause-exact
+returns-in-Ok-None-clause-exact g c =
+    let reading : None ≡ request c.args.words.now = sym c.in-Ok-None.field-0-is ∙ c.in-Ok-None.ensures in
+    reading_ends _ _ _ _ _ _ reading (no_reading_ends _ _ _ _ (usage_ends _ _ _ c.print_line.ensures.due))
 
-pub returns-in-Some-clause-exact : goal.returns-in-Some-clause-exact
-returns-in-Some-clause-exact g c = reading_ends _ _ _ _ (Some (paths_of c.in-Some.paths)) (first_words c.args.words.now) c.in-Some.ensures c.check.ensures.exact
+pub returns-in-Ok-None-clause-absent : goal.returns-in-Ok-None-clause-absent
+returns-in-Ok-None-clause-absent g c = absent_by_letter _ 117 _ _ _ _ _ _ _ (omega arith) c.print_line.ensures.due
 
-pub returns-in-None-clause-refutes : goal.returns-in-None-clause-refutes
-returns-in-None-clause-refutes g c = ok_refutes c.soundness_law.ensures.correct _ _ _ _ _ (returns-in-None-clause-exact g c)
-
-pub returns-in-Some-clause-refutes : goal.returns-in-Some-clause-refutes
-returns-in-Some-clause-refutes g c = ok_refutes c.soundness_law.ensures.correct _ _ _ _ _ (returns-in-Some-clause-exact g c)
+pub returns-in-Err-clause-absent : goal.returns-in-Err-clause-absent
+returns-in-Err-clause-absent g c = absent_by_letter _ 111 _ _ _ _ _ _ _ (omega arith) c.print_line-in-Err.ensures.due

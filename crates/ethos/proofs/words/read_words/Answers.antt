@@ -1,13 +1,21 @@
-use Rattle.std.proofs.Common.{sym, ap, ◌∙◌}
-use Rattle.std.specs.Prelude.{option_and_then, bytes_eq}
-use Rattle.ethos.specs.CheckWords.{first_paths, reference_path}
-use Rattle.ethos.proofs.WordLemmas.{four_words, reference_read}
+use Rattle.std.proofs.Common.{◌≡◌, ◌∙◌, map, ap, ap₂, sym}
+use Rattle.std.specs.Prelude.{option_and_then}
+use Rattle.std.proofs.lemmas.Result.{IfOk-weaker}
+use Rattle.clap.specs.Words.{fault_of, is_simple, is_simple_and_free, subcommand_of, takes}
+use Rattle.ethos.specs.CommandLine as line
+use Rattle.ethos.proofs.Readings.{read, unread}
 use Rattle.ethos.proofs.words.read_words.Goals as goal
 
-pub returns-in_ok-reference_path-in-len4 : goal.returns-in_ok-reference_path-in-len4
-returns-in_ok-reference_path-in-len4 c =
-    c.file_paths.ensures ∙ ap (λ p. first_paths p c.in_ok-reference_path-in-len4.field-0.now) c.as_str-in-len4.ensures
-    ∙ sym (four_words c.args.words.now c.command-item.result c.option-item.result c.proof-item.result c.in-len4.len_at_least c.in-len4.len_below c.command-item.is c.option-item.is c.proof-item.is
-    (ap (bytes_eq c.command-item.result) (sym c.as_slice.ensures) ∙ ap (λ t. bytes_eq t c.as_slice.result.now) (sym c.as_bytes.ensures.value) ∙ sym c.eq.ensures ∙ c.if-eq.true)
-    ∙ ap (option_and_then (first_paths c.proof-item.result))
-    (reference_read c.option-item.result c.reference_path.result c.in_ok-reference_path-in-len4.field-0 (c.reference_path.ensures ∙ ap reference_path c.as_str.ensures) c.in_ok-reference_path-in-len4.was))
+pub returns-in-Ok : goal.returns-in-Ok
+returns-in-Ok c =
+    let program_is = c.in_ok-program.ensures in
+    let words_are : map (λ s. s.now) c.as_slice.result.now ≡ c.args.words.now = ap (map (λ s. s.now)) c.as_slice.ensures.value ∙ c.in_ok-texts.ensures in
+    let none = sym (ap₂ fault_of program_is words_are) ∙ c.in-Ok.ensures.kinds (ap is_simple_and_free program_is) in
+    let found = (c.in-Ok.ensures.matches (ap is_simple program_is)).1 ∙ ap₂ subcommand_of program_is words_are in
+    IfOk-weaker c.request_of.result _ _ (λ reading e. e ∙ ap (option_and_then line.request_of) found ∙ sym (read c.args.words.now none)) c.request_of.ensures
+
+pub returns : goal.returns
+returns c =
+    let program_is = c.in_ok-program.ensures in
+    let words_are : map (λ s. s.now) c.as_slice.result.now ≡ c.args.words.now = ap (map (λ s. s.now)) c.as_slice.ensures.value ∙ c.in_ok-texts.ensures in
+    unread c.args.words.now (λ taken. c.in_default.not-OutOfMemory (c.kind.ensures ∙ c.in-Err.ensures.passes (ap₂ takes program_is words_are ∙ taken)))

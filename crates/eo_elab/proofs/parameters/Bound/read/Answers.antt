@@ -8,7 +8,7 @@ use Rattle.eo_elab.specs.Declarations.{with_parameter}
 use Rattle.eo_elab.specs.Declaring.{read_bound}
 use Rattle.eo_names.specs.Names.{local, AreBelow}
 use Rattle.eo_names.specs.declared.locals.LocalName.{LocalName}
-use Rattle.eo_elab.specs.Worlds.{context_in}
+use Rattle.eo_elab.specs.Worlds.{context_at}
 use Rattle.eo_elab.proofs.BoundLemmas.{bind-known, bind-refused, bind-taken, bound-names, bound-grown, bound-more, parameters-more, reads_fault}
 use Rattle.eo_elab.proofs.parameters.Bound.read.Goals as goal
 
@@ -16,14 +16,14 @@ pub returns-then-has-clause-reads : goal.returns-then-has-clause-reads
 returns-then-has-clause-reads c = λ rest.
     let t = c.args.table.now in
     let p = shapes.read_parameter c.args.shape.now in
-    bind-known (context_in t c.args.sig.now) (read_bound t.trees c.args.self.now) p rest (bound-names t.trees p.name c.args.self.now.params ∙ sym c.has.ensures ∙ c.if-has.true)
+    bind-known (context_at t c.args.sig.now c.args.setting) (read_bound t.trees c.args.self.now) p rest (bound-names t.trees p.name c.args.self.now.params ∙ sym c.has.ensures ∙ c.if-has.true)
 
 pub returns-in_err-ty-clause-reads : goal.returns-in_err-ty-clause-reads
 returns-in_err-ty-clause-reads c =
     let t = c.args.table.now in
     let p = shapes.read_parameter c.args.shape.now in
     let new = bound-names t.trees p.name c.args.self.now.params ∙ sym c.has.ensures ∙ c.if-has.false in
-    reads_fault c.args.sig.now t _ p c.args.self.now _ _ _ _ c.from_residual.ensures.1 (λ rest f e. bind-refused (context_in t c.args.sig.now) (read_bound t.trees c.args.self.now) p rest f new e) c.in_err-ty.ensures.gives
+    reads_fault c.args.sig.now c.args.setting t _ p c.args.self.now _ _ _ _ c.from_residual.ensures.1 (λ rest f e. bind-refused (context_at t c.args.sig.now c.args.setting) (read_bound t.trees c.args.self.now) p rest f new e) c.in_err-ty.ensures.gives
 
 pub returns-clause-reads : goal.returns-clause-reads
 returns-clause-reads c =
@@ -35,9 +35,12 @@ returns-clause-reads c =
     let grows = c.in_ok-id.ensures.grows.since old c.in_ok-ty.ensures.grows.now in
     let stays = c.names_law.ensures.stays c.args.sig.now b.locals old last c.requires.bound.ready (search rules) in
     let x : Param = record { name = p.name; ty = c.in_ok-ty.ty; implicit = p.implicit; list = p.list } in
-    let t = tree_in c.term.new.table c.in_ok-ty.ty in
+    let t = tree_in c.term_at.new.table c.in_ok-ty.ty in
     let type = c.in_ok-id.ensures.grows.now.tree c.in_ok-ty.ty c.in_ok-ty.ensures.gives.live in
-    let whole : c.push.new.self ≡ record { params = b.params ++ x ∷ []; locals = local p.name c.in_ok-id.id p.list ∷ b.locals } = (λ i. record { params = c.in_ok-push.ensures.params i; locals = c.in_ok-push.ensures.locals i }) in
+    let named = c.in_ok-new.ensures in
+    let params : c.push.new.self.params ≡ b.params ++ x ∷ [] = c.in_ok-push.ensures.params ∙ (λ i. b.params ++ record { name = named i; ty = x.ty; implicit = x.implicit; list = x.list } ∷ []) in
+    let locals : c.push.new.self.locals ≡ local p.name c.in_ok-id.id p.list ∷ b.locals = c.in_ok-push.ensures.locals ∙ (λ i. local (named i) c.in_ok-id.id p.list ∷ b.locals) in
+    let whole : c.push.new.self ≡ record { params = b.params ++ x ∷ []; locals = local p.name c.in_ok-id.id p.list ∷ b.locals } = (λ i. record { params = params i; locals = locals i }) in
     let read : read_bound last.trees c.push.new.self ≡ with_parameter (read_bound old.trees b) (record { name = p.name; type = t; implicit = p.implicit; list = p.list }) =
     ap (read_bound last.trees) whole
     ∙ bound-more b last.trees x c.in_ok-id.id t type (c.in_ok-id.ensures.makes.tree ∙ ap (λ (ps : List Param). Par (length ps)) c.as_slice.ensures)
@@ -46,12 +49,12 @@ returns-clause-reads c =
     let live : x.ty < length last.trees = omega (arith, c.in_ok-ty.ensures.gives.live, c.in_ok-id.ensures.grows.now.more_trees) in
     record {
       live = record {
-        params = subst (All (λ (q : Param). q.ty < length last.trees)) (sym c.in_ok-push.ensures.params)
+        params = subst (All (λ (q : Param). q.ty < length last.trees)) (sym params)
             (All-append (λ (q : Param). q.ty < length last.trees) b.params (x ∷ []) (parameters-more (length old.trees) (length last.trees) b.params grows.more_trees c.requires.bound.params) (All-cons (λ (q : Param). q.ty < length last.trees) x [] live (All-nil (λ (q : Param). q.ty < length last.trees))));
         ready = record {
           below = still.below;
-          names = subst (AreBelow (length last.trees)) (sym c.in_ok-push.ensures.locals) (All-cons (λ (l : LocalName). l.id < length last.trees) (local p.name c.in_ok-id.id p.list) b.locals c.in_ok-id.ensures.makes.live still.names);
+          names = subst (AreBelow (length last.trees)) (sym locals) (All-cons (λ (l : LocalName). l.id < length last.trees) (local p.name c.in_ok-id.id p.list) b.locals c.in_ok-id.ensures.makes.live still.names);
         };
       };
-      binds = λ rest. bind-taken (context_in old c.args.sig.now) (read_bound old.trees b) p rest t (read_bound last.trees c.push.new.self) new c.in_ok-ty.ensures.gives.is read;
+      binds = λ rest. bind-taken (context_at old c.args.sig.now c.args.setting) (read_bound old.trees b) p rest t (read_bound last.trees c.push.new.self) new c.in_ok-ty.ensures.gives.is read;
     }

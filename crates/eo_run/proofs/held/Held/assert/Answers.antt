@@ -1,23 +1,50 @@
-use Rattle.std.proofs.Common.{◌≡◌, sym, subst}
-use Rattle.eo_base.specs.declared.FaultName.{FaultName}
-use Rattle.eo_base.specs.declared.FaultName.TheVariants.{FileAbsent}
-use Rattle.eo_base.specs.Checks.{Checked}
+use Rattle.std.proofs.Common.{sym, ap, subst, ◌∙◌}
+use Rattle.std.specs.Prelude.{Result}
+use Rattle.eo_elab.specs.Fitting.{FitsTerms}
+use Rattle.eo_elab.specs.Worlds.{labels_in}
+use Rattle.eo_names.specs.Contexts.{InAssert}
+use Rattle.eo_term.specs.Growth.{tree_in}
+use Rattle.eo_run.specs.Asserting.{asserted_as, MayBeNames}
 use Rattle.eo_run.specs.Held.{state_of}
-use Rattle.eo_run.specs.State.{State}
+use Rattle.eo_run.specs.State.{State, context_in}
+use Rattle.eo_run.specs.Step.{assert}
 use Rattle.eo_run.specs.Stepping.{Does}
-use Rattle.eo_run.proofs.Sessions.{assert-fault, assert-ok, does-fault}
+use Rattle.eo_run.specs.declared.refused.Refused.{Refused}
+use Rattle.eo_run.proofs.Adding.{does-same}
+use Rattle.eo_run.proofs.Assertions.{assert-fault, assert-is}
+use Rattle.eo_run.proofs.Exits.{at_exit}
+use Rattle.eo_run.proofs.Labels.{assertion_names}
+use Rattle.eo_run.proofs.Sessions.{refuses_on}
 use Rattle.eo_run.proofs.held.Held.assert.Goals as goal
 
-pub returns-in_err-formula-clause-does : goal.returns-in_err-formula-clause-does
-returns-in_err-formula-clause-does c =
+pub returns-in_err-id-clause-does : goal.returns-in_err-id-clause-does
+returns-in_err-id-clause-does c =
     let st = state_of c.args.self.now in
     let s = c.args.formula.now in
-    let x = c.in_err-formula.field-0.0 in
-    let e = c.in_err-formula.ensures.exact in
-    does-fault _ c.from_residual.result c.args.self.now x (assert-fault st s x (sym e)) (subst (λ (n : FaultName). n ≡ FileAbsent → ⊥) (sym c.in_err-formula.ensures.unknown) (λ q. absurd cc)) c.from_residual.ensures.1
+    let x = c.in_err-id.field-0.0 in
+    at_exit (λ (r : Result (Unit {0}) Refused). Does r (assert st s) c.read_assertion.new.self) c.from_residual.result x c.from_residual.ensures.1
+    (refuses_on _ _ x c.in_err-id.ensures.gives (assert-fault st s))
+
+pub assert_as-requires-clause-new : goal.assert_as-requires-clause-new
+assert_as-requires-clause-new c =
+    let st = state_of c.args.self.now in
+    let s = c.args.formula.now in
+    let mid = c.read_assertion.new.self in
+    let t = tree_in mid.table c.in_ok-id.id in
+    let labels = labels_in mid.table c.read_assertion.new.names in
+    let is = c.in_ok-id.ensures.gives.is in
+    let fits : FitsTerms (context_in st InAssert) = record { folds = c.requires.terms.folds; macros = c.requires.terms.macros } in
+    let closed = c.reference_law.ensures.labels (context_in st InAssert) s t labels fits is in
+    let free = c.reference_law.ensures.free (context_in st InAssert) s t labels fits is in
+    subst (λ (z : State). MayBeNames z labels) (sym c.in_ok-id.ensures.keeps.same) (assertion_names st labels free closed)
 
 pub returns-clause-does : goal.returns-clause-does
 returns-clause-does c =
     let st = state_of c.args.self.now in
     let s = c.args.formula.now in
-    subst (λ (m : Checked State). Does c.add_assertion.result m c.add_assertion.new.self) (sym (assert-ok st s c.in_ok-formula.formula (sym c.in_ok-formula.ensures.exact))) c.add_assertion.ensures.does
+    let mid = c.read_assertion.new.self in
+    let t = tree_in mid.table c.in_ok-id.id in
+    let labels = labels_in mid.table c.read_assertion.new.names in
+    does-same _ _ c.assert_as.result c.assert_as.new.self
+    (assert-is st s t labels c.in_ok-id.ensures.gives.is ∙ ap (λ (z : State). asserted_as z t labels) (sym c.in_ok-id.ensures.keeps.same))
+    c.assert_as.ensures.does

@@ -1,0 +1,50 @@
+use Rattle.std.proofs.Common.{◌≡◌, ◌<◌, List, [], length, All, ap, sym, subst, ◌∙◌}
+use Rattle.std.specs.Prelude.{Ok}
+use Rattle.std.proofs.lemmas.List.Elements.{All-nil}
+use Rattle.eo_base.proofs.Answering.{fails}
+use Rattle.eo_base.proofs.ChecksLemmas.{bind_step, bind_fails}
+use Rattle.eo_sig.specs.Reading.{signature, macros}
+use Rattle.eo_names.specs.Contexts.{InAssert}
+use Rattle.eo_names.specs.declared.locals.LocalName.{LocalName}
+use Rattle.eo_names.specs.Names.{Binding, BindingsBelow, AreBelow, read_locals}
+use Rattle.eo_names.specs.Readers.{Label}
+use Rattle.eo_elab.specs.Meaning.{means}
+use Rattle.eo_elab.specs.Worlds.{labels_in, reference_meaning}
+use Rattle.eo_term.specs.Growth.{tree_in}
+use Rattle.eo_term.specs.Tree.{Tree}
+use Rattle.eo_base.specs.Checks.{Checked}
+use Rattle.eo_ref.specs.Reference.{ReferenceNext, Asserts, names_in}
+use Rattle.eo_ref.proofs.reference.Reference.asserted.Goals as goal
+
+abbrev asserts : Tree × List Label → Checked ReferenceNext
+asserts r = Ok (Asserts r.0 r.1)
+
+pub reference_term-requires : goal.reference_term-requires
+reference_term-requires c =
+    let n = length c.args.table.now.trees in
+    record {
+      ready = record { below = c.requires.ready; names = subst (AreBelow n) (sym c.in_ok-none.ensures) (All-nil (λ (l : LocalName). l.id < n)) };
+      names = subst (BindingsBelow n) (sym c.new-names.ensures) (All-nil (λ (b : Binding). b.1 < n));
+    }
+
+pub returns-in_err-formula-clause-gives : goal.returns-in_err-formula-clause-gives
+returns-in_err-formula-clause-gives c =
+    let t = c.args.table.now in
+    let k = c.args.sig.now in
+    let s = c.args.s.now in
+    let x = names_in (signature t.trees k) (macros t.trees k) InAssert in
+    let alone : means x [] s [] ≡ means x (read_locals t.trees c.in_ok-none.none) s (labels_in t c.new-names.result) = (λ i. means x (read_locals t.trees (sym c.in_ok-none.ensures i)) s (labels_in t (sym c.new-names.ensures i))) in
+    fails _ _ _ _ _ _ _ c.from_residual-in_err-formula.ensures.1 (λ f e. bind_fails (means x [] s []) asserts f (alone ∙ e)) c.in_err-formula.ensures.gives
+
+pub returns-clause-gives : goal.returns-clause-gives
+returns-clause-gives c =
+    let t = c.args.table.now in
+    let new = c.reference_term.new.table in
+    let k = c.args.sig.now in
+    let s = c.args.s.now in
+    let x = names_in (signature t.trees k) (macros t.trees k) InAssert in
+    let alone : means x [] s [] ≡ means x (read_locals t.trees c.in_ok-none.none) s (labels_in t c.new-names.result) = (λ i. means x (read_locals t.trees (sym c.in_ok-none.ensures i)) s (labels_in t (sym c.new-names.ensures i))) in
+    record {
+      live = record { formula = c.in_ok-formula.ensures.gives.live; names = c.in_ok-formula.ensures.names.below };
+      is = bind_step (means x [] s []) asserts (tree_in new c.in_ok-formula.formula, labels_in new c.reference_term.new.names) (alone ∙ c.in_ok-formula.ensures.gives.is);
+    }

@@ -1,0 +1,3 @@
+pub mod Reference
+pub mod Ids
+pub mod Answers

@@ -1,0 +1,127 @@
+//! Commands of a reference file, one after another.
+mod text;
+mod world;
+
+use std::alloc::Global;
+use std::test::Fail;
+use world::{Told, World};
+
+// What a function tells of a new world. It alone owns one: each way out of a function that does is
+// dear to prove.
+fn tell<T, F: FnOnce(&mut World) -> Result<T, Fail>>(alloc: Global, f: F) -> Result<T, Fail>
+    requires { F.IsAlwaysCallable f }
+{
+    let mut world = World::new(alloc)?;
+    f(&mut world)
+}
+
+// The first command of a benchmark of which something else is told than what stands beside it.
+fn benchmark(world: &mut World) -> Result<Option<usize>, Fail> {
+    world.other(&[
+        ("(set-logic QF_UFBV)", Told::Skip),
+        ("(set-info :source |a\nbenchmark|)", Told::Skip),
+        ("(set-info :difficulty 1.5)", Told::Skip),
+        ("(set-option :produce-proofs true)", Told::Skip),
+        ("(declare-sort U 0)", Told::Constant),
+        ("(declare-fun f (U Bool) Bool)", Told::Constant),
+        ("(declare-const u U)", Told::Constant),
+        ("(define-sort V (A) (-> A U))", Told::Macro(1)),
+        ("(declare-const v (V Bool))", Told::Constant),
+        (
+            "(define-fun g ((x U) (y Bool)) Bool (f x y))",
+            Told::Macro(2),
+        ),
+        ("(assert (g u (f u true)))", Told::Assert(0)),
+        (
+            "(assert (! (f u false) :named a :pattern p))",
+            Told::Assert(1),
+        ),
+        (
+            "(assert (f u (! (f u (! true :named b)) :named c)))",
+            Told::Assert(2),
+        ),
+        ("(check-sat)", Told::Skip),
+        ("(assert false)", Told::Assert(0)),
+        ("(get-proof)", Told::Skip),
+        ("(echo \"done\")", Told::Skip),
+        ("(exit)", Told::Exit),
+    ])
+}
+
+// The first wrong command of which another fault is told than the one that stands beside it.
+fn wrong(world: &mut World) -> Result<Option<usize>, Fail> {
+    world.other(&[
+        ("(declare-const p Bool)", Told::Constant),
+        ("(declare-fun f (Bool) Bool)", Told::Constant),
+        ("(define-fun m ((x Bool)) Bool (f x))", Told::Macro(1)),
+        // no command of a reference file, or one of a wrong shape
+        ("p ", Told::BadCommand),
+        ("()", Told::BadCommand),
+        ("(push 1)", Told::UnknownCommand),
+        ("(pop)", Told::UnknownCommand),
+        ("(reset)", Told::UnknownCommand),
+        ("(check-sat-assuming (p))", Told::UnknownCommand),
+        ("(define-fun-rec g () Bool p)", Told::UnknownCommand),
+        ("(define n () p)", Told::UnknownCommand),
+        ("(assume a p)", Told::UnknownCommand),
+        ("(declare-const n Bool :right-assoc)", Told::BadCommand),
+        ("(define-fun n ((x Bool :list)) zz p)", Told::BadCommand),
+        ("(exit 0)", Told::BadCommand),
+        ("(assert)", Told::BadCommand),
+        // a name that is reserved; one of the reference file is compared later
+        ("(declare-const ! zz)", Told::Redeclared),
+        ("(define-fun true () zz p)", Told::Redeclared),
+        ("(define-sort Bool () zz)", Told::Redeclared),
+        ("(declare-const p zz)", Told::UnknownSymbol),
+        // parameters, the output, and the body
+        ("(define-fun n ((x Bool) (x zz)) yy zz)", Told::Redeclared),
+        ("(define-fun n ((x 1.5) (x Bool)) yy zz)", Told::BadLiteral),
+        ("(define-fun n ((x Bool)) zz 1.5)", Told::UnknownSymbol),
+        ("(define-fun n ((x Bool)) Bool (f y))", Told::UnknownSymbol),
+        ("(define-fun n ((x Bool)) (m) x)", Told::BadArity),
+        ("(define-sort n (A A) zz)", Told::Redeclared),
+        ("(define-sort n (A) B)", Told::UnknownSymbol),
+        // what is read in a reference file
+        ("(declare-const n (! Bool :x))", Told::Constant),
+        ("(define-fun k () Bool (! p :named p))", Told::Macro(0)),
+        ("(assert !)", Told::BadArity),
+        ("(assert (! p))", Told::BadCommand),
+        ("(assert (! p :named p))", Told::Redeclared),
+        (
+            "(assert (f (! p :named e) (! p :named e)))",
+            Told::Redeclared,
+        ),
+        ("(assert (f zz 1.5))", Told::UnknownSymbol),
+        // a name of a refused command is none
+        ("(assert (f (! p :named e) zz))", Told::UnknownSymbol),
+        ("(assert e)", Told::UnknownSymbol),
+    ])
+}
+
+// Whether formulas are asserted once they are added, and equal ones with them.
+fn assertions(world: &mut World) -> Result<bool, Fail> {
+    let none = world.asserts("(assert true)")?;
+    world.assert("(assert true)")?;
+    let now = world.asserts("(assert (! true :named t))")?;
+    let other = world.asserts("(assert false)")?;
+    world.assert("(assert true)")?;
+    Ok(!none && now && !other && world.asserts("(assert true)")?)
+}
+
+#[test]
+fn a_benchmark_is_read(rt: HostRuntime) -> Result<(), Fail> {
+    assert_eq!(rt; tell(rt.alloc(), benchmark)?, None);
+    Ok(())
+}
+
+#[test]
+fn the_first_fault_is_told(rt: HostRuntime) -> Result<(), Fail> {
+    assert_eq!(rt; tell(rt.alloc(), wrong)?, None);
+    Ok(())
+}
+
+#[test]
+fn equal_formulas_are_asserted(rt: HostRuntime) -> Result<(), Fail> {
+    assert!(rt; tell(rt.alloc(), assertions)?);
+    Ok(())
+}

@@ -1,0 +1,102 @@
+-- Places of files by their numbers, and what opening a file tells.
+use Rattle.std.proofs.Common.{◌≡◌, refl, ℕ, zero, suc, Bool, true, false, List, [], ◌∷◌, ◌++◌, length, Option, Some, None, sym, ap, subst, ◌∙◌}
+use Rattle.std.specs.Prelude.{◌≢◌, Result, Ok, Err, is_some, slice_get, if◌then◌else◌, IsSome}
+use Rattle.std.proofs.lemmas.Option.{none-some, same_Some}
+use Rattle.eo_base.specs.declared.FaultName.{FaultName}
+use Rattle.eo_base.specs.declared.FaultName.TheVariants.{FileAbsent, SecondReference}
+use Rattle.eo_base.proofs.ChecksLemmas.{err_is_not_ok}
+use Rattle.eo_io.specs.Library.{Files, Rest, file_at, Opens, OpenHasCause}
+use Rattle.eo_io.specs.Paths.{Extends}
+use Rattle.eo_io.specs.declared.Opened.TheVariants as opened
+use Rattle.eo_sexp.specs.Spot.{Spot}
+use Rattle.eo_run.specs.State.{State, begin_reference}
+use Rattle.eo_run.specs.Run.{Progress, refusal_at, commands_of, open_file}
+use Rattle.eo_run.specs.Numbered.{origin_of, number_of}
+use Rattle.eo_run.specs.Answer.{Denotes}
+use Rattle.eo_run.specs.Opening as opening
+use Rattle.eo_run.specs.Opening.{opener_of, run_source, IsNumbered, Told, StaysOpen, Passes, RunsOpen, RefusesFile, RunsFile, place_in}
+use Rattle.eo_run.specs.declared.Next.{Next}
+use Rattle.eo_run.specs.declared.Next.TheVariants as next
+use Rattle.eo_run.specs.declared.Verdict.{Verdict}
+use Rattle.eo_run.specs.Verdict.{Refusal}
+use Rattle.eo_run.specs.declared.opening.Source.{Source}
+use Rattle.eo_run.proofs.Pieces.{stops-weaker}
+
+-- ---- numbers of paths
+
+get_more : {X : Type 0} (xs ys : List X) (i : ℕ) (x : X) → slice_get xs i ≡ Some x → slice_get (xs ++ ys) i ≡ Some x
+get_more [] ys i x e = absurd (none-some x e)
+get_more (y ∷ xs) ys zero x e = e
+get_more (y ∷ xs) ys (suc i) x e = get_more xs ys i x e
+
+-- a path keeps its number
+pub numbered-later : (old new : List (List ℕ)) (i : ℕ) (path : List ℕ) → Extends old new → slice_get old i ≡ Some path → slice_get new i ≡ Some path
+numbered-later old new i path h e = subst (λ (ps : List (List ℕ)). slice_get ps i ≡ Some path) (sym h.1) (get_more old h.0 i path e)
+
+pub denotes-here : (paths : List (List ℕ)) (s : Source) (name : FaultName) (at : Spot) → IsNumbered paths s → Denotes paths (record { name = name; place = place_in s at }) (refusal_at s.path.now at name)
+denotes-here paths s name at h = record { name = refl; file = h; line = refl; offset = refl }
+
+-- the file of a refusal is one of the paths
+pub placed-in : (paths : List (List ℕ)) (s : Source) → IsNumbered paths s → IsSome (slice_get paths (number_of s.from))
+placed-in paths s h = ap is_some h
+
+-- ---- what opening a file tells
+
+pub absent-is : (told : Option Files) (path : List ℕ) (b n : ℕ) → OpenHasCause opened.Absent told path b n → Told told (λ files. file_at files path ≡ None)
+absent-is None path b n h = λ files k. absurd (none-some files k)
+absent-is (Some fs) path b n h = λ files k. subst (λ (f : Files). file_at f path ≡ None) (same_Some fs files k) h
+
+-- the answer for a file that is there
+abbrev pub as_found : Result Spot Verdict → Result (Option Spot) Verdict
+as_found (Ok at) = Ok (Some at)
+as_found (Err v) = Err v
+
+pub ready-runs : (told : Option Files) (s : Source) (r : Result Spot Verdict) (old new : Progress) (paths : List (List ℕ)) (before mid : List Rest) → Opens opened.Ready told s.path.now before mid → RunsOpen told s r old new paths mid → RunsFile told s (as_found r) old new paths
+ready-runs None s (Ok at) old new paths before mid o h = λ files k. absurd (none-some files k)
+ready-runs None s (Err v) old new paths before mid o h = λ files k. absurd (none-some files k)
+ready-runs (Some fs) s (Ok at) old new paths before mid o h = λ files k.
+    (o.0, subst (λ (f : Files). file_at f s.path.now ≡ Some o.0) (same_Some fs files k) o.1, (subst (λ (m : List Rest). RunsOpen (Some fs) s (Ok at) old new paths m) o.2 h) files k)
+ready-runs (Some fs) s (Err v) old new paths before mid o h = λ files k.
+    stops-weaker (λ (refusal : Refusal). run_source files s (commands_of s.wrapped o.0) old ≡ Err refusal) (RefusesFile files s old) paths v
+    (λ refusal e. (o.0, subst (λ (f : Files). file_at f s.path.now ≡ Some o.0) (same_Some fs files k) o.1, e))
+    ((subst (λ (m : List Rest). RunsOpen (Some fs) s (Err v) old new paths m) o.2 h) files k)
+
+-- as many files are open
+pub passes-length : (before after : List Rest) (bytes : List ℕ) → Passes before bytes after → length after ≡ length before
+passes-length [] after bytes p = absurd p
+passes-length (None ∷ others) after bytes p = ap length p.1
+passes-length (Some file ∷ others) after bytes p = ap length p.2
+
+-- a file that was opened is the last of those that are open
+pub stays-closed : (told : Option Files) (path : List ℕ) (before mid after last : List Rest) → Opens opened.Ready told path before mid → StaysOpen mid after → (rest : Rest) → after ≡ rest ∷ last → last ≡ before
+stays-closed None path before mid after last o h rest e = same_tail o.0 before (subst (λ (m : List Rest). StaysOpen m after) o.1 h) rest last e
+  where
+    same_tail : (first : Rest) (others : List Rest) → StaysOpen (first ∷ others) after → (rest : Rest) (last : List Rest) → after ≡ rest ∷ last → last ≡ others
+    same_tail first others k rest last e = let both = sym e ∙ k.1 in cc both
+stays-closed (Some fs) path before mid after last o h rest e = same_tail (Some o.0) before (subst (λ (m : List Rest). StaysOpen m after) o.2 h) rest last e
+  where
+    same_tail : (first : Rest) (others : List Rest) → StaysOpen (first ∷ others) after → (rest : Rest) (last : List Rest) → after ≡ rest ∷ last → last ≡ others
+    same_tail first others k rest last e = let both = sym e ∙ k.1 in cc both
+
+-- ---- what asks for nothing
+
+module _ (told : Option Files) (s : Source) (at : Spot) (p : Progress) (paths : List (List ℕ)) (x : Unit {0}) where
+  module _ (left : ℕ) (e : s.opens ≡ suc left) where
+    pub opens-done : opening.Opens told s at next.Done (Ok x) p p paths
+    unfolding open_file
+    opens-done = λ files k. ap (λ n. opener_of files n s.path.now (origin_of s.from) at next.Done p) e
+
+    pub opens-exit : opening.Opens told s at next.Exit (Ok x) p p paths
+    unfolding open_file
+    opens-exit = λ files k. ap (λ n. opener_of files n s.path.now (origin_of s.from) at next.Exit p) e
+
+-- ---- a reference file that may not begin
+
+-- its fault is none of an absent file
+pub begin-present : (st : State) (name : FaultName) → begin_reference st ≡ Err name → name ≢ FileAbsent
+unfolding begin_reference
+begin-present st name e a = by st.has_reference e
+  where
+    by : (b : Bool) → (if b then Err SecondReference else Ok (record st { has_reference = true })) ≡ Err name → ⊥
+    by true h = absurd (let wrong = h ∙ ap (λ n. Err n) a in cc wrong)
+    by false h = err_is_not_ok name (record st { has_reference = true }) (sym h)

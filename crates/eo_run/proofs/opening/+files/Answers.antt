@@ -1,0 +1,652 @@
+use Rattle.std.proofs.Common.{◌-◌, ℕ, List, [], true, false, length, take, drop, refl, Bool, sym, ap, subst, ◌∙◌, arith, length-take, append-nil}
+use Rattle.std.specs.Prelude.{Result, Ok, Err, Option, None, Some, IfErr}
+use Rattle.eo_base.specs.declared.FaultName.TheVariants.{IncludeDepth, FileAbsent, FileLong}
+use Rattle.eo_io.specs.Library.{Rest}
+use Rattle.eo_sexp.specs.Spot.{Spot}
+use Rattle.eo_sexp.specs.Texts.{Ends}
+use Rattle.eo_sexp.specs.Collecting.{here_of}
+use Rattle.eo_run.specs.Answer.{Denotes, AnswerHasCause}
+use Rattle.eo_run.specs.Numbered.{origin_of, number_of}
+use Rattle.eo_run.specs.Progress.{progress_of}
+use Rattle.eo_run.specs.Reading.{progress, behind, at_end, LeadsOn, ChecksPiece, ChecksEnd, IsAsked, IsAskedAtEnd, IsFed, IsEnded}
+use Rattle.eo_run.specs.Run.{refusal_at}
+use Rattle.eo_run.specs.Opening.{IsNumbered, LeadsIn, Told, IsStop, IsRead, IsTaken, IsLeft, Opens, StaysOpen, TakesPiece, TakesEnd, RunsOpen, RunsFile, place_in}
+use Rattle.eo_run.specs.declared.Next.{Next}
+use Rattle.eo_run.specs.declared.Next.TheVariants as next
+use Rattle.eo_run.specs.declared.Origin.TheVariants as code
+use Rattle.eo_run.specs.declared.Verdict.{Verdict}
+use Rattle.eo_run.specs.declared.opening.Source.{Source}
+use Rattle.eo_run.specs.declared.reading.Asked.{Asked}
+use Rattle.eo_run.specs.declared.reading.Stop.{Stop}
+use Rattle.eo_run.proofs.Ending.{tail_of}
+use Rattle.eo_run.proofs.Exits.{at_exit}
+use Rattle.eo_run.proofs.Taking.{opens-later, taken-later, left-later, takes-later, open-later, ends-later, goes-on, goes-behind, leaves-behind, leaves-reference, finishes-here, stops-behind, stopped-here, extends-trans, stays-trans, reads-trans, stays-length, one-less, include-unfolded, refer-unfolded, refer-unbegun, unbegun-present, found-is, includes-again, includes-deep, includes-absent, includes-runs, includes-stops, refers-absent, refers-runs, refers-stops}
+use Rattle.eo_run.proofs.Numbers.{numbered-later, denotes-here, placed-in, ready-runs, opens-done, opens-exit}
+use Rattle.eo_run.proofs.Pieces.{reads-nothing, reads-piece, has_room, front-is, piece-is, stops-open, left-open, long-open, ends-open, stays-read}
+use Rattle.eo_run.proofs.opening.+files.Goals as goal
+
+-- ---- the commands of a piece
+
+pub take_piece-returns-in-Err-clause-takes : goal.take_piece-returns-in-Err-clause-takes
+take_piece-returns-in-Err-clause-takes g t c =
+    let s = c.args.source.now in
+    let i = c.commands.invariant in
+    let st = c.commands.run.session.state in
+    let new = c.check_piece.new.session.state in
+    let rest = c.commands.rest.now in
+    let d = c.check_piece.new.collector in
+    stopped-here (g.L.Library.told c.args.files.now) s (progress_of c.args.run.now) st new c.commands.run.included (behind c.args.collector.now c.args.piece.now) (behind c.commands.collector rest) i.leads
+    c.in-Err.stop c.stopped.result c.commands.paths c.stopped.ensures i.ready.numbered (λ name at e. subst (λ (x : Stop). ChecksPiece (origin_of s.from) (Err x) st new c.commands.collector d rest) e c.in-Err.ensures.checks)
+
+pub take_piece-returns-in-Ok-None-clause-takes : goal.take_piece-returns-in-Ok-None-clause-takes
+take_piece-returns-in-Ok-None-clause-takes g t c =
+    let s = c.args.source.now in
+    let i = c.commands.invariant in
+    let st = c.commands.run.session.state in
+    let new = c.check_piece.new.session.state in
+    let rest = c.commands.rest.now in
+    let d = c.check_piece.new.collector in
+    let fed : IsFed (origin_of s.from) st new c.commands.collector d rest = subst (λ (o : Option Asked). ChecksPiece (origin_of s.from) (Ok o) st new c.commands.collector d rest) c.in-Ok-None.field-0-is c.in-Ok-None.ensures.checks in
+    record {
+      leads = goes-on (g.L.Library.told c.args.files.now) s (progress_of c.args.run.now) st new c.commands.run.included (behind c.args.collector.now c.args.piece.now) (behind c.commands.collector rest) i.leads (behind d []) fed.leads;
+      live = fed.live;
+      waiting = fed.waiting;
+      here = omega (arith, i.here, fed.here);
+    }
+
+pub take_piece-returns-in_err-open_next-in-Ok-Some-clause-takes : goal.take_piece-returns-in_err-open_next-in-Ok-Some-clause-takes
+take_piece-returns-in_err-open_next-in-Ok-Some-clause-takes g t c =
+    let s = c.args.source.now in
+    let i = c.commands.invariant in
+    let told = g.L.Library.told c.args.files.now in
+    let old = progress_of c.args.run.now in
+    let st = c.commands.run.session.state in
+    let new = c.check_piece.new.session.state in
+    let included = c.commands.run.included in
+    let last = progress_of c.open_next.new.run in
+    let rest = c.commands.rest.now in
+    let d = c.check_piece.new.collector in
+    let a = c.in-Ok-Some.asked in
+    let asked : IsAsked (origin_of s.from) st new c.commands.collector d rest a = subst (λ (o : Option Asked). ChecksPiece (origin_of s.from) (Ok o) st new c.commands.collector d rest) c.in-Ok-Some.field-0-is c.in-Ok-Some.ensures.checks in
+    let x = c.in_err-open_next-in-Ok-Some.field-0.0 in
+    at_exit (λ (r : Result Bool Verdict). TakesPiece told s r old last c.args.collector.now d c.args.piece.now c.open_next.new.paths) c.from_residual.result x c.from_residual.ensures.1
+    (stops-behind told s old st new included (behind c.args.collector.now c.args.piece.now) (behind c.commands.collector rest) i.leads (behind d (drop a.used rest)) a.next a.at asked.asks last c.open_next.new.paths x
+    (opens-later told (g.L.Library.told c.commands.files) i.stays.same s a.at a.next (Err x) (progress new included) last c.open_next.new.paths c.in_err-open_next-in-Ok-Some.ensures.opens))
+
+pub take_piece-returns-then-ends-clause-takes : goal.take_piece-returns-then-ends-clause-takes
+take_piece-returns-then-ends-clause-takes g t c =
+    let s = c.args.source.now in
+    let i = c.commands.invariant in
+    let told = g.L.Library.told c.args.files.now in
+    let old = progress_of c.args.run.now in
+    let st = c.commands.run.session.state in
+    let new = c.check_piece.new.session.state in
+    let included = c.commands.run.included in
+    let last = progress_of c.open_next.new.run in
+    let paths = c.open_next.new.paths in
+    let rest = c.commands.rest.now in
+    let d = c.check_piece.new.collector in
+    let a = c.in-Ok-Some.asked in
+    let asked : IsAsked (origin_of s.from) st new c.commands.collector d rest a = subst (λ (o : Option Asked). ChecksPiece (origin_of s.from) (Ok o) st new c.commands.collector d rest) c.in-Ok-Some.field-0-is c.in-Ok-Some.ensures.checks in
+    let ends = sym c.exits-ends.ensures ∙ c.if-ends.true in
+    let left : IsLeft told s old last c.args.collector.now c.args.piece.now = record {
+      finishes = leaves-behind told s old st new included (behind c.args.collector.now c.args.piece.now) (behind c.commands.collector rest) i.leads (behind d (drop a.used rest)) a.next a.at asked.asks last paths tt
+          (opens-later told (g.L.Library.told c.commands.files) i.stays.same s a.at a.next (Ok tt) (progress new included) last paths c.in_ok-open_next-in-Ok-Some.ensures.opens) ends;
+      reference = leaves-reference told s old st new included (behind c.args.collector.now c.args.piece.now) (behind c.commands.collector rest) i.leads (behind d (drop a.used rest)) a.next a.at asked.asks ends;
+    } in
+    left
+
+pub take_piece-commands-preserved : goal.take_piece-commands-preserved
+take_piece-commands-preserved g t c =
+    let s = c.args.source.now in
+    let i = c.commands.invariant in
+    let told = g.L.Library.told c.args.files.now in
+    let old = progress_of c.args.run.now in
+    let st = c.commands.run.session.state in
+    let new = c.check_piece.new.session.state in
+    let included = c.commands.run.included in
+    let last = progress_of c.open_next.new.run in
+    let paths = c.open_next.new.paths in
+    let rest = c.commands.rest.now in
+    let d = c.check_piece.new.collector in
+    let a = c.in-Ok-Some.asked in
+    let asked : IsAsked (origin_of s.from) st new c.commands.collector d rest a = subst (λ (o : Option Asked). ChecksPiece (origin_of s.from) (Ok o) st new c.commands.collector d rest) c.in-Ok-Some.field-0-is c.in-Ok-Some.ensures.checks in
+    let opened = c.in_ok-open_next-in-Ok-Some.ensures in
+    let tail = tail_of rest a.used in
+    record {
+      leads = subst (λ (q : List ℕ). Told told (λ files. LeadsIn files s old last (behind c.args.collector.now c.args.piece.now) (behind d q))) (sym tail)
+          (goes-behind told s old st new included (behind c.args.collector.now c.args.piece.now) (behind c.commands.collector rest) i.leads (behind d (drop a.used rest)) a.next a.at asked.asks last paths tt
+          (opens-later told (g.L.Library.told c.commands.files) i.stays.same s a.at a.next (Ok tt) (progress new included) last paths opened.opens) (sym c.exits-ends.ensures ∙ c.if-ends.false));
+      live = asked.live;
+      waiting = asked.waiting;
+      here = (let same = ap length tail in omega (arith, same, i.here, asked.here));
+      ready = record {
+        room = (let same = ap length opened.stays.closed in omega (arith, same, i.ready.room));
+        going = opened.keeps.going;
+        numbered = numbered-later c.commands.paths paths (number_of s.from) s.path.now opened.keeps.table i.ready.numbered;
+      };
+      table = extends-trans c.args.paths.now c.commands.paths paths i.table opened.keeps.table;
+      stays = stays-trans g.L.Library.told g.L.Library.open_files g.L.Library.faults c.args.files.now c.commands.files c.open_next.new.files i.stays opened.stays;
+    }
+
+-- ---- what the end makes whole
+
+pub check_rest-returns-in-Err-clause-takes : goal.check_rest-returns-in-Err-clause-takes
+check_rest-returns-in-Err-clause-takes g t c =
+    let s = c.args.source.now in
+    let i = c.atoms.invariant in
+    let st = c.atoms.run.session.state in
+    let new = c.check_end.new.session.state in
+    let d = c.check_end.new.collector in
+    stopped-here (g.L.Library.told c.args.files.now) s (progress_of c.args.run.now) st new c.atoms.run.included (at_end c.args.collector.now) (at_end c.atoms.collector) i.leads
+    c.in-Err.stop c.stopped.result c.atoms.paths c.stopped.ensures i.ready.numbered (λ name at e. subst (λ (x : Stop). ChecksEnd (origin_of s.from) (Err x) st new c.atoms.collector d) e c.in-Err.ensures.checks)
+
+pub check_rest-returns-in-Ok-None-clause-takes : goal.check_rest-returns-in-Ok-None-clause-takes
+check_rest-returns-in-Ok-None-clause-takes g t c =
+    let s = c.args.source.now in
+    let i = c.atoms.invariant in
+    let st = c.atoms.run.session.state in
+    let new = c.check_end.new.session.state in
+    let d = c.check_end.new.collector in
+    let ended : IsEnded (origin_of s.from) st new c.atoms.collector d = subst (λ (o : Option Asked). ChecksEnd (origin_of s.from) (Ok o) st new c.atoms.collector d) c.in-Ok-None.field-0-is c.in-Ok-None.ensures.checks in
+    let at = c.here.result in
+    finishes-here (g.L.Library.told c.args.files.now) s (progress_of c.args.run.now) st new c.atoms.run.included (at_end c.args.collector.now) (at_end c.atoms.collector) i.leads at
+    (subst (λ (p : Spot). LeadsOn (origin_of s.from) st (at_end c.atoms.collector) new (λ closes more. Ends p)) (sym (c.here.ensures ended.live)) ended.leads)
+
+pub check_rest-returns-in_err-open_next-in-Ok-Some-clause-takes : goal.check_rest-returns-in_err-open_next-in-Ok-Some-clause-takes
+check_rest-returns-in_err-open_next-in-Ok-Some-clause-takes g t c =
+    let s = c.args.source.now in
+    let i = c.atoms.invariant in
+    let told = g.L.Library.told c.args.files.now in
+    let old = progress_of c.args.run.now in
+    let st = c.atoms.run.session.state in
+    let new = c.check_end.new.session.state in
+    let included = c.atoms.run.included in
+    let last = progress_of c.open_next.new.run in
+    let d = c.check_end.new.collector in
+    let a = c.in-Ok-Some.asked in
+    let asked : IsAskedAtEnd (origin_of s.from) st new c.atoms.collector d a = subst (λ (o : Option Asked). ChecksEnd (origin_of s.from) (Ok o) st new c.atoms.collector d) c.in-Ok-Some.field-0-is c.in-Ok-Some.ensures.checks in
+    let x = c.in_err-open_next-in-Ok-Some.field-0.0 in
+    at_exit (λ (r : Result Spot Verdict). TakesEnd told s r old last c.args.collector.now c.open_next.new.paths) c.from_residual.result x c.from_residual.ensures.1
+    (stops-behind told s old st new included (at_end c.args.collector.now) (at_end c.atoms.collector) i.leads (at_end d) a.next a.at asked.asks last c.open_next.new.paths x
+    (opens-later told (g.L.Library.told c.atoms.files) i.stays.same s a.at a.next (Err x) (progress new included) last c.open_next.new.paths c.in_err-open_next-in-Ok-Some.ensures.opens))
+
+pub check_rest-returns-then-ends-clause-takes : goal.check_rest-returns-then-ends-clause-takes
+check_rest-returns-then-ends-clause-takes g t c =
+    let s = c.args.source.now in
+    let i = c.atoms.invariant in
+    let told = g.L.Library.told c.args.files.now in
+    let old = progress_of c.args.run.now in
+    let st = c.atoms.run.session.state in
+    let new = c.check_end.new.session.state in
+    let included = c.atoms.run.included in
+    let last = progress_of c.open_next.new.run in
+    let paths = c.open_next.new.paths in
+    let d = c.check_end.new.collector in
+    let a = c.in-Ok-Some.asked in
+    let asked : IsAskedAtEnd (origin_of s.from) st new c.atoms.collector d a = subst (λ (o : Option Asked). ChecksEnd (origin_of s.from) (Ok o) st new c.atoms.collector d) c.in-Ok-Some.field-0-is c.in-Ok-Some.ensures.checks in
+    let ends = sym c.exits-ends.ensures ∙ c.if-ends.true in
+    let finishes = leaves-behind told s old st new included (at_end c.args.collector.now) (at_end c.atoms.collector) i.leads (at_end d) a.next a.at asked.asks last paths tt
+    (opens-later told (g.L.Library.told c.atoms.files) i.stays.same s a.at a.next (Ok tt) (progress new included) last paths c.in_ok-open_next-in-Ok-Some.ensures.opens) ends in
+    let reference = leaves-reference told s old st new included (at_end c.args.collector.now) (at_end c.atoms.collector) i.leads (at_end d) a.next a.at asked.asks ends in
+    λ files k. (finishes files k, λ other. absurd (other reference))
+
+pub check_rest-atoms-preserved : goal.check_rest-atoms-preserved
+check_rest-atoms-preserved g t c =
+    let s = c.args.source.now in
+    let i = c.atoms.invariant in
+    let told = g.L.Library.told c.args.files.now in
+    let old = progress_of c.args.run.now in
+    let st = c.atoms.run.session.state in
+    let new = c.check_end.new.session.state in
+    let included = c.atoms.run.included in
+    let last = progress_of c.open_next.new.run in
+    let paths = c.open_next.new.paths in
+    let d = c.check_end.new.collector in
+    let a = c.in-Ok-Some.asked in
+    let asked : IsAskedAtEnd (origin_of s.from) st new c.atoms.collector d a = subst (λ (o : Option Asked). ChecksEnd (origin_of s.from) (Ok o) st new c.atoms.collector d) c.in-Ok-Some.field-0-is c.in-Ok-Some.ensures.checks in
+    let opened = c.in_ok-open_next-in-Ok-Some.ensures in
+    record {
+      leads = goes-behind told s old st new included (at_end c.args.collector.now) (at_end c.atoms.collector) i.leads (at_end d) a.next a.at asked.asks last paths tt
+          (opens-later told (g.L.Library.told c.atoms.files) i.stays.same s a.at a.next (Ok tt) (progress new included) last paths opened.opens) (sym c.exits-ends.ensures ∙ c.if-ends.false);
+      live = asked.live;
+      waiting = asked.waiting;
+      ready = record {
+        room = (let same = ap length opened.stays.closed in omega (arith, same, i.ready.room));
+        going = opened.keeps.going;
+        numbered = numbered-later c.atoms.paths paths (number_of s.from) s.path.now opened.keeps.table i.ready.numbered;
+      };
+      table = extends-trans c.args.paths.now c.atoms.paths paths i.table opened.keeps.table;
+      stays = stays-trans g.L.Library.told g.L.Library.open_files g.L.Library.faults c.args.files.now c.atoms.files c.open_next.new.files i.stays opened.stays;
+    }
+
+-- ---- what a command asks for
+
+pub open_next-returns-in_err-file-in-Include-clause-opens : goal.open_next-returns-in_err-file-in-Include-clause-opens
+open_next-returns-in_err-file-in-Include-clause-opens g t c =
+    let s = c.args.source.now in
+    let told = g.L.Library.told c.args.files.now in
+    let p = progress_of c.args.run.now in
+    let paths = c.args.paths.now in
+    let x = c.in_err-file-in-Include.field-0.0 in
+    let r = c.from_residual.result in
+    subst (λ (n : Next). Opens told s c.args.at n r p p paths) (sym c.in-Include.is)
+    (at_exit (λ (r : Result (Unit {0}) Verdict). Opens told s c.args.at (next.Include c.in-Include.name) r p p paths) r x c.from_residual.ensures.1
+    (include-unfolded told s (s.opens - 1) (one-less s.opens c.if-source-eq0.false) c.args.at p p paths c.requires.ready.numbered c.in-Include.name x c.in_err-file-in-Include.ensures))
+
+pub open_next-returns-in_err-file-in-Reference-clause-opens : goal.open_next-returns-in_err-file-in-Reference-clause-opens
+open_next-returns-in_err-file-in-Reference-clause-opens g t c =
+    let s = c.args.source.now in
+    let told = g.L.Library.told c.args.files.now in
+    let p = progress_of c.args.run.now in
+    let paths = c.args.paths.now in
+    let x = c.in_err-file-in-Reference.field-0.0 in
+    let r = c.from_residual-in_err-file-in-Reference.result in
+    subst (λ (n : Next). Opens told s c.args.at n r p p paths) (sym c.in-Reference.is)
+    (at_exit (λ (r : Result (Unit {0}) Verdict). Opens told s c.args.at (next.Reference c.in-Reference.name) r p p paths) r x c.from_residual-in_err-file-in-Reference.ensures.1
+    (refer-unfolded told s (s.opens - 1) (one-less s.opens c.if-source-eq0.false) c.args.at p p paths c.requires.ready.numbered c.in-Reference.name x c.in_err-file-in-Reference.ensures))
+
+pub open_next-returns-in-Done-clause-opens : goal.open_next-returns-in-Done-clause-opens
+open_next-returns-in-Done-clause-opens g t c =
+    let s = c.args.source.now in
+    let told = g.L.Library.told c.args.files.now in
+    let p = progress_of c.args.run.now in
+    subst (λ (n : Next). Opens told s c.args.at n (Ok tt) p p c.args.paths.now) (sym c.in-Done.is) (opens-done told s c.args.at p c.args.paths.now tt (s.opens - 1) (one-less s.opens c.if-source-eq0.false))
+
+pub open_next-returns-in-Exit-clause-opens : goal.open_next-returns-in-Exit-clause-opens
+open_next-returns-in-Exit-clause-opens g t c =
+    let s = c.args.source.now in
+    let told = g.L.Library.told c.args.files.now in
+    let p = progress_of c.args.run.now in
+    subst (λ (n : Next). Opens told s c.args.at n (Ok tt) p p c.args.paths.now) (sym c.in-Exit.is) (opens-exit told s c.args.at p c.args.paths.now tt (s.opens - 1) (one-less s.opens c.if-source-eq0.false))
+
+-- ---- a file that is included
+
+pub include-returns-then-is_some-clause-includes : goal.include-returns-then-is_some-clause-includes
+include-returns-then-is_some-clause-includes g t c = λ name folds.
+    let s = c.args.source.now in
+    let file = c.args.file.now in
+    includes-again (g.L.Library.told c.args.files.now) s (s.opens - 1) (omega (arith, c.requires.opens)) c.args.at name (progress_of c.args.run.now) c.args.paths.now file folds tt
+    (found-is c.args.run.now.included file c.find.result true c.find.ensures (sym c.is_some.ensures ∙ c.if-is_some.true))
+
+pub include-returns-then-source-eq1-clause-includes : goal.include-returns-then-source-eq1-clause-includes
+include-returns-then-source-eq1-clause-includes g t c = λ name folds.
+    let s = c.args.source.now in
+    let told = g.L.Library.told c.args.files.now in
+    let file = c.args.file.now in
+    let p = progress_of c.args.run.now in
+    let paths = c.args.paths.now in
+    let at = c.args.at in
+    let new = found-is c.args.run.now.included file c.find.result false c.find.ensures (sym c.is_some.ensures ∙ c.if-is_some.false) in
+    subst (λ (v : Verdict). Opens told s at (next.Include name) (Err v) p p paths) (sym c.refused.ensures)
+    (includes-deep told s (s.opens - 1) (omega (arith, c.requires.opens)) at name p paths file folds new (record { name = IncludeDepth; place = place_in s at }) p (omega (arith, c.if-source-eq1.true)) (denotes-here paths s IncludeDepth at c.requires.ready.numbered))
+
+pub include-returns-in-Ok-Some-clause-includes : goal.include-returns-in-Ok-Some-clause-includes
+include-returns-in-Ok-Some-clause-includes g t c = λ name folds.
+    let s = c.args.source.now in
+    let told = g.L.Library.told c.args.files.now in
+    let file = c.args.file.now in
+    let p = progress_of c.args.run.now in
+    let last = progress_of c.check_file.new.run in
+    let paths = c.check_file.new.paths in
+    let new = found-is c.args.run.now.included file c.find.result false c.find.ensures (sym c.is_some.ensures ∙ c.if-is_some.false) in
+    let i : Source = record { path = c.args.file; from = c.in_file.result; wrapped = false; opens = s.opens - 1 } in
+    let end = c.in-Ok-Some.field-0-0 in
+    let runs : RunsFile told i (Ok (Some end)) (progress p.state c.add.new.self) last paths = subst (λ (o : Option Spot). RunsFile told i (Ok o) (progress p.state c.add.new.self) last paths) c.in-Ok-Some.field-0-is c.in-Ok-Some.ensures.runs in
+    includes-runs told s (s.opens - 1) (omega (arith, c.requires.opens)) c.args.at name p paths file folds new (s.opens - 2) (omega (arith, c.requires.opens, c.if-source-eq1.false)) i refl c.in_file.ensures.same refl refl end tt last
+    (subst (λ (ps : List (List ℕ)). RunsFile told i (Ok (Some end)) (progress p.state ps) last paths) c.in-Ok.ensures.table runs)
+
+pub include-returns-in-Ok-None-clause-includes : goal.include-returns-in-Ok-None-clause-includes
+include-returns-in-Ok-None-clause-includes g t c = λ name folds.
+    let s = c.args.source.now in
+    let told = g.L.Library.told c.args.files.now in
+    let file = c.args.file.now in
+    let p = progress_of c.args.run.now in
+    let last = progress_of c.check_file.new.run in
+    let paths = c.check_file.new.paths in
+    let at = c.args.at in
+    let new = found-is c.args.run.now.included file c.find.result false c.find.ensures (sym c.is_some.ensures ∙ c.if-is_some.false) in
+    let i : Source = record { path = c.args.file; from = c.in_file.result; wrapped = false; opens = s.opens - 1 } in
+    let runs : RunsFile told i (Ok None) (progress p.state c.add.new.self) last paths = subst (λ (o : Option Spot). RunsFile told i (Ok o) (progress p.state c.add.new.self) last paths) c.in-Ok-None.field-0-is c.in-Ok-None.ensures.runs in
+    let added : IsNumbered c.add-2.new.self s = numbered-later c.args.paths.now c.add-2.new.self (number_of s.from) s.path.now c.in-Ok-add.ensures.grows c.requires.ready.numbered in
+    let here : IsNumbered paths s = numbered-later c.add-2.new.self paths (number_of s.from) s.path.now c.in-Ok-None.ensures.keeps.table added in
+    subst (λ (v : Verdict). Opens told s at (next.Include name) (Err v) p last paths) (sym c.refused-in-Ok-None.ensures)
+    (includes-absent told s (s.opens - 1) (omega (arith, c.requires.opens)) at name p paths file folds new (s.opens - 2) (omega (arith, c.requires.opens, c.if-source-eq1.false)) i refl c.in_file.ensures.same refl refl (record { name = FileAbsent; place = place_in s at }) last last
+    (subst (λ (ps : List (List ℕ)). RunsFile told i (Ok None) (progress p.state ps) last paths) c.in-Ok.ensures.table runs) (denotes-here paths s FileAbsent at here))
+
+pub include-returns-in-Ok-None-clause-keeps : goal.include-returns-in-Ok-None-clause-keeps
+include-returns-in-Ok-None-clause-keeps g t c =
+    let s = c.args.source.now in
+    let paths = c.check_file.new.paths in
+    let later = c.in-Ok-None.ensures.keeps.table in
+    let added : IsNumbered c.add-2.new.self s = numbered-later c.args.paths.now c.add-2.new.self (number_of s.from) s.path.now c.in-Ok-add.ensures.grows c.requires.ready.numbered in
+    record {
+      going = tt;
+      kind = subst (IsStop paths) (sym c.refused-in-Ok-None.ensures) (placed-in paths s (numbered-later c.add-2.new.self paths (number_of s.from) s.path.now later added));
+      table = extends-trans c.args.paths.now c.add-2.new.self paths c.in-Ok-add.ensures.grows later;
+    }
+
+pub include-returns-in-Err-clause-includes : goal.include-returns-in-Err-clause-includes
+include-returns-in-Err-clause-includes g t c = λ name folds.
+    let s = c.args.source.now in
+    let told = g.L.Library.told c.args.files.now in
+    let file = c.args.file.now in
+    let p = progress_of c.args.run.now in
+    let last = progress_of c.check_file.new.run in
+    let paths = c.check_file.new.paths in
+    let new = found-is c.args.run.now.included file c.find.result false c.find.ensures (sym c.is_some.ensures ∙ c.if-is_some.false) in
+    let i : Source = record { path = c.args.file; from = c.in_file.result; wrapped = false; opens = s.opens - 1 } in
+    includes-stops told s (s.opens - 1) (omega (arith, c.requires.opens)) c.args.at name p paths file folds new (s.opens - 2) (omega (arith, c.requires.opens, c.if-source-eq1.false)) i refl c.in_file.ensures.same refl refl c.in-Err.stop last
+    (subst (λ (ps : List (List ℕ)). RunsFile told i (Err c.in-Err.stop) (progress p.state ps) last paths) c.in-Ok.ensures.table c.in-Err.ensures.runs)
+
+-- ---- a reference file
+
+pub refer-returns-in_err-begin-clause-refers : goal.refer-returns-in_err-begin-clause-refers
+refer-returns-in_err-begin-clause-refers g t c = λ name folds.
+    let s = c.args.source.now in
+    let told = g.L.Library.told c.args.files.now in
+    let p = progress_of c.args.run.now in
+    let last = progress c.begin.new.session.state c.args.run.now.included in
+    let x = c.in_err-begin.field-0.0 in
+    at_exit (λ (r : Result (Unit {0}) Verdict). Opens told s c.args.at (next.Reference name) r p last c.args.paths.now) c.from_residual.result x c.from_residual.ensures.1
+    (refer-unbegun told s (s.opens - 1) (omega (arith, c.requires.opens)) c.args.at p last c.args.paths.now c.requires.ready.numbered name c.args.file.now folds x c.begin.new.session.state c.in_err-begin.ensures.begins)
+
+pub refer-returns-in_err-begin-clause-cause : goal.refer-returns-in_err-begin-clause-cause
+refer-returns-in_err-begin-clause-cause g t c =
+    let told = g.L.Library.told c.args.files.now in
+    let n = g.L.Library.faults c.args.files.now in
+    let x = c.in_err-begin.field-0.0 in
+    at_exit (λ (r : Result (Unit {0}) Verdict). IfErr r (λ v. AnswerHasCause v told n n)) c.from_residual.result x c.from_residual.ensures.1
+    (unbegun-present told c.args.source.now c.args.at x c.args.run.now.session.state c.begin.new.session.state n n c.in_err-begin.ensures.begins)
+
+pub refer-returns-in-Ok-Some-clause-refers : goal.refer-returns-in-Ok-Some-clause-refers
+refer-returns-in-Ok-Some-clause-refers g t c = λ name folds.
+    let s = c.args.source.now in
+    let told = g.L.Library.told c.args.files.now in
+    let p = progress_of c.args.run.now in
+    let last = progress_of c.check_file.new.run in
+    let paths = c.check_file.new.paths in
+    let st = c.begin.new.session.state in
+    let i : Source = record { path = c.args.file; from = code.Reference c.in-Ok.number; wrapped = false; opens = 0 } in
+    let end = c.in-Ok-Some.field-0-0 in
+    refers-runs told s (s.opens - 1) (omega (arith, c.requires.opens)) c.args.at name p paths c.args.file.now folds st c.in_ok-begin.ensures.begins i refl refl refl refl end tt last
+    (subst (λ (o : Option Spot). RunsFile told i (Ok o) (progress st p.included) last paths) c.in-Ok-Some.field-0-is c.in-Ok-Some.ensures.runs)
+
+pub refer-returns-in-Ok-None-clause-refers : goal.refer-returns-in-Ok-None-clause-refers
+refer-returns-in-Ok-None-clause-refers g t c = λ name folds.
+    let s = c.args.source.now in
+    let told = g.L.Library.told c.args.files.now in
+    let p = progress_of c.args.run.now in
+    let last = progress_of c.check_file.new.run in
+    let paths = c.check_file.new.paths in
+    let at = c.args.at in
+    let st = c.begin.new.session.state in
+    let i : Source = record { path = c.args.file; from = code.Reference c.in-Ok.number; wrapped = false; opens = 0 } in
+    let added : IsNumbered c.add.new.self s = numbered-later c.args.paths.now c.add.new.self (number_of s.from) s.path.now c.in-Ok.ensures.grows c.requires.ready.numbered in
+    let here : IsNumbered paths s = numbered-later c.add.new.self paths (number_of s.from) s.path.now c.in-Ok-None.ensures.keeps.table added in
+    subst (λ (v : Verdict). Opens told s at (next.Reference name) (Err v) p last paths) (sym c.refused.ensures)
+    (refers-absent told s (s.opens - 1) (omega (arith, c.requires.opens)) at name p paths c.args.file.now folds st c.in_ok-begin.ensures.begins i refl refl refl refl (record { name = FileAbsent; place = place_in s at }) last last
+    (subst (λ (o : Option Spot). RunsFile told i (Ok o) (progress st p.included) last paths) c.in-Ok-None.field-0-is c.in-Ok-None.ensures.runs) (denotes-here paths s FileAbsent at here))
+
+pub refer-returns-in-Ok-None-clause-keeps : goal.refer-returns-in-Ok-None-clause-keeps
+refer-returns-in-Ok-None-clause-keeps g t c =
+    let s = c.args.source.now in
+    let paths = c.check_file.new.paths in
+    let later = c.in-Ok-None.ensures.keeps.table in
+    let added : IsNumbered c.add.new.self s = numbered-later c.args.paths.now c.add.new.self (number_of s.from) s.path.now c.in-Ok.ensures.grows c.requires.ready.numbered in
+    record {
+      going = tt;
+      kind = subst (IsStop paths) (sym c.refused.ensures) (placed-in paths s (numbered-later c.add.new.self paths (number_of s.from) s.path.now later added));
+      table = extends-trans c.args.paths.now c.add.new.self paths c.in-Ok.ensures.grows later;
+    }
+
+pub refer-returns-in-Err-clause-refers : goal.refer-returns-in-Err-clause-refers
+refer-returns-in-Err-clause-refers g t c = λ name folds.
+    let s = c.args.source.now in
+    let i : Source = record { path = c.args.file; from = code.Reference c.in-Ok.number; wrapped = false; opens = 0 } in
+    refers-stops (g.L.Library.told c.args.files.now) s (s.opens - 1) (omega (arith, c.requires.opens)) c.args.at name (progress_of c.args.run.now) c.check_file.new.paths c.args.file.now folds c.begin.new.session.state c.in_ok-begin.ensures.begins i refl refl refl refl
+    c.in-Err.verdict (progress_of c.check_file.new.run) c.in-Err.ensures.runs
+
+-- ---- a file
+
+pub check_file-returns-in-Ok-clause-runs : goal.check_file-returns-in-Ok-clause-runs
+check_file-returns-in-Ok-clause-runs g t c =
+    let s = c.args.source.now in
+    let told = g.L.Library.told c.args.files.now in
+    let old = progress_of c.args.run.now in
+    let new = progress_of c.check_open-end.new.run in
+    let paths = c.check_open-end.new.paths in
+    let mid = g.L.Library.open_files c.open.new.self in
+    ready-runs told s (Ok c.in-Ok.at) old new paths (g.L.Library.open_files c.args.files.now) mid c.in-Ready.ensures.opens
+    (open-later told (g.L.Library.told c.open.new.self) c.in-Ready.ensures.same s (Ok c.in-Ok.at) old new paths mid c.in-Ok.ensures.runs)
+
+pub check_pieces-pieces-init : goal.check_pieces-pieces-init
+check_pieces-pieces-init g t c =
+    let p = progress_of c.args.run.now in
+    record {
+      read = reads-nothing c.answers_law.ensures (g.L.Library.told c.args.files.now) c.args.source.now p c.args.collector.now 1099511627776 (g.L.Library.open_files c.args.files.now) c.requires.open refl c.requires.collector;
+      ready = c.requires.ready;
+      table = ([], sym (append-nil c.args.paths.now));
+      same = refl;
+      later = omega arith;
+    }
+
+pub check_pieces-returns-then-n-eq0-clause-runs : goal.check_pieces-returns-then-n-eq0-clause-runs
+check_pieces-returns-then-n-eq0-clause-runs g t c =
+    let s = c.args.source.now in
+    let i = c.pieces.invariant in
+    let told = g.L.Library.told c.args.files.now in
+    let st = progress_of c.pieces.run in
+    let last = progress_of c.check_rest.new.run in
+    let paths = c.check_rest.new.paths in
+    ends-open c.pieces_law.ensures c.answers_law.ensures told s (progress_of c.args.run.now) st last c.pieces.collector c.pieces.left c.in-Bytes.n c.read.new.buf (g.L.Library.open_files c.args.files.now) (g.L.Library.open_files c.pieces.files) (g.L.Library.open_files c.read.new.self) paths
+    i.read c.in-Bytes.ensures.reads c.if-n-eq0.true c.check_rest.result
+    (ends-later told (g.L.Library.told c.read.new.self) (c.in-Bytes.ensures.same ∙ i.same) s c.check_rest.result st last c.pieces.collector paths c.check_rest.ensures.takes)
+
+pub check_pieces-take_piece-requires : goal.check_pieces-take_piece-requires
+check_pieces-take_piece-requires g t c κs within =
+    let s = c.args.source.now in
+    let i = c.pieces.invariant in
+    let before = g.L.Library.open_files c.args.files.now in
+    let mid = g.L.Library.open_files c.pieces.files in
+    let after = g.L.Library.open_files c.read.new.self in
+    let same = stays-length before after (stays-read c.in-Bytes.n c.read.new.buf before mid after i.read.bytes i.read.passes c.in-Bytes.ensures.reads) in
+    let room = has_room (g.L.Library.told c.args.files.now) s (progress_of c.args.run.now) (progress_of c.pieces.run) c.pieces.collector c.pieces.left before mid (take c.pieces.left c.read.new.buf) i.read (omega (arith, length-take c.pieces.left c.read.new.buf)) in
+    (omega arith, (within, (record { room = omega (arith, same, c.requires.ready.room); going = i.ready.going; numbered = i.ready.numbered }, (i.read.taken.live, (i.read.taken.waiting, room)))))
+
+pub check_pieces-returns-in_err-take_piece-clause-runs : goal.check_pieces-returns-in_err-take_piece-clause-runs
+check_pieces-returns-in_err-take_piece-clause-runs g t c =
+    let s = c.args.source.now in
+    let i = c.pieces.invariant in
+    let told = g.L.Library.told c.args.files.now in
+    let old = progress_of c.args.run.now in
+    let st = progress_of c.pieces.run in
+    let last = progress_of c.take_piece.new.run in
+    let paths = c.take_piece.new.paths in
+    let d = c.take_piece.new.collector in
+    let left = c.pieces.left in
+    let n = c.in-Bytes.n in
+    let p = take left c.read.new.buf in
+    let x = c.in_err-take_piece.field-0.0 in
+    let before = g.L.Library.open_files c.args.files.now in
+    let mid = g.L.Library.open_files c.pieces.files in
+    let after = g.L.Library.open_files c.read.new.self in
+    at_exit (λ (r : Result Spot Verdict). RunsOpen told s r old last paths before) c.from_residual.result x c.from_residual.ensures.1
+    (stops-open c.pieces_law.ensures told s old st last c.pieces.collector left left p before mid paths i.read (λ rest others e. front-is left n c.read.new.buf mid after rest others c.in-Bytes.ensures.reads (omega (arith, c.if-n-left.true)) e) (omega arith) x
+    (takes-later told (g.L.Library.told c.read.new.self) (c.in-Bytes.ensures.same ∙ i.same) s (Err x) st last c.pieces.collector d p paths c.in_err-take_piece.ensures.takes))
+
+pub check_pieces-returns-in_err-take_piece-clause-reads : goal.check_pieces-returns-in_err-take_piece-clause-reads
+check_pieces-returns-in_err-take_piece-clause-reads g t c =
+    let i = c.pieces.invariant in
+    let before = g.L.Library.open_files c.args.files.now in
+    let after = g.L.Library.open_files c.read.new.self in
+    reads-trans g.L.Library.told g.L.Library.open_files g.L.Library.faults c.args.files.now c.read.new.self c.take_piece.new.files (c.in-Bytes.ensures.same ∙ i.same)
+    (stays-read c.in-Bytes.n c.read.new.buf before (g.L.Library.open_files c.pieces.files) after i.read.bytes i.read.passes c.in-Bytes.ensures.reads) (omega (arith, c.in-Bytes.ensures.later, i.later)) c.in_err-take_piece.ensures.stays
+
+pub check_pieces-returns-then-branch-clause-runs : goal.check_pieces-returns-then-branch-clause-runs
+check_pieces-returns-then-branch-clause-runs g t c =
+    let s = c.args.source.now in
+    let i = c.pieces.invariant in
+    let told = g.L.Library.told c.args.files.now in
+    let old = progress_of c.args.run.now in
+    let st = progress_of c.pieces.run in
+    let last = progress_of c.take_piece.new.run in
+    let paths = c.take_piece.new.paths in
+    let d = c.take_piece.new.collector in
+    let left = c.pieces.left in
+    let p = take left c.read.new.buf in
+    let at = c.here.result in
+    let before = g.L.Library.open_files c.args.files.now in
+    let taken : IsTaken told s st last c.pieces.collector d p = taken-later told (g.L.Library.told c.read.new.self) (c.in-Bytes.ensures.same ∙ i.same) s st last c.pieces.collector d p (subst (λ (b : Bool). TakesPiece (g.L.Library.told c.read.new.self) s (Ok b) st last c.pieces.collector d p paths) c.if-branch.true c.in_ok-take_piece.ensures.takes) in
+    let here : IsNumbered paths s = numbered-later c.pieces.paths paths (number_of s.from) s.path.now c.in_ok-take_piece.ensures.keeps.table i.ready.numbered in
+    let place : Denotes paths (record { name = FileLong; place = place_in s at }) (refusal_at s.path.now (here_of d) FileLong) =
+    subst (λ (q : Spot). Denotes paths (record { name = FileLong; place = place_in s at }) (refusal_at s.path.now q FileLong)) (c.here.ensures taken.live) (denotes-here paths s FileLong at here) in
+    subst (λ (v : Verdict). RunsOpen told s (Err v) old last paths before) (sym c.refused.ensures)
+    (long-open c.pieces_law.ensures told s old st last c.pieces.collector d left c.in-Bytes.n c.read.new.buf p before (g.L.Library.open_files c.pieces.files) (g.L.Library.open_files c.read.new.self) paths (record { name = FileLong; place = place_in s at }) i.read c.in-Bytes.ensures.reads c.if-n-left.true refl taken place)
+
+pub check_pieces-returns-then-branch-clause-keeps : goal.check_pieces-returns-then-branch-clause-keeps
+check_pieces-returns-then-branch-clause-keeps g t c =
+    let s = c.args.source.now in
+    let i = c.pieces.invariant in
+    let paths = c.take_piece.new.paths in
+    let later = c.in_ok-take_piece.ensures.keeps.table in
+    record {
+      going = tt;
+      kind = subst (IsStop paths) (sym c.refused.ensures) (placed-in paths s (numbered-later c.pieces.paths paths (number_of s.from) s.path.now later i.ready.numbered));
+      table = extends-trans c.args.paths.now c.pieces.paths paths i.table later;
+    }
+
+pub check_pieces-returns-then-branch-clause-reads : goal.check_pieces-returns-then-branch-clause-reads
+check_pieces-returns-then-branch-clause-reads g t c =
+    let i = c.pieces.invariant in
+    let before = g.L.Library.open_files c.args.files.now in
+    let after = g.L.Library.open_files c.read.new.self in
+    reads-trans g.L.Library.told g.L.Library.open_files g.L.Library.faults c.args.files.now c.read.new.self c.take_piece.new.files (c.in-Bytes.ensures.same ∙ i.same)
+    (stays-read c.in-Bytes.n c.read.new.buf before (g.L.Library.open_files c.pieces.files) after i.read.bytes i.read.passes c.in-Bytes.ensures.reads) (omega (arith, c.in-Bytes.ensures.later, i.later)) c.in_ok-take_piece.ensures.stays
+
+pub check_pieces-returns-then-n-left-clause-runs : goal.check_pieces-returns-then-n-left-clause-runs
+check_pieces-returns-then-n-left-clause-runs g t c =
+    let s = c.args.source.now in
+    let i = c.pieces.invariant in
+    let told = g.L.Library.told c.args.files.now in
+    let old = progress_of c.args.run.now in
+    let st = progress_of c.pieces.run in
+    let last = progress_of c.take_piece.new.run in
+    let paths = c.take_piece.new.paths in
+    let d = c.take_piece.new.collector in
+    let left = c.pieces.left in
+    let n = c.in-Bytes.n in
+    let p = take left c.read.new.buf in
+    let mid = g.L.Library.open_files c.pieces.files in
+    let after = g.L.Library.open_files c.read.new.self in
+    left-open c.pieces_law.ensures told s old st last c.pieces.collector left left p (g.L.Library.open_files c.args.files.now) mid paths i.read (λ rest others e. front-is left n c.read.new.buf mid after rest others c.in-Bytes.ensures.reads (omega (arith, c.if-n-left.true)) e) (omega arith)
+    (left-later told (g.L.Library.told c.read.new.self) (c.in-Bytes.ensures.same ∙ i.same) s st last c.pieces.collector p
+    (subst (λ (b : Bool). TakesPiece (g.L.Library.told c.read.new.self) s (Ok b) st last c.pieces.collector d p paths) c.if-branch.false c.in_ok-take_piece.ensures.takes)) c.here-then-n-left.result
+
+pub check_pieces-returns-then-n-left-clause-reads : goal.check_pieces-returns-then-n-left-clause-reads
+check_pieces-returns-then-n-left-clause-reads g t c =
+    let i = c.pieces.invariant in
+    let before = g.L.Library.open_files c.args.files.now in
+    let after = g.L.Library.open_files c.read.new.self in
+    reads-trans g.L.Library.told g.L.Library.open_files g.L.Library.faults c.args.files.now c.read.new.self c.take_piece.new.files (c.in-Bytes.ensures.same ∙ i.same)
+    (stays-read c.in-Bytes.n c.read.new.buf before (g.L.Library.open_files c.pieces.files) after i.read.bytes i.read.passes c.in-Bytes.ensures.reads) (omega (arith, c.in-Bytes.ensures.later, i.later)) c.in_ok-take_piece.ensures.stays
+
+pub check_pieces-take_piece-requires-in-pieces : goal.check_pieces-take_piece-requires-in-pieces
+check_pieces-take_piece-requires-in-pieces g t c κs within =
+    let s = c.args.source.now in
+    let i = c.pieces.invariant in
+    let before = g.L.Library.open_files c.args.files.now in
+    let mid = g.L.Library.open_files c.pieces.files in
+    let after = g.L.Library.open_files c.read.new.self in
+    let same = stays-length before after (stays-read c.in-Bytes.n c.read.new.buf before mid after i.read.bytes i.read.passes c.in-Bytes.ensures.reads) in
+    let room = has_room (g.L.Library.told c.args.files.now) s (progress_of c.args.run.now) (progress_of c.pieces.run) c.pieces.collector c.pieces.left before mid (take c.in-Bytes.n c.read.new.buf) i.read (omega (arith, length-take c.in-Bytes.n c.read.new.buf, c.if-n-left.false)) in
+    (omega arith, (within, (record { room = omega (arith, same, c.requires.ready.room); going = i.ready.going; numbered = i.ready.numbered }, (i.read.taken.live, (i.read.taken.waiting, room)))))
+
+pub check_pieces-returns-in_err-take_piece-2-clause-runs : goal.check_pieces-returns-in_err-take_piece-2-clause-runs
+check_pieces-returns-in_err-take_piece-2-clause-runs g t c =
+    let s = c.args.source.now in
+    let i = c.pieces.invariant in
+    let told = g.L.Library.told c.args.files.now in
+    let old = progress_of c.args.run.now in
+    let st = progress_of c.pieces.run in
+    let last = progress_of c.take_piece-in-pieces.new.run in
+    let paths = c.take_piece-in-pieces.new.paths in
+    let d = c.take_piece-in-pieces.new.collector in
+    let n = c.in-Bytes.n in
+    let p = take n c.read.new.buf in
+    let x = c.in_err-take_piece-2.field-0.0 in
+    let before = g.L.Library.open_files c.args.files.now in
+    let mid = g.L.Library.open_files c.pieces.files in
+    let after = g.L.Library.open_files c.read.new.self in
+    at_exit (λ (r : Result Spot Verdict). RunsOpen told s r old last paths before) c.from_residual-in_err-take_piece-2.result x c.from_residual-in_err-take_piece-2.ensures.1
+    (stops-open c.pieces_law.ensures told s old st last c.pieces.collector c.pieces.left n p before mid paths i.read (λ rest others e. piece-is n c.read.new.buf mid after rest others c.in-Bytes.ensures.reads e) (omega (arith, c.if-n-left.false)) x
+    (takes-later told (g.L.Library.told c.read.new.self) (c.in-Bytes.ensures.same ∙ i.same) s (Err x) st last c.pieces.collector d p paths c.in_err-take_piece-2.ensures.takes))
+
+pub check_pieces-returns-in_err-take_piece-2-clause-reads : goal.check_pieces-returns-in_err-take_piece-2-clause-reads
+check_pieces-returns-in_err-take_piece-2-clause-reads g t c =
+    let i = c.pieces.invariant in
+    let before = g.L.Library.open_files c.args.files.now in
+    let after = g.L.Library.open_files c.read.new.self in
+    reads-trans g.L.Library.told g.L.Library.open_files g.L.Library.faults c.args.files.now c.read.new.self c.take_piece-in-pieces.new.files (c.in-Bytes.ensures.same ∙ i.same)
+    (stays-read c.in-Bytes.n c.read.new.buf before (g.L.Library.open_files c.pieces.files) after i.read.bytes i.read.passes c.in-Bytes.ensures.reads) (omega (arith, c.in-Bytes.ensures.later, i.later)) c.in_err-take_piece-2.ensures.stays
+
+pub check_pieces-returns-then-not-branch-clause-runs : goal.check_pieces-returns-then-not-branch-clause-runs
+check_pieces-returns-then-not-branch-clause-runs g t c =
+    let s = c.args.source.now in
+    let i = c.pieces.invariant in
+    let told = g.L.Library.told c.args.files.now in
+    let old = progress_of c.args.run.now in
+    let st = progress_of c.pieces.run in
+    let last = progress_of c.take_piece-in-pieces.new.run in
+    let paths = c.take_piece-in-pieces.new.paths in
+    let d = c.take_piece-in-pieces.new.collector in
+    let left = c.pieces.left in
+    let n = c.in-Bytes.n in
+    let p = take n c.read.new.buf in
+    let mid = g.L.Library.open_files c.pieces.files in
+    let after = g.L.Library.open_files c.read.new.self in
+    left-open c.pieces_law.ensures told s old st last c.pieces.collector left n p (g.L.Library.open_files c.args.files.now) mid paths i.read (λ rest others e. piece-is n c.read.new.buf mid after rest others c.in-Bytes.ensures.reads e) (omega (arith, c.if-n-left.false))
+    (left-later told (g.L.Library.told c.read.new.self) (c.in-Bytes.ensures.same ∙ i.same) s st last c.pieces.collector p
+    (subst (λ (b : Bool). TakesPiece (g.L.Library.told c.read.new.self) s (Ok b) st last c.pieces.collector d p paths) c.if-not-branch.true c.in_ok-take_piece-2.ensures.takes)) c.here-then-not-branch.result
+
+pub check_pieces-returns-then-not-branch-clause-reads : goal.check_pieces-returns-then-not-branch-clause-reads
+check_pieces-returns-then-not-branch-clause-reads g t c =
+    let i = c.pieces.invariant in
+    let before = g.L.Library.open_files c.args.files.now in
+    let after = g.L.Library.open_files c.read.new.self in
+    reads-trans g.L.Library.told g.L.Library.open_files g.L.Library.faults c.args.files.now c.read.new.self c.take_piece-in-pieces.new.files (c.in-Bytes.ensures.same ∙ i.same)
+    (stays-read c.in-Bytes.n c.read.new.buf before (g.L.Library.open_files c.pieces.files) after i.read.bytes i.read.passes c.in-Bytes.ensures.reads) (omega (arith, c.in-Bytes.ensures.later, i.later)) c.in_ok-take_piece-2.ensures.stays
+
+pub check_pieces-pieces-preserved : goal.check_pieces-pieces-preserved
+check_pieces-pieces-preserved g t c =
+    let s = c.args.source.now in
+    let i = c.pieces.invariant in
+    let told = g.L.Library.told c.args.files.now in
+    let old = progress_of c.args.run.now in
+    let st = progress_of c.pieces.run in
+    let last = progress_of c.take_piece-in-pieces.new.run in
+    let paths = c.take_piece-in-pieces.new.paths in
+    let d = c.take_piece-in-pieces.new.collector in
+    let n = c.in-Bytes.n in
+    let p = take n c.read.new.buf in
+    let before = g.L.Library.open_files c.args.files.now in
+    let mid = g.L.Library.open_files c.pieces.files in
+    let after = g.L.Library.open_files c.read.new.self in
+    let now_open = g.L.Library.open_files c.take_piece-in-pieces.new.files in
+    let took = c.in_ok-take_piece-2.ensures in
+    let same_files = c.in-Bytes.ensures.same ∙ i.same in
+    let taken : IsTaken told s st last c.pieces.collector d p = taken-later told (g.L.Library.told c.read.new.self) same_files s st last c.pieces.collector d p (subst (λ (b : Bool). TakesPiece (g.L.Library.told c.read.new.self) s (Ok b) st last c.pieces.collector d p c.take_piece-in-pieces.new.paths) c.if-not-branch.false took.takes) in
+    let read : IsRead told s old last d (c.pieces.left - n) before after = reads-piece told s old st last c.pieces.collector d c.pieces.left n c.read.new.buf p before mid after i.read c.in-Bytes.ensures.reads refl (omega (arith, c.if-n-left.false)) taken in
+    let stays : StaysOpen before now_open = subst (StaysOpen before) (sym took.stays.closed) (stays-read n c.read.new.buf before mid after i.read.bytes i.read.passes c.in-Bytes.ensures.reads) in
+    let same = stays-length before now_open stays in
+    record {
+      read = subst (λ (fs : List Rest). IsRead told s old last d (c.pieces.left - n) before fs) (sym took.stays.closed) read;
+      ready = record {
+        room = omega (arith, same, c.requires.ready.room);
+        going = took.keeps.going;
+        numbered = numbered-later c.pieces.paths paths (number_of s.from) s.path.now took.keeps.table i.ready.numbered;
+      };
+      table = extends-trans c.args.paths.now c.pieces.paths paths i.table took.keeps.table;
+      same = took.stays.same ∙ same_files;
+      later = omega (arith, took.stays.later, c.in-Bytes.ensures.later, i.later);
+    }

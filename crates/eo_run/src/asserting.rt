@@ -1,0 +1,117 @@
+//! What a reference file asserts.
+ghost use Rattle.std.specs.Prelude.{◌≡◌, ◌<◌, [], Ok, length};
+ghost use Rattle.eo_elab.specs.Worlds.{labels_in};
+ghost use Rattle.eo_names.specs.Names.{BindingsBelow};
+ghost use Rattle.eo_term.specs.Growth.{tree_in};
+ghost use Rattle.eo_run.specs.Asserting.{read_assertion, asserted_as, named_term, GivesAssertion, MayBeName, MayBeNames};
+ghost use Rattle.eo_run.specs.Held.{state_of, IsWhole, Keeps};
+ghost use Rattle.eo_run.specs.State.{with_assertion, with_macro};
+ghost use Rattle.eo_run.specs.Step.{assert as asserted, label_macro, with_labels};
+ghost use Rattle.eo_run.specs.Stepping.{Does};
+
+use crate::Refused;
+use crate::held::Held;
+use eo_base::Name;
+use eo_elab::{Locals, Names, reference_law, reference_term};
+use eo_sexp::Sexp;
+use eo_sig::{MacroDecl, Params};
+use eo_term::Id;
+
+impl Held {
+    /// Asserts the value of a formula. Then the names that its terms give themselves are macros of
+    /// the reference file.
+    pub(crate) fn assert(&mut self, formula: &Sexp<'_>) -> Result<(), Refused>
+        requires { IsWhole self.old }
+        ensures whole { IsWhole self.new }
+        ensures does { Does result (asserted (state_of self.old) formula.now) self.new }
+    {
+        reference_law();
+        let mut names = Names::new(self.alloc);
+        let id = self.read_assertion(formula, &mut names)?;
+        self.assert_as(id, &names)
+    }
+
+    // The formula of an assertion, and the names that its terms give themselves.
+    fn read_assertion(&mut self, s: &Sexp<'_>, names: &mut Names) -> Result<Id, Refused>
+        requires whole { IsWhole self.old }
+        requires none { names.old ≡ [] }
+        ensures gives { GivesAssertion self.new names.new result (read_assertion (state_of self.old) s.now) }
+        ensures below { BindingsBelow (length self.new.table.trees) names.new }
+        ensures keeps { Keeps self.old self.new }
+    {
+        let locals = Locals::new(self.alloc)?;
+        let id = reference_term(
+            self.alloc,
+            s,
+            &locals,
+            &self.signature,
+            &mut self.table,
+            true,
+            names,
+        )?;
+        Ok(id)
+    }
+
+    // Asserts the value of a formula, with names for some of its terms.
+    fn assert_as(&mut self, id: Id, names: &Names) -> Result<(), Refused>
+        requires whole { IsWhole self.old }
+        requires live { id < length self.old.table.trees }
+        requires below { BindingsBelow (length self.old.table.trees) names.now }
+        requires new { MayBeNames (state_of self.old) (labels_in self.old.table names.now) }
+        ensures whole { IsWhole self.new }
+        ensures does { Does result
+            (asserted_as (state_of self.old) (tree_in self.old.table id) (labels_in self.old.table names.now)) self.new }
+    {
+        let value = self.formula_of(id)?;
+        self.add_assertion(value)?;
+        self.add_names(names)
+    }
+
+    // A value is asserted.
+    fn add_assertion(&mut self, value: Id) -> Result<(), Refused>
+        requires whole { IsWhole self.old }
+        requires live { value < length self.old.table.trees }
+        ensures whole { IsWhole self.new }
+        ensures does { Does result (Ok (with_assertion (state_of self.old) (tree_in self.old.table value))) self.new }
+        ensures table { self.new.table ≡ self.old.table }
+    {
+        self.table.laws();
+        self.assertions.add(value)?;
+        Ok(())
+    }
+
+    // Names of terms are macros of the reference file.
+    fn add_names(&mut self, names: &Names) -> Result<(), Refused>
+        requires whole { IsWhole self.old }
+        requires below { BindingsBelow (length self.old.table.trees) names.now }
+        requires new { MayBeNames (state_of self.old) (labels_in self.old.table names.now) }
+        ensures whole { IsWhole self.new }
+        ensures does { Does result (Ok (with_labels (state_of self.old) (labels_in self.old.table names.now))) self.new }
+    {
+        for i in 0..names.len() {
+            let (name, tree) = names.get(i);
+            self.add_name(name, tree)?;
+        }
+        Ok(())
+    }
+
+    // The name of a term is a macro of the reference file.
+    fn add_name(&mut self, name: &[u8], tree: Id) -> Result<(), Refused>
+        requires whole { IsWhole self.old }
+        requires live { tree < length self.old.table.trees }
+        requires new { MayBeName (state_of self.old) (named_term self.old name.now tree) }
+        ensures whole { IsWhole self.new }
+        ensures does { Does result (Ok (with_macro (state_of self.old) (label_macro (named_term self.old name.now tree)))) self.new }
+        ensures table { self.new.table ≡ self.old.table }
+    {
+        prove!(self.signature.is_free(name));
+        let d = MacroDecl {
+            name: Name::new(self.alloc, name)?,
+            params: Params::new(self.alloc),
+            tree,
+            from_reference: true,
+        };
+        self.signature.define(d)?;
+        Ok(())
+    }
+}

@@ -1,0 +1,403 @@
+//! Files that are run, with the files that their commands open.
+ghost use Rattle.std.specs.Prelude.{◌≡◌, ◌≢◌, ◌<◌, ◌+◌, false, [], OnOk, IfOk, IfErr, length, vec_len};
+ghost use Rattle.eo_base.specs.Limits.{limits};
+ghost use Rattle.eo_sexp.specs.Collecting.{new_collector, IsLive, HasRoom};
+ghost use Rattle.eo_sexp.specs.Cutting.{IsWaiting};
+ghost use Rattle.eo_run.specs.Answer.{AnswerHasCause};
+ghost use Rattle.eo_run.specs.Opening.{IsReady, Keeps, LibraryReads, FileHasCause, RunsOpen, RunsFile, TakesPiece, TakesEnd};
+ghost use Rattle.eo_run.specs.Opening.{Opens, IncludesAt, RefersAt, FoldsHere, BeginsHere, stop_verdict, refused_at};
+ghost use Rattle.eo_run.specs.State.{begin_reference};
+ghost use Rattle.eo_run.specs.Progress.{progress_of};
+ghost use Rattle.eo_run.specs.Reading.{LibraryStays};
+
+use crate::reading::{Stop, check_end, check_piece, exits};
+use crate::{Next, Origin, Refused, Session, Verdict};
+use eo_base::{Fault, FaultName, Place, Text, limits};
+use eo_io::{Got, Library, Opened, PathRefused, Paths, fold_path};
+use eo_sexp::{Collector, Spot, answers_law, pieces_law};
+use std::alloc::{AllocError, Global};
+
+/// Bytes of one read.
+const PIECE: usize = 65_536;
+
+/// How many files may be open inside a file that the job names, but for a reference file: those
+/// that are included, and then a reference file.
+pub(crate) const OPENS: usize = limits::INCLUDES + 1;
+
+/// How far a run is.
+#[derive(Drop)]
+pub(crate) struct Run {
+    pub(crate) session: Session,
+    /// The files that were included, and those that count as included from the start.
+    pub(crate) included: Paths,
+}
+
+/// A file that is run.
+#[derive(Debug, Drop)]
+pub(crate) struct Source<'a> {
+    /// Its path, folded.
+    pub(crate) path: &'a [u8],
+    /// What it is, and its number in the table of paths.
+    pub(crate) from: Origin,
+    /// Whether its commands may be wrapped as those of a proof.
+    pub(crate) wrapped: bool,
+    /// How many files may be open inside it, one opened by the other: none in a reference file.
+    pub(crate) opens: usize,
+}
+
+/// Reads a file and checks its commands, with those of the files that they open. Answers the place
+/// behind its last byte, or nothing where it is absent. A reference file may end before, by a
+/// command. The library has the same files open as before.
+#[cycle(files)]
+pub(crate) fn check_file<L: Library>(
+    alloc: Global,
+    source: &Source<'_>,
+    files: &mut L,
+    run: &mut Run,
+    paths: &mut Paths,
+) -> Result<Option<Spot>, Verdict>
+    requires ready { IsReady (length (L.open_files files.old) + 1) source.now run.old paths.old }
+    ensures runs { RunsFile (L.told files.old) source.now result (progress_of run.old) (progress_of run.new) paths.new }
+    ensures cause { FileHasCause result (L.told files.old) (L.faults files.old) (L.faults files.new) }
+    ensures keeps { Keeps result run.new paths.old paths.new }
+    ensures stays { LibraryStays L.told L.open_files L.faults files.old files.new }
+{
+    match files.open(source.path) {
+        Opened::Absent => Ok(None),
+        Opened::Failed => Err(Verdict::ReadFault),
+        Opened::Ready => {
+            let end = check_open(alloc, source, files, run, paths);
+            files.close();
+            match end {
+                Ok(at) => Ok(Some(at)),
+                Err(verdict) => Err(verdict),
+            }
+        }
+    }
+}
+
+/// Reads the file opened last to its end, and checks its commands.
+#[cycle(files)]
+fn check_open<L: Library>(
+    alloc: Global,
+    source: &Source<'_>,
+    files: &mut L,
+    run: &mut Run,
+    paths: &mut Paths,
+) -> Result<Spot, Verdict>
+    requires open { L.open_files files.old ≢ [] }
+    requires ready { IsReady (length (L.open_files files.old)) source.now run.old paths.old }
+    ensures runs { RunsOpen (L.told files.old) source.now result (progress_of run.old) (progress_of run.new) paths.new
+        (L.open_files files.old) }
+    ensures cause { IfErr result (λ v. AnswerHasCause v (L.told files.old) (L.faults files.old) (L.faults files.new)) }
+    ensures keeps { Keeps result run.new paths.old paths.new }
+    ensures reads { LibraryReads L.told L.open_files L.faults files.old files.new }
+{
+    let Ok(mut collector) = Collector::new(alloc, source.wrapped) else {
+        return Err(Verdict::OutOfMemory);
+    };
+    let Ok(mut buffer) = new_buffer(alloc) else {
+        return Err(Verdict::OutOfMemory);
+    };
+    check_pieces(
+        alloc,
+        source,
+        &mut collector,
+        &mut buffer,
+        files,
+        run,
+        paths,
+    )
+}
+
+/// The same by a new collector and a buffer that is not empty.
+#[cycle(files)]
+fn check_pieces<L: Library>(
+    alloc: Global,
+    source: &Source<'_>,
+    collector: &mut Collector,
+    buffer: &mut [u8],
+    files: &mut L,
+    run: &mut Run,
+    paths: &mut Paths,
+) -> Result<Spot, Verdict>
+    requires open { L.open_files files.old ≢ [] }
+    requires ready { IsReady (length (L.open_files files.old)) source.now run.old paths.old }
+    requires collector { collector.old ≡ new_collector source.now.wrapped }
+    requires buffer { 0 < length buffer.old }
+    ensures runs { RunsOpen (L.told files.old) source.now result (progress_of run.old) (progress_of run.new) paths.new
+        (L.open_files files.old) }
+    ensures cause { IfErr result (λ v. AnswerHasCause v (L.told files.old) (L.faults files.old) (L.faults files.new)) }
+    ensures keeps { Keeps result run.new paths.old paths.new }
+    ensures reads { LibraryReads L.told L.open_files L.faults files.old files.new }
+{
+    pieces_law();
+    answers_law();
+    let mut left = limits::FILE;
+    'pieces: loop {
+        let n = match files.read(buffer) {
+            Got::Failed => return Err(Verdict::ReadFault),
+            Got::Bytes(n) => n,
+        };
+        if n == 0 {
+            return check_rest(alloc, source, collector, files, run, paths);
+        }
+        if n as u64 > left {
+            let counted = &buffer[..left as usize];
+            if take_piece(alloc, source, collector, counted, files, run, paths)? {
+                return Err(refused(FaultName::FileLong, source, collector.here()));
+            }
+            return Ok(collector.here());
+        }
+        if !take_piece(alloc, source, collector, &buffer[..n], files, run, paths)? {
+            return Ok(collector.here());
+        }
+        left -= n as u64;
+    }
+}
+
+/// Checks the commands that a piece of a file makes whole, with those of the files that they open.
+/// Answers whether the file goes on.
+#[cycle(files)]
+fn take_piece<L: Library>(
+    alloc: Global,
+    source: &Source<'_>,
+    collector: &mut Collector,
+    piece: &[u8],
+    files: &mut L,
+    run: &mut Run,
+    paths: &mut Paths,
+) -> Result<bool, Verdict>
+    requires ready { IsReady (length (L.open_files files.old)) source.now run.old paths.old }
+    requires live { IsLive collector.old }
+    requires waiting { IsWaiting limits collector.old }
+    requires room { HasRoom collector.old piece.now }
+    ensures takes { TakesPiece (L.told files.old) source.now result (progress_of run.old) (progress_of run.new) collector.old collector.new
+        piece.now paths.new }
+    ensures cause { IfErr result (λ v. AnswerHasCause v (L.told files.old) (L.faults files.old) (L.faults files.new)) }
+    ensures keeps { Keeps result run.new paths.old paths.new }
+    ensures stays { LibraryStays L.told L.open_files L.faults files.old files.new }
+{
+    let mut rest = piece;
+    'commands: loop {
+        match check_piece(collector, source.from, &mut run.session, rest) {
+            Err(stop) => return Err(stopped(stop, source)),
+            Ok(None) => return Ok(true),
+            Ok(Some(asked)) => {
+                let ends = exits(&asked.next);
+                open_next(alloc, source, asked.next, asked.at, files, run, paths)?;
+                if ends {
+                    return Ok(false);
+                }
+                rest = &rest[asked.used..];
+            }
+        }
+    }
+}
+
+/// Checks the commands that the end of a file makes whole, with those of the files that they open.
+/// Answers the place behind its last byte, unless a command ends it before.
+#[cycle(files)]
+fn check_rest<L: Library>(
+    alloc: Global,
+    source: &Source<'_>,
+    collector: &mut Collector,
+    files: &mut L,
+    run: &mut Run,
+    paths: &mut Paths,
+) -> Result<Spot, Verdict>
+    requires ready { IsReady (length (L.open_files files.old)) source.now run.old paths.old }
+    requires live { IsLive collector.old }
+    requires waiting { IsWaiting limits collector.old }
+    ensures takes { TakesEnd (L.told files.old) source.now result (progress_of run.old) (progress_of run.new) collector.old paths.new }
+    ensures cause { IfErr result (λ v. AnswerHasCause v (L.told files.old) (L.faults files.old) (L.faults files.new)) }
+    ensures keeps { Keeps result run.new paths.old paths.new }
+    ensures stays { LibraryStays L.told L.open_files L.faults files.old files.new }
+{
+    'atoms: loop {
+        match check_end(collector, source.from, &mut run.session) {
+            Err(stop) => return Err(stopped(stop, source)),
+            Ok(None) => return Ok(collector.here()),
+            Ok(Some(asked)) => {
+                let ends = exits(&asked.next);
+                open_next(alloc, source, asked.next, asked.at, files, run, paths)?;
+                if ends {
+                    return Ok(collector.here());
+                }
+            }
+        }
+    }
+}
+
+/// Does what a command at this place asks for. A reference file opens nothing. `BadPath` at this
+/// place: the file that is named has no path.
+#[cycle(files)]
+fn open_next<L: Library>(
+    alloc: Global,
+    source: &Source<'_>,
+    next: Next,
+    at: Spot,
+    files: &mut L,
+    run: &mut Run,
+    paths: &mut Paths,
+) -> Result<(), Verdict>
+    requires ready { IsReady (length (L.open_files files.old)) source.now run.old paths.old }
+    ensures opens { Opens (L.told files.old) source.now at next result (progress_of run.old) (progress_of run.new) paths.new }
+    ensures cause { IfErr result (λ v. AnswerHasCause v (L.told files.old) (L.faults files.old) (L.faults files.new)) }
+    ensures keeps { Keeps result run.new paths.old paths.new }
+    ensures stays { LibraryStays L.told L.open_files L.faults files.old files.new }
+{
+    if source.opens == 0 {
+        return Ok(());
+    }
+    match next {
+        Next::Done => Ok(()),
+        Next::Include(name) => {
+            let file = folded(alloc, source, &name, at)?;
+            include(alloc, source, file.as_bytes(), at, files, run, paths)
+        }
+        Next::Reference(name) => {
+            let file = folded(alloc, source, &name, at)?;
+            refer(alloc, source, file.as_bytes(), at, files, run, paths)
+        }
+        Next::Exit => Ok(()),
+    }
+}
+
+/// Includes the file of this path, unless it is included already. At this place: `IncludeDepth`: it
+/// would be included too deep; `FileAbsent`: it is not there.
+#[cycle(files)]
+fn include<L: Library>(
+    alloc: Global,
+    source: &Source<'_>,
+    file: &[u8],
+    at: Spot,
+    files: &mut L,
+    run: &mut Run,
+    paths: &mut Paths,
+) -> Result<(), Verdict>
+    requires opens { 0 < source.now.opens }
+    requires ready { IsReady (length (L.open_files files.old)) source.now run.old paths.old }
+    ensures includes { IncludesAt (L.told files.old) source.now at file.now result (progress_of run.old) (progress_of run.new) paths.new }
+    ensures cause { IfErr result (λ v. AnswerHasCause v (L.told files.old) (L.faults files.old) (L.faults files.new)) }
+    ensures keeps { Keeps result run.new paths.old paths.new }
+    ensures stays { LibraryStays L.told L.open_files L.faults files.old files.new }
+{
+    if run.included.find(file).is_some() {
+        return Ok(());
+    }
+    if source.opens == 1 {
+        return Err(refused(FaultName::IncludeDepth, source, at));
+    }
+    let Ok(_) = run.included.add(file) else {
+        return Err(Verdict::OutOfMemory);
+    };
+    let Ok(number) = paths.add(file) else {
+        return Err(Verdict::OutOfMemory);
+    };
+    let inner = Source {
+        path: file,
+        from: source.from.in_file(number),
+        wrapped: false,
+        opens: source.opens - 1,
+    };
+    match check_file(alloc, &inner, files, run, paths) {
+        Ok(Some(_)) => Ok(()),
+        Ok(None) => Err(refused(FaultName::FileAbsent, source, at)),
+        Err(stop) => Err(stop),
+    }
+}
+
+/// Reads the reference file of this path. At this place: `SecondReference`: there is one;
+/// `FileAbsent`: it is not there.
+#[cycle(files)]
+fn refer<L: Library>(
+    alloc: Global,
+    source: &Source<'_>,
+    file: &[u8],
+    at: Spot,
+    files: &mut L,
+    run: &mut Run,
+    paths: &mut Paths,
+) -> Result<(), Verdict>
+    requires opens { 0 < source.now.opens }
+    requires ready { IsReady (length (L.open_files files.old)) source.now run.old paths.old }
+    ensures refers { RefersAt (L.told files.old) source.now at file.now result (progress_of run.old) (progress_of run.new) paths.new }
+    ensures cause { IfErr result (λ v. AnswerHasCause v (L.told files.old) (L.faults files.old) (L.faults files.new)) }
+    ensures keeps { Keeps result run.new paths.old paths.new }
+    ensures stays { LibraryStays L.told L.open_files L.faults files.old files.new }
+{
+    begin(&mut run.session, source, at)?;
+    let Ok(number) = paths.add(file) else {
+        return Err(Verdict::OutOfMemory);
+    };
+    let reference = Source {
+        path: file,
+        from: Origin::Reference(number),
+        wrapped: false,
+        opens: 0,
+    };
+    match check_file(alloc, &reference, files, run, paths) {
+        Ok(Some(_)) => Ok(()),
+        Ok(None) => Err(refused(FaultName::FileAbsent, source, at)),
+        Err(verdict) => Err(verdict),
+    }
+}
+
+/// Begins the reference file that a command at this place names.
+fn begin(session: &mut Session, source: &Source<'_>, at: Spot) -> Result<(), Verdict>
+    requires going { session.old.ended ≡ false }
+    ensures going { OnOk result (session.new.ended ≡ false) }
+    ensures begins { BeginsHere source.now at result (begin_reference session.old.state) session.new.state }
+{
+    match session.begin_reference() {
+        Ok(()) => Ok(()),
+        Err(Refused::Fault(name)) => Err(refused(name, source, at)),
+        Err(Refused::Ended) => unreachable!(),
+        Err(Refused::Memory(_)) => Err(Verdict::OutOfMemory),
+    }
+}
+
+/// The path of the file that is named here, seen from this file. `BadPath` at this place: it is
+/// none.
+fn folded(alloc: Global, source: &Source<'_>, name: &Text, at: Spot) -> Result<Text, Verdict>
+    ensures { FoldsHere source.now at name.now result }
+{
+    match fold_path(alloc, source.path, name.as_bytes()) {
+        Ok(file) => Ok(file),
+        Err(PathRefused::Bad) => Err(refused(FaultName::BadPath, source, at)),
+        Err(PathRefused::Memory(_)) => Err(Verdict::OutOfMemory),
+    }
+}
+
+/// The verdict of a file that is not read to its end.
+fn stopped(stop: Stop, source: &Source<'_>) -> Verdict
+    ensures { result ≡ stop_verdict stop source.now }
+{
+    match stop {
+        Stop::Fault { name, at } => refused(name, source, at),
+        Stop::ReadFault => Verdict::ReadFault,
+        Stop::Memory => Verdict::OutOfMemory,
+    }
+}
+
+/// The verdict of a fault at a place of this file.
+pub(crate) fn refused(name: FaultName, source: &Source<'_>, at: Spot) -> Verdict
+    ensures { result ≡ refused_at name source.now at }
+{
+    Verdict::Refused(Fault {
+        name,
+        place: Place {
+            file: source.from.file(),
+            line: at.line,
+            offset: at.offset,
+        },
+    })
+}
+
+/// Room for the bytes of one read. `Err` is want of memory.
+fn new_buffer(alloc: Global) -> Result<Vec<u8>, AllocError>
+    ensures { IfOk result (λ buffer. 0 < vec_len buffer) }
+{
+    vec![in alloc; 0u8; PIECE]
+}

@@ -1,0 +1,30 @@
+-- What is due for the words, and what a run proves.
+use Rattle.std.specs.Prelude.{◌≡◌, ℕ, List, Option, Some, None, IfSome}
+use Rattle.eo_base.specs.declared.Status.{Status}
+use Rattle.eo_base.specs.declared.Status.TheVariants as status
+use Rattle.eo_io.specs.Library.{Files}
+use Rattle.eo_run.specs.Check.{verdict, load_verdict}
+use Rattle.eo_run.specs.Printed.{Due, verdict_due, usage_due}
+use Rattle.eo_run.specs.Refutation.{Refutes, ClosedKeepsRules}
+use Rattle.eo_run.specs.declared.CheckJob.{CheckJob}
+use Rattle.ethos.specs.Ends.{Ends}
+use Rattle.ethos.specs.declared.words.Request.{Request}
+use Rattle.ethos.specs.declared.words.Request.TheVariants.{Check, Load}
+
+-- What is due for a reading of the words.
+unfoldable pub due : Files → Option Request → Due
+due files None = usage_due
+due files (Some (Check job)) = verdict_due (verdict files job)
+due files (Some (Load file)) = verdict_due (load_verdict files file)
+
+-- The run ends as is due for the reading of its words, where files are told.
+abbrev pub EndsAs : Option Files → Status → Option Request → (before after : Option (List ℕ)) → Type 0
+EndsAs told s reading before after = IfSome told (λ files. Ends s (due files reading) before after)
+
+-- A check that ends with status 0, where files are told, refutes what its reference file asserts.
+abbrev pub OkRefutes : Option Files → Status → Option Request → Type 0
+OkRefutes told s reading = (job : CheckJob) → reading ≡ Some (Check job) → s ≡ status.Ok → IfSome told (λ files. Refutes files job)
+
+-- In a closed check, where files are told, the proof declares no program and no rule.
+abbrev pub ClosedKeeps : Option Files → Option Request → Type 0
+ClosedKeeps told reading = (job : CheckJob) → reading ≡ Some (Check job) → IfSome told (λ files. ClosedKeepsRules files job)

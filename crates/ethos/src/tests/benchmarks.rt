@@ -1,0 +1,407 @@
+//! Checks against reference files, which are SMT-LIB benchmarks.
+ghost use Rattle.std.specs.Prelude.{◌≤◌};
+
+use super::ROOM;
+use super::command_line::words_of;
+use crate::ethos_main;
+use eo_cpc::suite;
+use eo_io::{MemoryLibrary, MemorySink};
+use std::alloc::{AllocError, Global};
+
+/// A reference file, a proof, and the line that is printed.
+type Row<'a> = (&'a [u8], &'a [u8], &'a [u8]);
+
+const DECLARED: &[u8] =
+    b"(declare-const p Bool)\n(declare-const q Bool)\n(declare-const r Bool)\n(assert p)\n";
+
+const PROOF: &[u8] = b"(declare-const not (-> Bool Bool))\n";
+
+#[test]
+fn a_benchmark_is_refuted(rt: HostRuntime) {
+    let contradiction =
+        b"(set-logic QF_UF)\n(set-info :smt-lib-version 2.6)\n(declare-const p Bool)\n\
+(assert p)\n(assert (not p))\n(check-sat)\n"
+            .as_slice();
+    let exclusion = b"(declare-const p Bool)\n(declare-const q Bool)\n(assert (or p q))\n\
+(assert (not p))\n(assert (not q))\n"
+        .as_slice();
+    let rows: [Row<'_>; 4] = [
+        (
+            contradiction,
+            b"unsat\n(\n(declare-const p Bool)\n(define @t1 () (not p))\n(assume @p1 p)\n\
+(assume @p2 @t1)\n(step @p3 false :rule contra :premises (@p1 @p2))\n)\n",
+            b"correct\n",
+        ),
+        (
+            contradiction,
+            b"unsat\n(\n(declare-const |p| Bool)\n(define @t1 () (not |p|))\n(assume @p1 |p|)\n\
+(assume @p2 @t1)\n(step @p3 false :rule contra :premises (@p1 @p2))\n)\n",
+            b"correct\n",
+        ),
+        (
+            exclusion,
+            b"(assume @p1 (or p q))\n(assume @p2 (not p))\n(assume @p3 (not q))\n\
+(step @p4 q :rule resolution :premises (@p1 @p2) :args (true p))\n\
+(step @p5 false :rule resolution :premises (@p4 @p3) :args (true q))\n",
+            b"correct\n",
+        ),
+        (
+            exclusion,
+            b"(assume @p1 (or p q))\n(assume @p2 (not p))\n(assume @p3 (not q))\n\
+(step @p4 false :rule chain_resolution :premises (@p1 @p2 @p3) :args ((@list true true) (@list p q)))\n",
+            b"correct\n",
+        ),
+    ];
+    assert_eq!(rt; wrong(rt.alloc(), suite(), &rows), None);
+}
+
+#[test]
+fn a_step_needs_its_premises(rt: HostRuntime) {
+    let scoped = b"(declare-const p Bool)\n(declare-const q Bool)\n(declare-const c Int)\n\
+(declare-fun g (Int) Int)\n(assert false)\n"
+        .as_slice();
+    let rows: [Row<'_>; 4] = [
+        (
+            DECLARED,
+            b"(assume @p1 p)\n(step @p3 false :rule contra :premises (@p1 @p1))\n",
+            b"refused F25 PremiseMismatch p.eo:2:15\n",
+        ),
+        (
+            b"(declare-const p Bool)\n(declare-const q Bool)\n(declare-const r Bool)\n(assert p)\n\
+(assert (not q))\n",
+            b"(assume @p1 p)\n(assume @p2 (not q))\n\
+(step @p3 false :rule contra :premises (@p1 @p2))\n",
+            b"refused F25 PremiseMismatch p.eo:3:36\n",
+        ),
+        (
+            scoped,
+            b"(assume-push @a p)\n(define @x () (not q))\n(step @s (= @x @x) :rule refl :args (@x))\n\
+(step-pop @r1 :rule scope :premises (@a))\n(assume-push @b p)\n(define @x () (g c))\n\
+(step @s (= @x @x) :rule refl :args (@x))\n(step-pop @r2 :rule scope :premises (@b))\n\
+(assume @f false)\n",
+            b"correct\n",
+        ),
+        (
+            scoped,
+            b"(assume-push @a p)\n(define @x () (not q))\n(step @s (= @x @x) :rule refl :args (@x))\n\
+(step-pop @r1 :rule scope :premises (@a))\n(assume-push @b p)\n(define @x () (g c))\n\
+(assume-push @s @x)\n",
+            b"refused F27 NotBool p.eo:7:166\n",
+        ),
+    ];
+    assert_eq!(rt; wrong(rt.alloc(), suite(), &rows), None);
+}
+
+#[test]
+fn an_assumption_is_an_asserted_value(rt: HostRuntime) {
+    let named = b"(declare-const p Bool)\n(declare-const q Bool)\n\
+(assert (! (let ((x (not p))) (and x x)) :named h))\n"
+        .as_slice();
+    let rows: [Row<'_>; 5] = [
+        (
+            named,
+            b"(assume @p1 (and (not p) (not p)))\n(assume @p2 h)\n",
+            b"refused F41 NoRefutation p.eo:3:50\n",
+        ),
+        (
+            b"(declare-const p Bool)\n(declare-const q Bool)\n(assert (and p q))\n",
+            b"(assume @p1 (and q p))\n",
+            b"refused F28 NotAsserted p.eo:1:0\n",
+        ),
+        (
+            named,
+            b"(define h () (and (not p) (not p)))(assume @p h)",
+            b"refused F41 NoRefutation p.eo:1:48\n",
+        ),
+        (
+            named,
+            b"(define h () (not p))",
+            b"refused F12 Redeclared p.eo:1:0\n",
+        ),
+        (
+            b"(assert (eo::is_eq 1 1))",
+            b"(assume @p true)",
+            b"refused F41 NoRefutation p.eo:1:16\n",
+        ),
+    ];
+    assert_eq!(rt; wrong(rt.alloc(), suite(), &rows), None);
+}
+
+#[test]
+fn the_first_fault_of_a_proof(rt: HostRuntime) {
+    let rows: [Row<'_>; 21] = [
+        (
+            DECLARED,
+            b"(frob)",
+            b"refused F10 UnknownCommand p.eo:1:0\n",
+        ),
+        (DECLARED, b"assume", b"refused F11 BadCommand p.eo:1:0\n"),
+        (
+            DECLARED,
+            b"(declare-const p Bool)\n",
+            b"refused F41 NoRefutation p.eo:2:23\n",
+        ),
+        (
+            DECLARED,
+            b"(declare-const p Int)",
+            b"refused F12 Redeclared p.eo:1:0\n",
+        ),
+        (
+            DECLARED,
+            b"(assume @a zz)",
+            b"refused F13 UnknownSymbol p.eo:1:0\n",
+        ),
+        (
+            DECLARED,
+            b"(assume @a (not))",
+            b"refused F14 BadArity p.eo:1:0\n",
+        ),
+        (
+            DECLARED,
+            b"(assume @a 1.5)",
+            b"refused F04 BadLiteral p.eo:1:0\n",
+        ),
+        (
+            DECLARED,
+            b"(assume @a (not 5))",
+            b"refused F15 IllTyped p.eo:1:0\n",
+        ),
+        (
+            DECLARED,
+            b"(assume @a (eo::add 1 p))",
+            b"refused F16 Stuck p.eo:1:0\n",
+        ),
+        (
+            DECLARED,
+            b"(assume @a (eo::neg -170141183460469231731687303715884105728))",
+            b"refused F17 NumberRange p.eo:1:0\n",
+        ),
+        (
+            DECLARED,
+            b"(program $u ((x Bool) (y Bool)) :signature (Bool) Bool ((($u x) y)))",
+            b"refused F21 UnboundParam p.eo:1:0\n",
+        ),
+        (
+            DECLARED,
+            b"(program $u ((x Int)) :signature (Int) Int ((($u (eo::add x 1)) x)))",
+            b"refused F22 BadPattern p.eo:1:0\n",
+        ),
+        (
+            DECLARED,
+            b"(step @a :rule nope)",
+            b"refused F23 UnknownRule p.eo:1:0\n",
+        ),
+        (
+            DECLARED,
+            b"(step @a :rule contra :premises (@z @z))",
+            b"refused F24 UnknownPremise p.eo:1:0\n",
+        ),
+        (
+            DECLARED,
+            b"(step @a p :rule split :args (p))",
+            b"refused F26 ConclusionDiffers p.eo:1:0\n",
+        ),
+        (
+            DECLARED,
+            b"(assume @a 5)",
+            b"refused F27 NotBool p.eo:1:0\n",
+        ),
+        (
+            DECLARED,
+            b"(assume @a q)",
+            b"refused F28 NotAsserted p.eo:1:0\n",
+        ),
+        (
+            DECLARED,
+            b"(reference \"r.smt2\")",
+            b"refused F30 SecondReference p.eo:1:0\n",
+        ),
+        (
+            DECLARED,
+            b"(assume-push @a p)(declare-const c Bool)",
+            b"refused F31 InScope p.eo:1:18\n",
+        ),
+        (
+            DECLARED,
+            b"(step @a :rule scope :premises ())",
+            b"refused F36 WrongKind p.eo:1:0\n",
+        ),
+        (
+            DECLARED,
+            b"(include \"\")",
+            b"refused F09 BadPath p.eo:1:0\n",
+        ),
+    ];
+    assert_eq!(rt; wrong(rt.alloc(), suite(), &rows), None);
+}
+
+#[test]
+fn a_whole_benchmark(rt: HostRuntime) {
+    let text = b"(set-info :source |a benchmark; ) |)\n(set-info :smt-lib-version 2.6)\n\
+(set-info :status unsat)\n(set-option :produce-proofs true)\n(set-logic QF_UF)\n\
+(declare-sort U 0)\n(declare-fun f (U) Bool)\n(declare-fun |a b| () U)\n(define-sort V () U)\n\
+(define-fun g ((x V)) Bool (not (f x)))\n(assert (! (f |a b|) :named a1))\n\
+(assert (! (g |a b|) :named a2))\n(echo \"done)\")\n(check-sat)\n(get-proof)\n\
+(get-value ((f |a b|)))\n(exit)\n)) \xff \" "
+        .as_slice();
+    let rows: [Row<'_>; 3] = [
+        (
+            text,
+            b"(define @t () (f |a b|))(assume @p1 a1)(assume @p2 a2)(assume @p3 @t)\n\
+(assume @p4 (not @t))(step @p5 false :rule contra :premises (@p1 @p2))",
+            b"correct\n",
+        ),
+        (
+            text,
+            b"(declare-sort U 0)(declare-fun f (U) Bool)(declare-fun |a b| () U)\n\
+(define g ((y U)) (not (f y)))(assume @p (g |a b|))(declare-sort U 1)",
+            b"refused F12 Redeclared p.eo:2:118\n",
+        ),
+        (
+            text,
+            b"(define g ((x U) (y U)) (not (f x)))",
+            b"refused F12 Redeclared p.eo:1:0\n",
+        ),
+    ];
+    assert_eq!(rt; wrong(rt.alloc(), suite(), &rows), None);
+}
+
+#[test]
+fn the_first_fault_of_a_reference_file(rt: HostRuntime) {
+    let rows: [Row<'_>; 21] = [
+        (b"(push 1)", b"", b"refused F10 UnknownCommand r.smt2:1:0\n"),
+        (
+            b"(define x () true)",
+            b"",
+            b"refused F10 UnknownCommand r.smt2:1:0\n",
+        ),
+        (b"(exit 0)", b"", b"refused F11 BadCommand r.smt2:1:0\n"),
+        (
+            b"(declare-const p Bool :right-assoc)",
+            b"",
+            b"refused F11 BadCommand r.smt2:1:0\n",
+        ),
+        // the type is read before the body
+        (
+            b"(define-fun f ((x Bool)) zz 1.5)",
+            b"",
+            b"refused F13 UnknownSymbol r.smt2:1:0\n",
+        ),
+        (
+            b"(define-fun f ((x Bool)) Bool 1.5)",
+            b"",
+            b"refused F04 BadLiteral r.smt2:1:0\n",
+        ),
+        // and says nothing
+        (
+            b"(define-fun f () Bool Bool)(assert true)",
+            b"",
+            b"refused F41 NoRefutation p.eo:1:0\n",
+        ),
+        (
+            b"(define-fun f ((x Bool) (x Bool)) Bool x)",
+            b"",
+            b"refused F12 Redeclared r.smt2:1:0\n",
+        ),
+        (
+            b"(define-sort S (A A) A)",
+            b"",
+            b"refused F12 Redeclared r.smt2:1:0\n",
+        ),
+        (b"(assert Bool)", b"", b"refused F27 NotBool r.smt2:1:0\n"),
+        (
+            b"(assert (! Bool :named h))",
+            b"",
+            b"refused F27 NotBool r.smt2:1:0\n",
+        ),
+        (b"(assert 5)", b"", b"refused F15 IllTyped r.smt2:1:0\n"),
+        (
+            b"(assert (eo::add true 1))",
+            b"",
+            b"refused F16 Stuck r.smt2:1:0\n",
+        ),
+        // a name is one behind its command
+        (
+            b"(declare-fun f (Bool Bool) Bool)(assert (f (! true :named h) h))",
+            b"",
+            b"refused F13 UnknownSymbol r.smt2:1:32\n",
+        ),
+        (
+            b"(declare-fun f (Bool Bool) Bool)(assert (f (! true :named h) (! true :named h)))",
+            b"",
+            b"refused F12 Redeclared r.smt2:1:32\n",
+        ),
+        (
+            b"(assert (! true :named h))(assert (! false :named h))",
+            b"",
+            b"refused F12 Redeclared r.smt2:1:26\n",
+        ),
+        (
+            b"(assert (! true :named h))(declare-const h Bool)",
+            b"",
+            b"refused F12 Redeclared r.smt2:1:26\n",
+        ),
+        // elsewhere a term names nothing
+        (
+            b"(define-fun f () Bool (! true :named h))(assert h)",
+            b"",
+            b"refused F13 UnknownSymbol r.smt2:1:40\n",
+        ),
+        // in a proof no term has attributes
+        (
+            b"(assert true)",
+            b"(assume @p (! true :named h))",
+            b"refused F13 UnknownSymbol p.eo:1:0\n",
+        ),
+        // what the reference file declares may be repeated there too
+        (
+            b"(declare-const p Bool)(declare-const p Bool)(assert p)",
+            b"(assume @p p)",
+            b"refused F41 NoRefutation p.eo:1:13\n",
+        ),
+        // an assertion behind `check-sat` counts
+        (
+            b"(check-sat)(assert false)(exit)(assert zz)",
+            b"(assume @p false)",
+            b"correct\n",
+        ),
+    ];
+    assert_eq!(rt; wrong(rt.alloc(), PROOF, &rows), None);
+}
+
+/// The first row that gives another line, with reads of at most one byte, of three, or of any
+/// number, where a signature of this text comes first.
+fn wrong(alloc: Global, signature: &[u8], rows: &[Row<'_>]) -> Option<usize> {
+    for (i, row) in rows.iter().enumerate() {
+        for piece in [1usize, 3, 65_536] {
+            if !is_right(alloc, signature, piece, row).unwrap_or(false) {
+                return Some(i);
+            }
+        }
+    }
+    None
+}
+
+/// Whether a row's line is printed with reads of at most so many bytes.
+fn is_right(
+    alloc: Global,
+    signature: &[u8],
+    piece: usize,
+    row: &Row<'_>,
+) -> Result<bool, AllocError>
+    requires { 1 ≤ piece }
+{
+    let (reference, proof, line) = *row;
+    let mut files = MemoryLibrary::new(alloc)?;
+    files.add(b"cpc.eo", signature)?;
+    files.add(b"r.smt2", reference)?;
+    files.add(b"p.eo", proof)?;
+    files.piece(piece);
+    let mut out = MemorySink::new(alloc, ROOM)?;
+    let words = words_of(
+        alloc,
+        "ethos check --include=cpc.eo --reference=r.smt2 p.eo",
+    )?;
+    ethos_main(alloc, words.as_slice(), &mut files, &mut out);
+    Ok(out.bytes() == line)
+}

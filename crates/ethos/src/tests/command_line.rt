@@ -1,0 +1,146 @@
+//! Words of the command line, over files in memory.
+ghost use Rattle.std.specs.Prelude.{◌≤◌};
+
+use super::ROOM;
+use crate::ethos_main;
+use eo_base::{Status, Text};
+use eo_io::{MemoryLibrary, MemorySink};
+use std::alloc::{AllocError, Global};
+
+const USAGE: &[u8] =
+    b"usage: ethos check [--include=F] [--reference=F] [--closed] PROOF | ethos load FILE | ethos bench N\n";
+
+/// The words of a line: what stands between two spaces is one, also where it is empty.
+pub(crate) fn words_of(alloc: Global, line: &str) -> Result<Vec<Text>, AllocError> {
+    let mut words = Vec::new(alloc);
+    for word in line.split(' ') {
+        words.push(Text::new(alloc, word)?)?;
+    }
+    Ok(words)
+}
+
+/// What is printed for the words of a line, with reads of at most so many bytes.
+fn run(alloc: Global, line: &str, piece: usize) -> Result<(Status, MemorySink), AllocError>
+    requires { 1 ≤ piece }
+{
+    let mut files = MemoryLibrary::new(alloc)?;
+    files.add(b"r.smt2", b"(assert false)\n")?;
+    files.add(b"c.eo", b"(declare-const p Bool)\n")?;
+    files.add(b"p.eo", b"(assume @p1 false)\n")?;
+    files.add(b"-p.eo", b"(assume @p1 false)\n")?;
+    files.add(
+        b"bad.eo",
+        b"(declare-rule bad () :args () :conclusion false)\n(step @p1 false :rule bad)\n",
+    )?;
+    files.piece(piece);
+    let mut out = MemorySink::new(alloc, ROOM)?;
+    let status = ethos_main(
+        alloc,
+        words_of(alloc, line)?.as_slice(),
+        &mut files,
+        &mut out,
+    );
+    Ok((status, out))
+}
+
+/// Whether the words of a line give this answer, whole and with reads of 1 and of 3 bytes.
+fn gives(alloc: Global, line: &str, answer: &[u8], status: Status) -> bool {
+    for piece in [1usize, 3, 65_536] {
+        match run(alloc, line, piece) {
+            Ok((got, out)) if got == status && out.bytes() == answer => {}
+            _ => return false,
+        }
+    }
+    true
+}
+
+#[test]
+fn words_that_are_read(rt: HostRuntime) {
+    let correct = [
+        "ethos check --reference=r.smt2 p.eo",
+        "ethos check p.eo --reference=r.smt2",
+        "ethos check --reference r.smt2 p.eo",
+        "ethos check p.eo --reference r.smt2",
+        "ethos check --include=c.eo --reference=r.smt2 p.eo",
+        "ethos check --reference=r.smt2 p.eo --include c.eo",
+        "ethos check --closed --reference=r.smt2 p.eo",
+        "ethos check --reference=r.smt2 --closed -- p.eo",
+        "ethos check --reference=./x/../r.smt2 -- -p.eo",
+        "ethos check --reference=r.smt2 bad.eo",
+        " check --reference=r.smt2 p.eo",
+    ];
+    for line in correct {
+        assert!(&rt; gives(rt.alloc(), line, b"correct\n", Status::Ok));
+    }
+    let rows: [(&str, &[u8]); 9] = [
+        (
+            "ethos check --reference=r.smt2 bad.eo --closed",
+            b"refused F38 ProofDeclares bad.eo:1:0\n",
+        ),
+        ("ethos check p.eo", b"refused F29 NoReference p.eo:1:0\n"),
+        ("ethos check p.eo --", b"refused F29 NoReference p.eo:1:0\n"),
+        ("ethos check c.eo", b"refused F29 NoReference c.eo:2:23\n"),
+        (
+            "ethos check --include= --reference=r.smt2 p.eo",
+            b"refused F09 BadPath :1:0\n",
+        ),
+        ("ethos check ", b"refused F09 BadPath :1:0\n"),
+        (
+            "ethos check --reference=p.eo p.eo",
+            b"refused F10 UnknownCommand p.eo:1:0\n",
+        ),
+        ("ethos check -", b"refused F35 FileAbsent -:1:0\n"),
+        ("ethos load ", b"refused F09 BadPath :1:0\n"),
+    ];
+    for (line, answer) in rows {
+        assert!(&rt; gives(rt.alloc(), line, answer, Status::Refused));
+    }
+    assert!(&rt;
+        gives(
+            rt.alloc(),
+            "ethos load c.eo",
+            b"loaded 1 commands\n",
+            Status::Ok
+        )
+    );
+}
+
+#[test]
+fn words_that_are_not_read(rt: HostRuntime) {
+    let lines = [
+        "",
+        "ethos",
+        "ethos ",
+        "ethos frob p.eo",
+        "ethos Check p.eo",
+        "ethos check",
+        "ethos check p.eo p.eo",
+        "ethos check p.eo -- p.eo",
+        "ethos check --reference=r.smt2",
+        "ethos check p.eo --reference",
+        "ethos check --reference --closed p.eo",
+        "ethos check --reference=r.smt2 --reference=r.smt2 p.eo",
+        "ethos check --include=c.eo --include c.eo p.eo",
+        "ethos check --closed --closed p.eo",
+        "ethos check --closed=true p.eo",
+        "ethos check --ref=r.smt2 p.eo",
+        "ethos check -r r.smt2 p.eo",
+        "ethos check -p.eo",
+        "ethos --reference=r.smt2 check p.eo",
+        "ethos load",
+        "ethos load c.eo c.eo",
+        "ethos load --closed c.eo",
+        "ethos help",
+        "ethos help check",
+        "ethos --help",
+        "ethos -h",
+        "ethos check --help",
+        "ethos check -h p.eo",
+        "ethos load --help c.eo",
+        "ethos --version",
+        "ethos bench 1",
+    ];
+    for line in lines {
+        assert!(&rt; gives(rt.alloc(), line, USAGE, Status::Usage));
+    }
+}

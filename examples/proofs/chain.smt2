@@ -1,0 +1,5 @@
+(declare-const p Bool)
+(declare-const q Bool)
+(assert p)
+(assert (=> p q))
+(assert (not q))

@@ -1,0 +1,6 @@
+(declare-const p Bool)
+(declare-const q Bool)
+(declare-const r Bool)
+(assert (=> p q))
+(assert (=> q r))
+(assert (not (=> p r)))
