@@ -1,11 +1,46 @@
 //! Checks of files whose commands open other files.
-ghost use Rattle.std.specs.Prelude.{◌≤◌};
+ghost use Rattle.std.specs.Prelude.{◌≡◌, ◌≤◌, [], IfOk};
 
 use super::ROOM;
 use super::command_line::words_of;
 use crate::ethos_main;
-use eo_io::{MemoryLibrary, MemorySink};
+use eo_io::{Library, MemoryLibrary, MemorySink};
 use std::alloc::{AllocError, Global};
+
+/// The files that a proof may open, each with its path.
+const FILES: [(&[u8], &[u8]); 14] = [
+    (b"r.smt2", b"(assert false)\n"),
+    (b"t.smt2", b"(assert true)\n"),
+    (b"u.smt2", b"(reference \"r.smt2\")\n"),
+    (b"s.eo", b"(declare-const s Bool)\n"),
+    (b"f.eo", b"(assume @f false)\n"),
+    (b"x/j.eo", b"(include \"k.eo\")\n(include \"../f.eo\")\n"),
+    (b"x/k.eo", b"(declare-const k Bool)\n"),
+    (b"x/l.eo", b"(reference \"../r.smt2\")\n"),
+    (b"v.eo", b"(include \"p.eo\")\n(declare-const v Bool)\n"),
+    (b"w.eo", b"(\n(assume @w false)\n)\n"),
+    (b"d.eo", b"(declare-rule d () :args () :conclusion false)\n"),
+    (b"g.eo", b"(include \"d.eo\")\n"),
+    (b"e.eo", b"(declare-const e Bool)\n(declare-const e Bool)\n"),
+    (b"o.eo", b"(declare-const o Bool"),
+];
+
+/// A library of a proof and of these files, of which none is open.
+fn library(
+    alloc: Global,
+    proof: &[u8],
+    texts: &[(&[u8], &[u8])],
+) -> Result<MemoryLibrary, AllocError>
+    ensures { IfOk result (λ files. ⟦<MemoryLibrary as Library>⟧.open_files files ≡ []) }
+{
+    let mut files = MemoryLibrary::new(alloc)?;
+    files.add(b"p.eo", proof)?;
+    for i in 0..texts.len() {
+        let (path, text) = texts[i];
+        files.add(path, text)?;
+    }
+    Ok(files)
+}
 
 /// What is printed for the words of a line and this proof, with reads of at most so many bytes, and
 /// with one call of the library that fails, if its number is one of a call.
@@ -18,22 +53,7 @@ fn run(
 ) -> Result<MemorySink, AllocError>
     requires { 1 ≤ piece }
 {
-    let mut files = MemoryLibrary::new(alloc)?;
-    files.add(b"p.eo", proof)?;
-    files.add(b"r.smt2", b"(assert false)\n")?;
-    files.add(b"t.smt2", b"(assert true)\n")?;
-    files.add(b"u.smt2", b"(reference \"r.smt2\")\n")?;
-    files.add(b"s.eo", b"(declare-const s Bool)\n")?;
-    files.add(b"f.eo", b"(assume @f false)\n")?;
-    files.add(b"x/j.eo", b"(include \"k.eo\")\n(include \"../f.eo\")\n")?;
-    files.add(b"x/k.eo", b"(declare-const k Bool)\n")?;
-    files.add(b"x/l.eo", b"(reference \"../r.smt2\")\n")?;
-    files.add(b"v.eo", b"(include \"p.eo\")\n(declare-const v Bool)\n")?;
-    files.add(b"w.eo", b"(\n(assume @w false)\n)\n")?;
-    files.add(b"d.eo", b"(declare-rule d () :args () :conclusion false)\n")?;
-    files.add(b"g.eo", b"(include \"d.eo\")\n")?;
-    files.add(b"e.eo", b"(declare-const e Bool)\n(declare-const e Bool)\n")?;
-    files.add(b"o.eo", b"(declare-const o Bool")?;
+    let mut files = library(alloc, proof, &FILES)?;
     files.piece(piece);
     files.fail(failing)?;
     let mut out = MemorySink::new(alloc, ROOM)?;
