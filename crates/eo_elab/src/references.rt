@@ -37,7 +37,8 @@ pub fn reference_declaration(
     table: &mut Table,
 ) -> Result<Declaration, ElabRefused>
     requires { IsBelow (length table.old.trees) sig.now }
-    ensures gives { GivesDeclaration table.new result (or_bad (reference_declaration (reference_context table.old sig.now) (read_command command.now))) }
+    ensures gives { GivesDeclaration table.new result
+        (or_bad (reference_declaration (reference_context table.old sig.now) (read_command command.now))) }
     ensures may { IfOk result (λ d. MayBeReferred (context_in table.old sig.now) (read_declaration table.new.trees d)) }
     ensures grows { GrowsUnder sig.now table.old table.new }
 {

@@ -1,5 +1,6 @@
 //! String literals.
-ghost use Rattle.std.specs.Prelude.{◌≡◌, ◌≤◌, ◌<◌, ◌==◌, false, Err, Some, None, IfOk, IfSome, option_map, position, take, length};
+ghost use Rattle.std.specs.Prelude.{◌≡◌, ◌≤◌, ◌<◌, ◌==◌, false, Err, Some, None, IfOk, IfSome};
+ghost use Rattle.std.specs.Prelude.{option_map, position, take, length};
 ghost use Rattle.eo_base.specs.Characters.{greatest_character};
 ghost use Rattle.eo_lit.specs.declared.StringRefused.TheVariants.{Bad};
 ghost use Rattle.eo_lit.specs.Literals.{string_value, string_bytes, without_doubles, character_at, character_of, escape, in_braces, braced, spelled};
