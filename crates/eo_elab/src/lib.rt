@@ -15,8 +15,6 @@ mod references;
 mod rules;
 mod shapes;
 mod terms;
-#[cfg(test)]
-mod tests;
 mod walk;
 
 pub use declaring::{

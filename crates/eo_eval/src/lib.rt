@@ -9,8 +9,6 @@ mod machine;
 mod operators;
 mod scope;
 mod stack;
-#[cfg(test)]
-mod tests;
 
 pub use evaluator::{EvalRefused, Evaluator, Outcome};
 pub use laws::{settling_law, values_law};

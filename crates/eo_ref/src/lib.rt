@@ -2,8 +2,6 @@
 #![tactic(auto)]
 
 mod reference;
-#[cfg(test)]
-mod tests;
 
 use eo_elab::{ElabRefused, Names};
 use eo_sig::Declaration;

@@ -8,8 +8,6 @@ mod laws;
 mod matching;
 mod refused;
 mod requirements;
-#[cfg(test)]
-mod tests;
 mod typing;
 mod using;
 mod values;

@@ -23,8 +23,6 @@ mod rules;
 mod scopes;
 mod session;
 mod steps;
-#[cfg(test)]
-mod tests;
 
 pub use checking::{check_files, load_files};
 use eo_base::{Fault, Text};

@@ -237,6 +237,3 @@ pub enum ShapeRefused {
     /// It is no list that begins with a symbol, or its parts have a wrong shape.
     BadCommand,
 }
-
-#[cfg(test)]
-mod tests;

@@ -24,6 +24,3 @@ pub use refused::SigRefused;
 pub use reserved::is_reserved;
 pub use signature::{SigMark, Signature};
 pub use view::SignatureView;
-
-#[cfg(test)]
-mod tests;

@@ -15,6 +15,3 @@ pub use literals::operator_value;
 pub use refused::TypeRefused;
 pub use settling::settle;
 pub use types::Types;
-
-#[cfg(test)]
-mod tests;

@@ -3,6 +3,7 @@ ghost use Rattle.std.specs.Prelude.{◌≤◌};
 mod benchmarks;
 mod command_line;
 mod declarations;
+mod each_rule;
 mod evaluation;
 mod loads;
 mod opened;
@@ -336,6 +337,19 @@ fn proofs_in_the_whole_lexicon(rt: HostRuntime) {
     for (proof, line) in rows {
         assert!(&rt; prints(rt.alloc(), b"(assert true)\n", proof, line));
     }
+}
+
+#[test]
+fn a_proof_without_the_end_of_its_pair(rt: HostRuntime) {
+    let proof = b"(\n(assume @p1 false)\n".as_slice();
+    assert!(&rt;
+        prints(
+            rt.alloc(),
+            b"(assert false)\n",
+            proof,
+            b"refused F02 Unclosed p.eo:3:21\n"
+        )
+    );
 }
 
 /// Whether a proof of so many `(` gives this line.

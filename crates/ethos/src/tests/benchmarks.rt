@@ -93,6 +93,45 @@ fn a_step_needs_its_premises(rt: HostRuntime) {
 }
 
 #[test]
+fn scopes_and_marked_rules_behind_a_signature(rt: HostRuntime) {
+    let rows: [Row<'_>; 6] = [
+        (
+            DECLARED,
+            b"(assume-push @a p)\n(step-pop @s (=> p p) :rule scope :premises (@a))\n\
+(step @x :rule contra :premises (@a @s))\n",
+            b"refused F24 UnknownPremise p.eo:3:69\n",
+        ),
+        (
+            DECLARED,
+            b"(assume-push @a p)\n",
+            b"refused F40 ScopeOpen p.eo:2:19\n",
+        ),
+        (
+            DECLARED,
+            b"(step-pop @s :rule scope)\n",
+            b"refused F32 NoScope p.eo:1:0\n",
+        ),
+        (
+            b"(assert false)\n",
+            b"(declare-rule trust ((F Bool)) :args (F) :conclusion F :sorry)\n(assume @p1 false)\n",
+            b"correct\n",
+        ),
+        (
+            b"(assert false)\n",
+            b"(declare-rule trust ((F Bool)) :args (F) :conclusion F :sorry)\n\
+(step @p1 :rule trust :args (false))\n",
+            b"incomplete\n",
+        ),
+        (
+            DECLARED,
+            b"(declare-rule bad () :args () :conclusion false)\n(step @p1 false :rule bad)\n",
+            b"correct\n",
+        ),
+    ];
+    assert_eq!(rt; wrong(rt.alloc(), suite(), &rows), None);
+}
+
+#[test]
 fn an_assumption_is_an_asserted_value(rt: HostRuntime) {
     let named = b"(declare-const p Bool)\n(declare-const q Bool)\n\
 (assert (! (let ((x (not p))) (and x x)) :named h))\n"

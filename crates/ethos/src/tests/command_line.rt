@@ -28,6 +28,7 @@ fn run(alloc: Global, line: &str, piece: usize) -> Result<(Status, MemorySink), 
     files.add(b"c.eo", b"(declare-const p Bool)\n")?;
     files.add(b"p.eo", b"(assume @p1 false)\n")?;
     files.add(b"-p.eo", b"(assume @p1 false)\n")?;
+    files.add(b"empty.eo", b"")?;
     files.add(
         b"bad.eo",
         b"(declare-rule bad () :args () :conclusion false)\n(step @p1 false :rule bad)\n",
@@ -72,7 +73,7 @@ fn words_that_are_read(rt: HostRuntime) {
     for line in correct {
         assert!(&rt; gives(rt.alloc(), line, b"correct\n", Status::Ok));
     }
-    let rows: [(&str, &[u8]); 9] = [
+    let rows: [(&str, &[u8]); 10] = [
         (
             "ethos check --reference=r.smt2 bad.eo --closed",
             b"refused F38 ProofDeclares bad.eo:1:0\n",
@@ -80,6 +81,10 @@ fn words_that_are_read(rt: HostRuntime) {
         ("ethos check p.eo", b"refused F29 NoReference p.eo:1:0\n"),
         ("ethos check p.eo --", b"refused F29 NoReference p.eo:1:0\n"),
         ("ethos check c.eo", b"refused F29 NoReference c.eo:2:23\n"),
+        (
+            "ethos check empty.eo",
+            b"refused F29 NoReference empty.eo:1:0\n",
+        ),
         (
             "ethos check --include= --reference=r.smt2 p.eo",
             b"refused F09 BadPath :1:0\n",

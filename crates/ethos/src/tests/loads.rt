@@ -98,6 +98,20 @@ fn signatures_that_are_refused(rt: HostRuntime) {
     }
 }
 
+/// Whether a signature of so many `(` gives this line.
+fn opens_print(alloc: Global, count: usize, line: &[u8]) -> Result<bool, AllocError> {
+    let text = vec![in alloc; b'('; count]?;
+    Ok(gives(alloc, &text, line, Status::Refused))
+}
+
+#[test]
+fn lists_that_are_nested_too_deep(rt: HostRuntime) {
+    let unclosed = opens_print(rt.alloc(), 512, b"refused F02 Unclosed a.eo:1:512\n");
+    assert!(&rt; unclosed == Ok(true));
+    let too_deep = opens_print(rt.alloc(), 513, b"refused F07 Nesting a.eo:1:512\n");
+    assert!(&rt; too_deep == Ok(true));
+}
+
 /// What is printed for `load n0.eo`, over files `n0.eo` to `n17.eo` of which each includes the next.
 fn chain_run(alloc: Global) -> Result<MemorySink, AllocError> {
     let mut files = MemoryLibrary::new(alloc)?;

@@ -151,69 +151,21 @@ fn values_of_arguments(rt: HostRuntime) {
 }
 
 #[test]
-fn rules_of_the_suite(rt: HostRuntime) {
+fn other_uses_of_the_suite(rt: HostRuntime) {
     let rows = [
-        (
-            b"(assume-push @a (and p q))(step @s q :rule and_elim :premises (@a) :args (1))".as_slice(),
-            OPEN,
-        ),
-        (
-            b"(assume-push @a (and p q))(step @s :rule and_elim :premises (@a) :args (2))",
-            b"refused F16 Stuck ",
-        ),
-        (
-            b"(assume-push @a p)(assume-push @b q)(step @s (and p q) :rule and_intro :premises (@a @b))",
-            OPEN,
-        ),
-        (
-            b"(assume-push @a p)(assume-push @b q)(step @s (and q p) :rule and_intro :premises (@a @b))",
-            b"refused F26 ConclusionDiffers ",
-        ),
-        (b"(step @s true :rule and_intro)", ACCEPTED),
-        (
-            b"(assume-push @a (not (and p q)))
-              (step @s (or (not p) (not q)) :rule not_and :premises (@a))",
-            OPEN,
-        ),
-        (
-            b"(assume-push @a (= p q))(assume-push @b (= q r))
-              (step @s (= p r) :rule trans :premises (@a @b))",
-            OPEN,
-        ),
+        (b"(step @s true :rule and_intro)".as_slice(), ACCEPTED),
         (
             b"(assume-push @a (= p q))(assume-push @b (= r q))
               (step @s (= p r) :rule trans :premises (@a @b))",
-            b"refused F16 Stuck ",
+            b"refused F16 Stuck ".as_slice(),
         ),
         (
             b"(assume-push @a (not (= p q)))(step @s (not (= q p)) :rule symm :premises (@a))",
             OPEN,
         ),
         (
-            b"(step @s (or (not (or p q)) p q) :rule cnf_or_pos :args ((or p q)))",
-            ACCEPTED,
-        ),
-        (
-            b"(step @s (or (and p q) (not p) (not q)) :rule cnf_and_neg :args ((and p q)))",
-            ACCEPTED,
-        ),
-        (
-            b"(step @s (or (or p q) (not p)) :rule cnf_or_neg :args ((or p q) 0))",
-            ACCEPTED,
-        ),
-        (
-            b"(assume-push @a (or p q))(assume-push @b (or (not p) r))
-              (step @s (or q r) :rule resolution :premises (@a @b) :args (true p))",
-            OPEN,
-        ),
-        (
             b"(assume-push @a (or (not p) q))(assume-push @b p)
               (step @s q :rule resolution :premises (@a @b) :args (false p))",
-            OPEN,
-        ),
-        (
-            b"(assume-push @a (or p q))(assume-push @b (not p))(assume-push @c (not q))
-              (step @s false :rule chain_resolution :premises (@a @b @c) :args ((@list true true) (@list p q)))",
             OPEN,
         ),
     ];

@@ -1,0 +1,190 @@
+//! What commands of a reference file say over a signature.
+ghost use Rattle.std.specs.Prelude.{◌<◌, length, IfOk};
+ghost use Rattle.eo_sig.specs.Reading.{IsBelow, ConstBelow, MacroBelow};
+ghost use Rattle.eo_elab.specs.Declaring.{DeclarationBelow};
+
+use super::text::read;
+use eo_elab::ElabRefused;
+use eo_ref::{RefNext, RefRefused, Reference};
+use eo_sexp::Sexp;
+use eo_sig::{ConstDecl, Declaration, MacroDecl, Signature};
+use eo_term::{Id, Table};
+use std::alloc::{AllocError, Global};
+use std::marker::Model;
+use std::test::Fail;
+
+/// What is told of a command.
+#[derive(Clone, Copy, Debug, PartialEq, Eq)]
+pub(super) enum Told {
+    Constant,
+    /// A macro with so many parameters.
+    Macro(usize),
+    /// A formula, and so many names.
+    Assert(usize),
+    Skip,
+    Exit,
+    UnknownCommand,
+    BadCommand,
+    BadLiteral,
+    Redeclared,
+    UnknownSymbol,
+    BadArity,
+    /// Another fault, want of memory, or something else that is declared.
+    Other,
+    /// It is no s-expression.
+    Unread,
+}
+
+/// A table, a signature over it, and what is asserted.
+#[derive(Drop)]
+pub(super) struct World {
+    alloc: Global,
+    table: Table,
+    sig: Signature,
+    reference: Reference,
+}
+
+impl Model for World {
+    ghost use Rattle.std.specs.Prelude.{ℕ, length};
+    ghost use Rattle.eo_sig.specs.Reading.{IsBelow};
+
+    ghost Value = { ℕ };
+
+    ghost view = { λ a. length a.table.trees };
+
+    ghost invariant = { λ a. IsBelow (length a.table.trees) a.sig };
+}
+
+impl World {
+    /// Nothing is declared or asserted yet.
+    pub(super) fn new(alloc: Global) -> Result<World, AllocError> {
+        Ok(World {
+            alloc,
+            table: Table::new(alloc)?,
+            sig: Signature::new(alloc)?,
+            reference: Reference::new(alloc)?,
+        })
+    }
+
+    /// The first command of which something else is told than what stands beside it. What it
+    /// declares is declared, where the name is free.
+    pub(super) fn other(&mut self, rows: &[(&str, Told)]) -> Result<Option<usize>, Fail> {
+        for (i, (text, want)) in rows.iter().enumerate() {
+            if self.told(text)? != *want {
+                return Ok(Some(i));
+            }
+        }
+        Ok(None)
+    }
+
+    fn told(&mut self, text: &str) -> Result<Told, Fail> {
+        match read(self.alloc, text.as_bytes())? {
+            Some(text) => Ok(self.told_of(&text.sexp())),
+            None => Ok(Told::Unread),
+        }
+    }
+
+    fn told_of(&mut self, s: &Sexp<'_>) -> Told {
+        match self.reference.command(s, &self.sig, &mut self.table) {
+            Ok(RefNext::Declare(d)) => declare(&mut self.sig, &self.table, d),
+            Ok(RefNext::Assert { formula: _, names }) => Told::Assert(names.len()),
+            Ok(RefNext::Skip) => Told::Skip,
+            Ok(RefNext::Exit) => Told::Exit,
+            Err(e) => refused(&e),
+        }
+    }
+
+    /// Asserts the formula of a command.
+    pub(super) fn assert(&mut self, text: &str) -> Result<(), Fail> {
+        let formula = self.formula(text)?;
+        Ok(self.reference.add(formula)?)
+    }
+
+    /// Whether the formula of a command is asserted.
+    pub(super) fn asserts(&mut self, text: &str) -> Result<bool, Fail> {
+        let formula = self.formula(text)?;
+        Ok(self.reference.asserts(formula))
+    }
+
+    fn formula(&mut self, text: &str) -> Result<Id, Fail> {
+        match read(self.alloc, text.as_bytes())? {
+            Some(text) => self.formula_of(&text.sexp()),
+            None => Err(Fail::new("no s-expression")),
+        }
+    }
+
+    fn formula_of(&mut self, s: &Sexp<'_>) -> Result<Id, Fail> {
+        match self.reference.command(s, &self.sig, &mut self.table) {
+            Ok(next) => asserted(&next),
+            Err(_) => Err(Fail::new("a refused command")),
+        }
+    }
+}
+
+// The formula that is asserted.
+fn asserted(next: &RefNext) -> Result<Id, Fail> {
+    match next {
+        RefNext::Assert { formula, names: _ } => Ok(*formula),
+        _ => Err(Fail::new("no assertion")),
+    }
+}
+
+// Declares a constant or a macro, where its name is free.
+fn declare(sig: &mut Signature, table: &Table, d: Declaration) -> Told
+    requires ready { IsBelow (length table.now.trees) sig.old }
+    requires below { DeclarationBelow (length table.now.trees) d }
+    ensures ready { IsBelow (length table.now.trees) sig.new }
+{
+    match d {
+        Declaration::Const(d) => declare_constant(sig, table, d),
+        Declaration::Macro(d) => define(sig, table, d),
+        _ => Told::Other,
+    }
+}
+
+fn declare_constant(sig: &mut Signature, table: &Table, d: ConstDecl) -> Told
+    requires ready { IsBelow (length table.now.trees) sig.old }
+    requires below { ConstBelow (length table.now.trees) d }
+    ensures ready { IsBelow (length table.now.trees) sig.new }
+{
+    if !d.from_reference {
+        return Told::Other;
+    }
+    if !sig.is_free(d.name.as_bytes()) {
+        return Told::Constant;
+    }
+    match sig.declare(table, d) {
+        Ok(_) => Told::Constant,
+        Err(_) => Told::Other,
+    }
+}
+
+fn define(sig: &mut Signature, table: &Table, d: MacroDecl) -> Told
+    requires ready { IsBelow (length table.now.trees) sig.old }
+    requires below { MacroBelow (length table.now.trees) d }
+    ensures ready { IsBelow (length table.now.trees) sig.new }
+{
+    if !d.from_reference {
+        return Told::Other;
+    }
+    let parameters = d.params.as_slice().len();
+    if !sig.is_free(d.name.as_bytes()) {
+        return Told::Macro(parameters);
+    }
+    match sig.define(d) {
+        Ok(_) => Told::Macro(parameters),
+        Err(_) => Told::Other,
+    }
+}
+
+fn refused(e: &RefRefused) -> Told {
+    match e {
+        RefRefused::UnknownCommand => Told::UnknownCommand,
+        RefRefused::Elab(ElabRefused::BadCommand) => Told::BadCommand,
+        RefRefused::Elab(ElabRefused::BadLiteral) => Told::BadLiteral,
+        RefRefused::Elab(ElabRefused::Redeclared) => Told::Redeclared,
+        RefRefused::Elab(ElabRefused::UnknownSymbol) => Told::UnknownSymbol,
+        RefRefused::Elab(ElabRefused::BadArity) => Told::BadArity,
+        RefRefused::Elab(_) => Told::Other,
+    }
+}

@@ -1,0 +1,13 @@
+use Rattle.std.proofs.Common.{◌≡◌, List, length, sym, ap, subst, take}
+use Rattle.eo_term.specs.Tree.{Tree}
+use Rattle.eo_term.specs.Terms.{first_trees}
+use Rattle.eo_sig.specs.Reading.{Kept, IsBelow}
+use Rattle.rule_tests.proofs.tests.world.World.first.Goals as goal
+
+as_many : (ts us : List Tree) (k : Kept) → us ≡ ts → IsBelow (length ts) k → IsBelow (length us) k
+as_many ts us k e h = subst (λ (xs : List Tree). IsBelow (length xs) k) (sym e) h
+
+pub invariant_of-result : goal.invariant_of-result
+invariant_of-result c =
+    let trees = c.in_ok-table.ensures.trees in
+    (as_many first_trees _ _ trees c.in_ok-sig.ensures.below, c.in_ok-sig.ensures.usable _ (ap (take 4) trees))

@@ -1,0 +1,692 @@
+//! Terms, and a signature with constants and rules over them.
+ghost use Rattle.std.specs.Prelude.{◌≡◌, ◌<◌, ℕ, true, nat_lt, length, map, option_map, option_to_list, All, IsTrue, IfOk};
+ghost use Rattle.std.specs.List.{list_all};
+ghost use Rattle.eo_term.specs.Growth.{tree_in, trees_in};
+ghost use Rattle.eo_term.specs.Terms.{HasArity, PartsBelow, TextsBelow, IsPlain, IsProper};
+ghost use Rattle.eo_term.specs.ParamSet.{has};
+ghost use Rattle.eo_term.specs.Tree.{is_value, uses_only};
+ghost use Rattle.eo_sig.specs.Growth.{GrowsUnder};
+ghost use Rattle.eo_sig.specs.Reading.{AttributeBelow, CaseBelow, ConstBelow, IsBelow, PremisesBelow, ProgramBelow, RuleBelow};
+ghost use Rattle.eo_sig.specs.Reading.{SomeBelow, read_parameter, rules_of, signature};
+ghost use Rattle.eo_sig.specs.declared.records.Param.{Param};
+ghost use Rattle.eo_sig.specs.declared.records.RuleDecl.{RuleDecl};
+ghost use Rattle.eo_sig.specs.Signature.{are_ordered};
+ghost use Rattle.eo_sig.specs.Usable.{AreOrdered, IsUsable};
+ghost use Rattle.eo_rule.specs.Reading.{AreValuesIn, UseBelow};
+
+use super::rows::{Form, Given, RuleRow, Told, UseRow, Want};
+use eo_base::Name;
+use eo_eval::Evaluator;
+use eo_pattern::Subst;
+use eo_rule::{RuleRefused, RuleUse, conclude};
+use eo_sig::{
+    Attribute, Case, Cases, ConstDecl, IdPairs, LiteralClass, Param, Params, PremiseShape,
+    ProgramDecl, RuleDecl, Signature,
+};
+use eo_term::{BOOL, Id, Ids, Node, OpCode, OpName, ParamSet, TRUE, TYPE, Table, TermRefused};
+use eo_type::Types;
+use std::alloc::Global;
+use std::marker::Model;
+use std::test::Fail;
+
+/// The number of the constant `and`.
+pub(super) const AND: usize = 7;
+
+/// A table and a signature over it. It declares the constants `p` and `q` of type `Bool`, 4 and 5,
+/// `not`, 6, `and` with the terminator `true`, 7, `Int`, 8, which is the type of numerals, and `c`
+/// of that type, 9. A vector type `vec n` is that of `zeros`, 11, on the number n - 1, and a type
+/// `proof f` that of `proved`, 13, on the formula whose negation f is: `vec` is 10, `proof` 12.
+///
+/// A call that gets a term of another table fails.
+#[derive(Drop)]
+pub(super) struct World {
+    alloc: Global,
+    table: Table,
+    sig: Signature,
+}
+
+impl Model for World {
+    ghost use Rattle.std.specs.Prelude.{ℕ, length};
+    ghost use Rattle.eo_sig.specs.Reading.{IsBelow, signature};
+    ghost use Rattle.eo_sig.specs.Usable.{IsUsable};
+
+    ghost Value = { ℕ };
+
+    ghost view = { λ a. length a.table.trees };
+
+    ghost invariant = { λ a. IsBelow (length a.table.trees) a.sig × IsUsable (signature a.table.trees a.sig) };
+}
+
+impl World {
+    /// No rule is there yet.
+    pub(super) fn new(alloc: Global) -> Result<World, Fail> {
+        let mut w = World::first(alloc)?;
+        w.declare_all()?;
+        Ok(w)
+    }
+
+    // Nothing is declared yet.
+    fn first(alloc: Global) -> Result<World, Fail> {
+        let table = Table::new(alloc)?;
+        let sig = Signature::new(alloc)?;
+        Ok(World { alloc, table, sig })
+    }
+
+    // Declares all constants.
+    fn declare_all(&mut self) -> Result<(), Fail> {
+        self.declare_formulas()?;
+        self.declare_numbers()?;
+        self.declare_vectors()?;
+        self.declare_proofs()
+    }
+
+    // Declares the constants of formulas.
+    fn declare_formulas(&mut self) -> Result<(), Fail> {
+        let to_bool = self.arr(BOOL, BOOL)?;
+        let to_both = self.arr(BOOL, to_bool)?;
+        self.declare(b"p", BOOL, None)?;
+        self.declare(b"q", BOOL, None)?;
+        self.declare(b"not", to_bool, None)?;
+        self.declare(b"and", to_both, Some(TRUE))
+    }
+
+    // Declares those of numbers.
+    fn declare_numbers(&mut self) -> Result<(), Fail> {
+        self.declare(b"Int", TYPE, None)?;
+        let int = self.con(8)?;
+        self.declare(b"c", int, None)?;
+        self.type_numerals(int)
+    }
+
+    // Declares vectors, of which the type holds a number.
+    fn declare_vectors(&mut self) -> Result<(), Fail> {
+        let int = self.con(8)?;
+        let to_type = self.arr(int, TYPE)?;
+        self.declare(b"vec", to_type, None)?;
+        let number = self.par(0)?;
+        let one = self.num(1)?;
+        let more = self.op(OpName::Add, &[number, one])?;
+        let vector = self.vec(more)?;
+        let to_vector = self.qar(int, vector)?;
+        self.declare(b"zeros", to_vector, None)
+    }
+
+    // Declares proofs, of which the type holds a formula.
+    fn declare_proofs(&mut self) -> Result<(), Fail> {
+        let to_type = self.arr(BOOL, TYPE)?;
+        self.declare(b"proof", to_type, None)?;
+        let formula = self.par(0)?;
+        let negated = self.not(formula)?;
+        let proof = self.proof(negated)?;
+        let to_proof = self.qar(BOOL, proof)?;
+        self.declare(b"proved", to_proof, None)
+    }
+
+    // Gives numerals a type.
+    fn type_numerals(&mut self, ty: Id) -> Result<(), Fail> {
+        let ty = live(&self.table, ty)?;
+        self.sig
+            .set_literal_type(&self.table, LiteralClass::Numeral, ty)?;
+        Ok(())
+    }
+
+    // Declares a constant, which spells lists with this terminator if it has one.
+    fn declare(&mut self, name: &[u8], ty: Id, end: Option<Id>) -> Result<(), Fail> {
+        let d = constant(self.alloc, &self.table, name, ty, end)?;
+        if !self.sig.is_free(d.name.as_bytes()) {
+            return Err(Fail::new("no free name"));
+        }
+        self.sig.declare(&self.table, d)?;
+        Ok(())
+    }
+
+    /// A constant, by its number.
+    pub(super) fn con(&mut self, number: usize) -> Result<Id, Fail> {
+        Ok(made(&self.sig, &mut self.table, Node::Con(number))?)
+    }
+
+    /// A number.
+    pub(super) fn num(&mut self, number: i128) -> Result<Id, Fail> {
+        Ok(made(&self.sig, &mut self.table, Node::Num(number))?)
+    }
+
+    /// A parameter, by its number.
+    pub(super) fn par(&mut self, number: u8) -> Result<Id, Fail> {
+        if number >= 64 {
+            return Err(Fail::new("no parameter"));
+        }
+        Ok(made(&self.sig, &mut self.table, Node::Par(number))?)
+    }
+
+    // The type of functions from one type to another.
+    fn arr(&mut self, from: Id, to: Id) -> Result<Id, Fail> {
+        let from = live(&self.table, from)?;
+        let to = live(&self.table, to)?;
+        Ok(made(&self.sig, &mut self.table, Node::Arr { from, to })?)
+    }
+
+    // The type of functions whose argument is bound as the parameter 0.
+    fn qar(&mut self, ty: Id, to: Id) -> Result<Id, Fail> {
+        let ty = live(&self.table, ty)?;
+        let to = live(&self.table, to)?;
+        Ok(made(&self.sig, &mut self.table, Node::Qar { par: 0, ty, to })?)
+    }
+
+    /// A term applied to another.
+    pub(super) fn app(&mut self, fun: Id, arg: Id) -> Result<Id, Fail> {
+        let fun = live(&self.table, fun)?;
+        let arg = live(&self.table, arg)?;
+        Ok(made(&self.sig, &mut self.table, Node::App { fun, arg })?)
+    }
+
+    /// The negation of a term.
+    pub(super) fn not(&mut self, id: Id) -> Result<Id, Fail> {
+        let not = self.con(6)?;
+        self.app(not, id)
+    }
+
+    /// The item before the conjunction.
+    pub(super) fn and(&mut self, first: Id, rest: Id) -> Result<Id, Fail> {
+        let and = self.con(AND)?;
+        let front = self.app(and, first)?;
+        self.app(front, rest)
+    }
+
+    /// The type of vectors of this length.
+    pub(super) fn vec(&mut self, length: Id) -> Result<Id, Fail> {
+        let vec = self.con(10)?;
+        self.app(vec, length)
+    }
+
+    /// A vector of one item more than the number.
+    pub(super) fn zeros(&mut self, number: Id) -> Result<Id, Fail> {
+        let zeros = self.con(11)?;
+        self.app(zeros, number)
+    }
+
+    /// The type of proofs of a formula.
+    pub(super) fn proof(&mut self, formula: Id) -> Result<Id, Fail> {
+        let proof = self.con(12)?;
+        self.app(proof, formula)
+    }
+
+    /// A proof of the negation of a formula.
+    pub(super) fn proved(&mut self, formula: Id) -> Result<Id, Fail> {
+        let proved = self.con(13)?;
+        self.app(proved, formula)
+    }
+
+    /// The negation of a term, and of that, and so on.
+    pub(super) fn nots(&mut self, id: Id, times: usize) -> Result<Id, Fail> {
+        let mut id = id;
+        for _ in 0..times {
+            id = self.not(id)?;
+        }
+        Ok(id)
+    }
+
+    /// An operator of the language on these arguments.
+    pub(super) fn op(&mut self, op: OpName, args: &[Id]) -> Result<Id, Fail> {
+        if args.len() != op.arity() || !are_live(&self.table, args) {
+            return Err(Fail::new("no arguments of the operator"));
+        }
+        Ok(made_op(&self.sig, &mut self.table, OpCode::Builtin(op), args)?)
+    }
+
+    /// A program, by its number, on a term.
+    pub(super) fn call(&mut self, program: usize, arg: Id) -> Result<Id, Fail> {
+        let arg = live(&self.table, arg)?;
+        Ok(made_op(&self.sig, &mut self.table, OpCode::Prog(program), &[arg])?)
+    }
+
+    /// Adds a program with these cases, each a pattern and a body.
+    pub(super) fn program(&mut self, name: &[u8], cases: &[(Id, Id)]) -> Result<(), Fail> {
+        let d = program(self.alloc, &self.table, name, cases)?;
+        if !self.sig.is_free(d.name.as_bytes()) {
+            return Err(Fail::new("no free name"));
+        }
+        self.sig.add_program(&self.table, d)?;
+        Ok(())
+    }
+
+    /// Where its memory comes from.
+    pub(super) fn alloc(&self) -> Global {
+        self.alloc
+    }
+
+    // Adds the program 0, with these cases, each a pattern and a body.
+    fn declare_program(&mut self, rows: &[(&str, &str)]) -> Result<(), Fail> {
+        let mut cases = Vec::new(self.alloc);
+        for (pattern, body) in rows {
+            let case = (self.term(pattern)?, self.term(body)?);
+            cases.push(case)?;
+        }
+        self.program(b"u", cases.as_slice())
+    }
+
+    // Declares rules.
+    fn declare_rules(&mut self, rows: &[RuleRow<'_>]) -> Result<(), Fail> {
+        for row in rows {
+            let form = self.form(row)?;
+            self.rule(row.0.as_bytes(), &form)?;
+        }
+        Ok(())
+    }
+
+    // The terms of a rule.
+    fn form(&mut self, row: &RuleRow<'_>) -> Result<Form, Fail> {
+        let (_, types, assumption, premises, args, requirement, conclusion) = *row;
+        let list = premises.strip_prefix("*");
+        Ok(Form {
+            types: self.terms(types)?,
+            assumption: self.optional(assumption)?,
+            premises: self.terms(list.unwrap_or(premises))?,
+            joins: list.is_some(),
+            args: self.terms(args)?,
+            requirement: self.pair(requirement)?,
+            conclusion: self.term(conclusion)?,
+        })
+    }
+
+    // Declares a rule.
+    fn rule(&mut self, name: &[u8], form: &Form) -> Result<(), Fail> {
+        let d = ordered_rule(self.alloc, &self.table, name, form)?;
+        if !self.sig.is_free_rule(d.name.as_bytes()) {
+            return Err(Fail::new("no free name"));
+        }
+        self.sig.add_rule(&self.table, d)?;
+        Ok(())
+    }
+
+    // The first row that gives another answer than it says, if one does. What stands for the
+    // parameters is held in one assignment for all rows.
+    fn wrong(&mut self, rows: &[UseRow<'_>]) -> Result<Option<usize>, Fail> {
+        let mut subst = Subst::new(self.alloc)?;
+        for (i, row) in rows.iter().enumerate() {
+            if !self.is_right(&mut subst, row)? {
+                return Ok(Some(i));
+            }
+        }
+        Ok(None)
+    }
+
+    // Whether a row gives what it says.
+    fn is_right(&mut self, subst: &mut Subst, row: &UseRow<'_>) -> Result<bool, Fail> {
+        let given = self.given(row)?;
+        let want = self.wanted(row.5)?;
+        Ok(self.told(subst, row.0.as_bytes(), &given)? == want)
+    }
+
+    // The terms that a row gives.
+    fn given(&mut self, row: &UseRow<'_>) -> Result<Given, Fail> {
+        let (_, assumption, premises, args, stated, _) = *row;
+        Ok(Given {
+            assumption: self.optional(assumption)?,
+            premises: self.terms(premises)?,
+            args: self.terms(args)?,
+            stated: self.optional(stated)?,
+        })
+    }
+
+    // What is wanted, with its term.
+    fn wanted(&mut self, want: Want<'_>) -> Result<Told, Fail> {
+        match want {
+            Want::Formula(code) => Ok(Told::Formula(self.term(code)?)),
+            Want::Fault(name) => Ok(Told::Fault(name)),
+        }
+    }
+
+    // What a use of a rule gives.
+    fn told(&mut self, subst: &mut Subst, name: &[u8], given: &Given) -> Result<Told, Fail> {
+        let given = values_given(self.alloc, &self.table, given)?;
+        let Some(rule) = self.sig.rule(name) else {
+            return Err(Fail::new("no such rule"));
+        };
+        told_by(self.alloc, &self.sig, &mut self.table, subst, rule, &given)
+    }
+}
+
+/// The first use of a rule that gives another answer than its row says, if one does, in a new world
+/// with these rules, and with a program of these cases, each a pattern and a body.
+pub(super) fn wrong(
+    alloc: Global,
+    cases: &[(&str, &str)],
+    rules: &[RuleRow<'_>],
+    rows: &[UseRow<'_>],
+) -> Result<Option<usize>, Fail> {
+    let mut w = World::new(alloc)?;
+    w.declare_program(cases)?;
+    w.declare_rules(rules)?;
+    w.wrong(rows)
+}
+
+// What a use of the rule of this number gives.
+fn told_by(
+    alloc: Global,
+    sig: &Signature,
+    table: &mut Table,
+    subst: &mut Subst,
+    rule: usize,
+    given: &RuleUse,
+) -> Result<Told, Fail>
+    requires rule { rule < length (rules_of sig.now) }
+    requires live { UseBelow (length table.old.trees) given.now }
+    requires values { AreValuesIn table.old given.now }
+    requires below { IsBelow (length table.old.trees) sig.now }
+    requires usable { IsUsable (signature table.old.trees sig.now) }
+    ensures grows { GrowsUnder sig.now table.old table.new }
+{
+    sig.laws();
+    let mut types = Types::new(alloc)?;
+    let mut eval = Evaluator::new(alloc)?;
+    tells(conclude(alloc, sig, table, &mut types, &mut eval, subst, rule, given))
+}
+
+// The same of what is answered.
+fn tells(answer: Result<Id, RuleRefused>) -> Result<Told, Fail> {
+    match answer {
+        Ok(id) => Ok(Told::Formula(id)),
+        Err(RuleRefused::Fault(name)) => Ok(Told::Fault(name)),
+        Err(RuleRefused::Memory(e)) => Err(e.into()),
+    }
+}
+
+// The term, if it is one of the table.
+fn live(table: &Table, id: Id) -> Result<Id, Fail>
+    ensures { IfOk result (λ i. i < length table.now.trees) }
+{
+    if id.place() >= table.len() {
+        return Err(Fail::new("no term of the table"));
+    }
+    Ok(id)
+}
+
+// The same for a term that may be there.
+fn live_or_none(table: &Table, id: Option<Id>) -> Result<Option<Id>, Fail>
+    ensures { IfOk result (SomeBelow (length table.now.trees)) }
+{
+    match id {
+        Some(id) => Ok(Some(live(table, id)?)),
+        None => Ok(None),
+    }
+}
+
+// Whether each term is one of the table.
+fn are_live(table: &Table, ids: &[Id]) -> bool
+    ensures { IsTrue result → All (λ i. i < length table.now.trees) ids.now }
+{
+    let count = table.len();
+    ids.iter().all(|id| id.place() < count)
+}
+
+// The term with this root.
+fn made(sig: &Signature, table: &mut Table, node: Node) -> Result<Id, TermRefused>
+    requires plain { IsPlain node }
+    requires parts { PartsBelow (length table.old.trees) node }
+    requires texts { TextsBelow (length table.old.texts) node }
+    requires proper { IsProper node }
+    requires below { IsBelow (length table.old.trees) sig.now }
+    ensures grows { GrowsUnder sig.now table.old table.new }
+{
+    sig.laws();
+    table.intern(node)
+}
+
+// An operator on these arguments.
+fn made_op(sig: &Signature, table: &mut Table, code: OpCode, args: &[Id]) -> Result<Id, TermRefused>
+    requires count { HasArity code (length args.now) }
+    requires args { All (λ i. i < length table.old.trees) args.now }
+    requires below { IsBelow (length table.old.trees) sig.now }
+    ensures grows { GrowsUnder sig.now table.old table.new }
+{
+    sig.laws();
+    table.intern_op(code, args)
+}
+
+// The attribute of a constant with this terminator or none.
+fn attribute(table: &Table, end: Option<Id>) -> Result<Attribute, Fail>
+    ensures { IfOk result (AttributeBelow (length table.now.trees)) }
+{
+    match end {
+        Some(id) => Ok(Attribute::RightNil(live(table, id)?)),
+        None => Ok(Attribute::Plain),
+    }
+}
+
+// A constant of this type, with no parameters.
+fn constant(
+    alloc: Global,
+    table: &Table,
+    name: &[u8],
+    ty: Id,
+    end: Option<Id>,
+) -> Result<ConstDecl, Fail>
+    ensures { IfOk result (ConstBelow (length table.now.trees)) }
+{
+    Ok(ConstDecl {
+        name: Name::new(alloc, name)?,
+        params: Params::new(alloc),
+        ty: live(table, ty)?,
+        attribute: attribute(table, end)?,
+        from_reference: false,
+    })
+}
+
+// These terms.
+fn terms(alloc: Global, table: &Table, ids: &[Id]) -> Result<Ids, Fail>
+    ensures { IfOk result (All (λ i. i < length table.now.trees)) }
+{
+    let mut list = Ids::new(alloc);
+    for id in ids {
+        list.push(live(table, *id)?)?;
+    }
+    Ok(list)
+}
+
+// Parameters of these types.
+fn params(alloc: Global, table: &Table, types: &[Id]) -> Result<Params, Fail>
+    ensures { IfOk result (All (λ (p : Param). p.ty < length table.now.trees)) }
+{
+    let mut list = Params::new(alloc);
+    for ty in types {
+        list.push(param(alloc, table, *ty)?)?;
+    }
+    Ok(list)
+}
+
+// A parameter of this type.
+fn param(alloc: Global, table: &Table, ty: Id) -> Result<Param, Fail>
+    ensures { IfOk result (λ (p : Param). p.ty < length table.now.trees) }
+{
+    Ok(Param {
+        name: Name::new(alloc, b"x")?,
+        ty: live(table, ty)?,
+        implicit: false,
+        list: false,
+    })
+}
+
+// A rule of which the type of each parameter uses earlier ones only.
+fn ordered_rule(alloc: Global, table: &Table, name: &[u8], form: &Form) -> Result<RuleDecl, Fail>
+    ensures below { IfOk result (RuleBelow (length table.now.trees)) }
+    ensures ordered { IfOk result (λ (d : RuleDecl). AreOrdered table.now.trees d.params) }
+{
+    let d = rule(alloc, table, name, form)?;
+    if !are_ordered(table, d.params.as_slice(), 0) {
+        return Err(Fail::new("a type uses a later parameter"));
+    }
+    Ok(d)
+}
+
+// Whether the type of each parameter uses earlier ones only, where the first has this number.
+fn are_ordered(table: &Table, params: &[Param], first: u8) -> bool
+    requires { All (λ (p : Param). p.ty < length table.now.trees) params.now }
+    ensures { IsTrue result → are_ordered first (map (read_parameter table.now.trees) params.now) ≡ true }
+{
+    let [param, rest @ ..] = params else {
+        return true;
+    };
+    if first >= 64 || !uses_below(table, param.ty, first) {
+        return false;
+    }
+    are_ordered(table, rest, first + 1)
+}
+
+// Whether a type uses parameters below this number only.
+fn uses_below(table: &Table, ty: Id, number: u8) -> bool
+    requires ty { ty < length table.now.trees }
+    requires number { number < 64 }
+    ensures { result ≡ uses_only (λ j. nat_lt j number) (tree_in table.now ty) }
+{
+    table.uses_only(&below(number), ty)
+}
+
+// The parameters below this number.
+fn below(number: u8) -> ParamSet
+    requires { number < 64 }
+    ensures { (j : ℕ) → has result j ≡ nat_lt j number }
+{
+    let mut set = ParamSet::new();
+    for i in 0..number {
+        set.add_all(ParamSet::of(i));
+    }
+    set
+}
+
+// The cases with these patterns and bodies.
+fn cases_of(alloc: Global, table: &Table, rows: &[(Id, Id)]) -> Result<Cases, Fail>
+    ensures { IfOk result (All (CaseBelow (length table.now.trees))) }
+{
+    let mut cases = Cases::new(alloc);
+    for row in rows {
+        cases.push(case_of(alloc, table, row.0, row.1)?)?;
+    }
+    Ok(cases)
+}
+
+// The case with this pattern and this body.
+fn case_of(alloc: Global, table: &Table, pattern: Id, body: Id) -> Result<Case, Fail>
+    ensures { IfOk result (CaseBelow (length table.now.trees)) }
+{
+    Ok(Case {
+        patterns: terms(alloc, table, &[pattern])?,
+        body: live(table, body)?,
+    })
+}
+
+// A program with these cases. The types of its inputs and of its value play no part.
+fn program(
+    alloc: Global,
+    table: &Table,
+    name: &[u8],
+    cases: &[(Id, Id)],
+) -> Result<ProgramDecl, Fail>
+    ensures { IfOk result (ProgramBelow (length table.now.trees)) }
+{
+    Ok(ProgramDecl {
+        name: Name::new(alloc, name)?,
+        params: Params::new(alloc),
+        inputs: Ids::new(alloc),
+        output: live(table, BOOL)?,
+        cases: cases_of(alloc, table, cases)?,
+    })
+}
+
+// A rule.
+fn rule(alloc: Global, table: &Table, name: &[u8], form: &Form) -> Result<RuleDecl, Fail>
+    ensures { IfOk result (RuleBelow (length table.now.trees)) }
+{
+    Ok(RuleDecl {
+        name: Name::new(alloc, name)?,
+        params: params(alloc, table, form.types.as_slice())?,
+        assumption: live_or_none(table, form.assumption)?,
+        premises: shape(alloc, table, form)?,
+        args: terms(alloc, table, form.args.as_slice())?,
+        requirements: requirements(alloc, table, form.requirement)?,
+        conclusion: live(table, form.conclusion)?,
+        sorry: false,
+    })
+}
+
+// What its premises are matched with.
+fn shape(alloc: Global, table: &Table, form: &Form) -> Result<PremiseShape, Fail>
+    ensures { IfOk result (PremisesBelow (length table.now.trees)) }
+{
+    let premises = form.premises.as_slice();
+    if !form.joins {
+        return Ok(PremiseShape::Each(terms(alloc, table, premises)?));
+    }
+    let Some(pattern) = premises.first() else {
+        return Err(Fail::new("no pattern"));
+    };
+    Ok(PremiseShape::Joined {
+        pattern: live(table, *pattern)?,
+        with: AND,
+    })
+}
+
+// One requirement or none.
+fn requirements(alloc: Global, table: &Table, pair: Option<(Id, Id)>) -> Result<IdPairs, Fail>
+    ensures { IfOk result (All (λ (q : ℕ × ℕ). (q.0 < length table.now.trees) × (q.1 < length table.now.trees))) }
+{
+    let mut list = IdPairs::new(alloc);
+    if let Some((first, second)) = pair {
+        list.push((live(table, first)?, live(table, second)?))?;
+    }
+    Ok(list)
+}
+
+// What is given to a rule, if that are values.
+fn values_given(alloc: Global, table: &Table, given: &Given) -> Result<RuleUse, Fail>
+    ensures live { IfOk result (UseBelow (length table.now.trees)) }
+    ensures values { IfOk result (AreValuesIn table.now) }
+{
+    Ok(RuleUse {
+        assumption: value_or_none(table, given.assumption)?,
+        premises: values(alloc, table, given.premises.as_slice())?,
+        args: values(alloc, table, given.args.as_slice())?,
+        stated: live_or_none(table, given.stated)?,
+    })
+}
+
+// These terms, if they are values.
+fn values(alloc: Global, table: &Table, ids: &[Id]) -> Result<Ids, Fail>
+    ensures live { IfOk result (All (λ i. i < length table.now.trees)) }
+    ensures values { IfOk result (λ is. list_all is_value (trees_in table.now is) ≡ true) }
+{
+    let list = terms(alloc, table, ids)?;
+    if !are_values(table, list.as_slice()) {
+        return Err(Fail::new("no value"));
+    }
+    Ok(list)
+}
+
+// The term, if it is a value, or none.
+fn value_or_none(table: &Table, id: Option<Id>) -> Result<Option<Id>, Fail>
+    ensures live { IfOk result (SomeBelow (length table.now.trees)) }
+    ensures values { IfOk result (λ o. list_all is_value (option_to_list (option_map (tree_in table.now) o)) ≡ true) }
+{
+    match id {
+        None => Ok(None),
+        Some(id) => {
+            let id = live(table, id)?;
+            if !table.is_value(id) {
+                return Err(Fail::new("no value"));
+            }
+            Ok(Some(id))
+        }
+    }
+}
+
+// Whether all terms are values.
+fn are_values(table: &Table, ids: &[Id]) -> bool
+    requires { All (λ i. i < length table.now.trees) ids.now }
+    ensures { result ≡ list_all is_value (trees_in table.now ids.now) }
+{
+    for id in ids {
+        if !table.is_value(*id) {
+            return false;
+        }
+    }
+    true
+}

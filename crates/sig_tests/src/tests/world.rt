@@ -1,0 +1,290 @@
+//! A signature, and terms of its table.
+ghost use Rattle.std.specs.Prelude.{◌≡◌, ◌<◌, length, All, IfOk};
+ghost use Rattle.eo_sig.specs.Reading.{CaseBelow, ConstBelow, ProgramBelow, RuleBelow};
+
+use eo_base::Name;
+use eo_sig::{
+    Attribute, Case, Cases, ConstDecl, Entry, IdPairs, Param, Params, PremiseShape, ProgramDecl,
+    RuleDecl, SigRefused, Signature,
+};
+use eo_term::{BOOL, Id, Ids, Node, OpCode, OpName, TYPE, Table};
+use std::alloc::{AllocError, Global};
+use std::marker::Model;
+use std::test::Fail;
+
+/// What became of a declaration.
+#[derive(Clone, Copy, Debug, PartialEq, Eq)]
+pub(super) enum Answer {
+    /// It is made, and has this number.
+    Number(usize),
+    /// Its name is not free.
+    Taken,
+    Redeclared,
+    BadPattern,
+    UnboundParam,
+    Memory,
+}
+
+/// A table and a signature. A call that gets a term of another table fails.
+#[derive(Drop)]
+pub(super) struct World {
+    alloc: Global,
+    table: Table,
+    sig: Signature,
+}
+
+impl Model for World {
+    ghost use Rattle.std.specs.Prelude.{ℕ, length};
+
+    ghost Value = { ℕ };
+
+    ghost view = { λ a. length a.table.trees };
+}
+
+impl World {
+    /// Nothing is declared yet.
+    pub(super) fn new(alloc: Global) -> Result<World, AllocError> {
+        Ok(World {
+            alloc,
+            table: Table::new(alloc)?,
+            sig: Signature::new(alloc)?,
+        })
+    }
+
+    /// The parameter 0.
+    pub(super) fn open(&mut self) -> Result<Id, Fail> {
+        Ok(self.table.intern(Node::Par(0))?)
+    }
+
+    /// The operator `eo::neg` on a term.
+    pub(super) fn negated(&mut self, id: Id) -> Result<Id, Fail> {
+        let id = live(&self.table, id)?;
+        Ok(self.table.intern_op(OpCode::Builtin(OpName::Neg), &[id])?)
+    }
+
+    /// The type of functions from one type to another.
+    pub(super) fn function(&mut self, from: Id, to: Id) -> Result<Id, Fail> {
+        let from = live(&self.table, from)?;
+        let to = live(&self.table, to)?;
+        Ok(self.table.intern(Node::Arr { from, to })?)
+    }
+
+    /// Declares a constant of this type, without parameters.
+    pub(super) fn declare(&mut self, name: &[u8], ty: Id) -> Result<Answer, Fail> {
+        let params = Params::new(self.alloc);
+        let d = constant(self.alloc, &self.table, name, params, ty)?;
+        Ok(self.declared(d))
+    }
+
+    /// Declares a constant of this type, whose parameter 0 is implicit and a type.
+    pub(super) fn declare_implicit(&mut self, name: &[u8], ty: Id) -> Result<Answer, Fail> {
+        let params = parameter(self.alloc, &self.table, TYPE, true)?;
+        let d = constant(self.alloc, &self.table, name, params, ty)?;
+        Ok(self.declared(d))
+    }
+
+    fn declared(&mut self, d: ConstDecl) -> Answer
+        requires { ConstBelow self.old d }
+    {
+        if !self.sig.is_free(d.name.as_bytes()) {
+            return Answer::Taken;
+        }
+        what_became(self.sig.declare(&self.table, d))
+    }
+
+    /// Adds a program over a parameter of type `Bool`, with values of type `Bool`, and with one
+    /// case.
+    pub(super) fn add_program(
+        &mut self,
+        name: &[u8],
+        pattern: Id,
+        body: Id,
+    ) -> Result<Answer, Fail> {
+        let d = program(self.alloc, &self.table, name, pattern, body)?;
+        if !self.sig.is_free(d.name.as_bytes()) {
+            return Ok(Answer::Taken);
+        }
+        Ok(what_became(self.sig.add_program(&self.table, d)))
+    }
+
+    /// Adds a rule over a parameter of type `Bool`, with one argument.
+    pub(super) fn add_rule(
+        &mut self,
+        name: &[u8],
+        arg: Id,
+        conclusion: Id,
+    ) -> Result<Answer, Fail> {
+        let d = rule(self.alloc, &self.table, name, arg, conclusion)?;
+        Ok(self.ruled(d))
+    }
+
+    fn ruled(&mut self, d: RuleDecl) -> Answer
+        requires { RuleBelow self.old d }
+    {
+        if !self.sig.is_free_rule(d.name.as_bytes()) {
+            return Answer::Taken;
+        }
+        what_became(self.sig.add_rule(&self.table, d))
+    }
+
+    /// What the name stands for among constants, macros and programs.
+    pub(super) fn lookup(&self, name: &[u8]) -> Option<Entry> {
+        self.sig.lookup(name)
+    }
+
+    /// The number of the rule with this name.
+    pub(super) fn rule(&self, name: &[u8]) -> Option<usize> {
+        self.sig.rule(name)
+    }
+
+    /// The type of the constant with this name.
+    pub(super) fn constant_type(&self, name: &[u8]) -> Option<Id> {
+        match self.sig.lookup(name) {
+            Some(Entry::Constant(n)) => Some(self.sig.constant(n).ty),
+            _ => None,
+        }
+    }
+
+    /// The body of the first case of the program with this name.
+    pub(super) fn program_body(&self, name: &[u8]) -> Option<Id> {
+        match self.sig.lookup(name) {
+            Some(Entry::Program(n)) => Some(self.sig.program(n).cases.as_slice().first()?.body),
+            _ => None,
+        }
+    }
+
+    /// The conclusion of the rule with this name.
+    pub(super) fn rule_conclusion(&self, name: &[u8]) -> Option<Id> {
+        match self.sig.rule(name) {
+            Some(n) => Some(self.sig.rule_of(n).conclusion),
+            None => None,
+        }
+    }
+}
+
+/// Whether the check holds in a world of its own, where nothing is declared yet. A test hands its
+/// check over, so that it owns no world itself.
+pub(super) fn holds<F: FnOnce(&mut World) -> Result<bool, Fail>>(
+    alloc: Global,
+    check: F,
+) -> Result<bool, Fail>
+    requires { F.IsAlwaysCallable check }
+{
+    let mut w = World::new(alloc)?;
+    check(&mut w)
+}
+
+fn what_became(made: Result<usize, SigRefused>) -> Answer {
+    match made {
+        Ok(n) => Answer::Number(n),
+        Err(SigRefused::Redeclared) => Answer::Redeclared,
+        Err(SigRefused::BadPattern) => Answer::BadPattern,
+        Err(SigRefused::UnboundParam) => Answer::UnboundParam,
+        Err(SigRefused::Memory(_)) => Answer::Memory,
+    }
+}
+
+// The term, if it is one of the table.
+fn live(table: &Table, id: Id) -> Result<Id, Fail>
+    ensures { IfOk result (λ i. i < length table.now.trees) }
+{
+    if id.place() >= table.len() {
+        return Err(Fail::new("no term of the table"));
+    }
+    Ok(id)
+}
+
+// One parameter of this type.
+fn parameter(alloc: Global, table: &Table, ty: Id, implicit: bool) -> Result<Params, Fail>
+    ensures { IfOk result (All (λ p. p.ty < length table.now.trees)) }
+{
+    let mut params = Params::new(alloc);
+    params.push(Param {
+        name: Name::new(alloc, b"x")?,
+        ty: live(table, ty)?,
+        implicit,
+        list: false,
+    })?;
+    Ok(params)
+}
+
+// One term.
+fn one(alloc: Global, table: &Table, id: Id) -> Result<Ids, Fail>
+    ensures all { IfOk result (All (λ i. i < length table.now.trees)) }
+    ensures one { IfOk result (λ s. length s ≡ 1) }
+{
+    let mut ids = Ids::new(alloc);
+    ids.push(live(table, id)?)?;
+    Ok(ids)
+}
+
+fn constant(
+    alloc: Global,
+    table: &Table,
+    name: &[u8],
+    params: Params,
+    ty: Id,
+) -> Result<ConstDecl, Fail>
+    requires params { All (λ p. p.ty < length table.now.trees) params }
+    ensures below { IfOk result (ConstBelow (length table.now.trees)) }
+{
+    let ty = live(table, ty)?;
+    Ok(ConstDecl {
+        name: Name::new(alloc, name)?,
+        params,
+        ty,
+        attribute: Attribute::Plain,
+        from_reference: false,
+    })
+}
+
+// One case, with one pattern.
+fn case(alloc: Global, table: &Table, pattern: Id, body: Id) -> Result<Cases, Fail>
+    ensures { IfOk result (All (CaseBelow (length table.now.trees))) }
+{
+    let mut cases = Cases::new(alloc);
+    cases.push(Case {
+        patterns: one(alloc, table, pattern)?,
+        body: live(table, body)?,
+    })?;
+    Ok(cases)
+}
+
+fn program(
+    alloc: Global,
+    table: &Table,
+    name: &[u8],
+    pattern: Id,
+    body: Id,
+) -> Result<ProgramDecl, Fail>
+    ensures { IfOk result (ProgramBelow (length table.now.trees)) }
+{
+    Ok(ProgramDecl {
+        name: Name::new(alloc, name)?,
+        params: parameter(alloc, table, BOOL, false)?,
+        inputs: one(alloc, table, BOOL)?,
+        output: live(table, BOOL)?,
+        cases: case(alloc, table, pattern, body)?,
+    })
+}
+
+fn rule(
+    alloc: Global,
+    table: &Table,
+    name: &[u8],
+    arg: Id,
+    conclusion: Id,
+) -> Result<RuleDecl, Fail>
+    ensures { IfOk result (RuleBelow (length table.now.trees)) }
+{
+    Ok(RuleDecl {
+        name: Name::new(alloc, name)?,
+        params: parameter(alloc, table, BOOL, false)?,
+        assumption: None,
+        premises: PremiseShape::Each(Ids::new(alloc)),
+        args: one(alloc, table, arg)?,
+        requirements: IdPairs::new(alloc),
+        conclusion: live(table, conclusion)?,
+        sorry: false,
+    })
+}

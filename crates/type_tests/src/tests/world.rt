@@ -1,0 +1,262 @@
+//! Terms, and a signature that declares constants of their types.
+ghost use Rattle.std.specs.Prelude.{◌≡◌, ℕ, ◌<◌, ◌≤◌, List, length, All, IfOk, OnOk};
+ghost use Rattle.eo_term.specs.Tree.{Tree};
+ghost use Rattle.eo_term.specs.Terms.{PartsBelow, TextsBelow, IsPlain, IsProper, arity};
+ghost use Rattle.eo_sig.specs.Reading.{IsBelow, ConstBelow};
+ghost use Rattle.eo_type.specs.Known.{Fit};
+
+use eo_base::Name;
+use eo_sig::{Attribute, ConstDecl, LiteralClass, Params, SigRefused, Signature, growth_law};
+use eo_term::{Id, Node, OpCode, OpName, TYPE, Table, TermRefused};
+use eo_type::{TypeRefused, Types, settle};
+use std::alloc::Global;
+use std::marker::Model;
+use std::test::Fail;
+
+/// A table and a signature over it. The first four constants are `Type`, `Bool`, `true` and
+/// `false`; what is declared is numbered from 4 on.
+///
+/// A call that gets a term of another table fails.
+#[derive(Drop)]
+pub(super) struct World {
+    alloc: Global,
+    table: Table,
+    sig: Signature,
+}
+
+impl Model for World {
+    ghost use Rattle.std.specs.Prelude.{ℕ, ◌≤◌, length};
+    ghost use Rattle.eo_sig.specs.Reading.{IsBelow};
+
+    ghost Value = { ℕ };
+
+    ghost view = { λ a. length a.table.trees };
+
+    ghost invariant = { λ a. (n : ℕ) → length a.table.trees ≤ n → IsBelow n a.sig };
+}
+
+impl World {
+    /// Nothing is declared yet.
+    pub(super) fn new(alloc: Global) -> Result<World, Fail> {
+        Ok(World {
+            alloc,
+            table: first_table(alloc)?,
+            sig: first(alloc)?,
+        })
+    }
+
+    /// A constant, by its number.
+    pub(super) fn con(&mut self, number: usize) -> Result<Id, Fail> {
+        Ok(made(&mut self.table, Node::Con(number))?)
+    }
+
+    /// A number.
+    pub(super) fn num(&mut self, number: i128) -> Result<Id, Fail> {
+        Ok(made(&mut self.table, Node::Num(number))?)
+    }
+
+    /// The bit string `#xA5`.
+    pub(super) fn bits(&mut self) -> Result<Id, Fail> {
+        let node = Node::Bits {
+            width: 8,
+            value: 0xa5,
+        };
+        Ok(made(&mut self.table, node)?)
+    }
+
+    /// The string `ab`.
+    pub(super) fn string(&mut self) -> Result<Id, Fail> {
+        let text = self.table.text(&[97, 98])?;
+        Ok(made(&mut self.table, Node::Str(text))?)
+    }
+
+    /// A parameter, by its number.
+    pub(super) fn par(&mut self, number: u8) -> Result<Id, Fail> {
+        if number >= 64 {
+            return Err(Fail::new("no parameter"));
+        }
+        Ok(made(&mut self.table, Node::Par(number))?)
+    }
+
+    /// The variable `x` of this type.
+    pub(super) fn var(&mut self, ty: Id) -> Result<Id, Fail> {
+        let ty = live(&self.table, ty)?;
+        let name = self.table.text(&[120])?;
+        Ok(made(&mut self.table, Node::Var { name, ty })?)
+    }
+
+    /// A term applied to another.
+    pub(super) fn app(&mut self, fun: Id, arg: Id) -> Result<Id, Fail> {
+        let fun = live(&self.table, fun)?;
+        let arg = live(&self.table, arg)?;
+        Ok(made(&mut self.table, Node::App { fun, arg })?)
+    }
+
+    /// The type of functions from one type to another.
+    pub(super) fn arr(&mut self, from: Id, to: Id) -> Result<Id, Fail> {
+        let from = live(&self.table, from)?;
+        let to = live(&self.table, to)?;
+        Ok(made(&mut self.table, Node::Arr { from, to })?)
+    }
+
+    /// The type of functions whose argument is bound as a parameter.
+    pub(super) fn qar(&mut self, par: u8, ty: Id, to: Id) -> Result<Id, Fail> {
+        if par >= 64 {
+            return Err(Fail::new("no parameter"));
+        }
+        let ty = live(&self.table, ty)?;
+        let to = live(&self.table, to)?;
+        Ok(made(&mut self.table, Node::Qar { par, ty, to })?)
+    }
+
+    /// An operator with one argument.
+    pub(super) fn op1(&mut self, op: OpName, arg: Id) -> Result<Id, Fail>
+        requires { arity op ≡ 1 }
+    {
+        let arg = live(&self.table, arg)?;
+        Ok(made_op(&mut self.table, op, &[arg])?)
+    }
+
+    /// An operator with two arguments.
+    pub(super) fn op2(&mut self, op: OpName, a: Id, b: Id) -> Result<Id, Fail>
+        requires { arity op ≡ 2 }
+    {
+        let a = live(&self.table, a)?;
+        let b = live(&self.table, b)?;
+        Ok(made_op(&mut self.table, op, &[a, b])?)
+    }
+
+    /// A choice.
+    pub(super) fn choice(&mut self, test: Id, yes: Id, no: Id) -> Result<Id, Fail> {
+        let test = live(&self.table, test)?;
+        let first = live(&self.table, yes)?;
+        let second = live(&self.table, no)?;
+        Ok(made_op(&mut self.table, OpName::Ite, &[test, first, second])?)
+    }
+
+    /// Declares a constant of this type.
+    pub(super) fn declare(&mut self, name: &[u8], ty: Id) -> Result<(), Fail> {
+        let ty = live(&self.table, ty)?;
+        let d = constant(self.alloc, name, ty)?;
+        if !self.sig.is_free(d.name.as_bytes()) {
+            return Err(Fail::new("no free name"));
+        }
+        self.sig.declare(&self.table, d)?;
+        Ok(())
+    }
+
+    /// Gives a class of literals its type.
+    pub(super) fn set_class(&mut self, class: LiteralClass, ty: Id) -> Result<(), Fail> {
+        let ty = live(&self.table, ty)?;
+        self.sig.set_literal_type(&self.table, class, ty)?;
+        Ok(())
+    }
+
+    /// Whether each term has the type beside it, or none.
+    pub(super) fn have_types(&mut self, rows: &[(Id, Option<Id>)]) -> Result<bool, Fail> {
+        let mut types = Types::new(self.alloc)?;
+        have_types(&mut types, &self.sig, &mut self.table, rows)
+    }
+
+    /// The type of a term, if it has one.
+    pub(super) fn type_of(&mut self, id: Id) -> Result<Result<Option<Id>, TypeRefused>, Fail> {
+        let id = live(&self.table, id)?;
+        let mut types = Types::new(self.alloc)?;
+        Ok(types.type_of(&self.sig, &mut self.table, id))
+    }
+
+    /// The term to which a term is settled, if there is one.
+    pub(super) fn settled(&mut self, id: Id) -> Result<Option<Id>, Fail> {
+        let id = live(&self.table, id)?;
+        Ok(settle(self.alloc, &self.sig, &mut self.table, id)?)
+    }
+}
+
+/// Whether the check holds in a world of its own, where nothing is declared yet. A test hands its
+/// check over, so that it owns no world itself.
+pub(super) fn holds<F: FnOnce(&mut World) -> Result<bool, Fail>>(
+    alloc: Global,
+    check: F,
+) -> Result<bool, Fail>
+    requires { F.IsAlwaysCallable check }
+{
+    let mut w = World::new(alloc)?;
+    check(&mut w)
+}
+
+// A table with no more than the first terms.
+fn first_table(alloc: Global) -> Result<Table, Fail>
+    ensures { IfOk result (λ t. 4 ≤ length t.trees) }
+{
+    Ok(Table::new(alloc)?)
+}
+
+// A signature of which a proof knows only where its terms are.
+fn first(alloc: Global) -> Result<Signature, Fail>
+    ensures { IfOk result (λ s. (n : ℕ) → 4 ≤ n → IsBelow n s) }
+{
+    growth_law();
+    Ok(Signature::new(alloc)?)
+}
+
+// The term, if it is one of the table.
+fn live(table: &Table, id: Id) -> Result<Id, Fail>
+    ensures { IfOk result (λ i. i < length table.now.trees) }
+{
+    if id.place() >= table.len() {
+        return Err(Fail::new("no term of the table"));
+    }
+    Ok(id)
+}
+
+// The term with this root.
+fn made(table: &mut Table, node: Node) -> Result<Id, TermRefused>
+    requires plain { IsPlain node }
+    requires parts { PartsBelow (length table.old.trees) node }
+    requires texts { TextsBelow (length table.old.texts) node }
+    requires proper { IsProper node }
+    ensures more { length table.old.trees ≤ length table.new.trees }
+{
+    table.intern(node)
+}
+
+// An operator of the language over these arguments.
+fn made_op(table: &mut Table, op: OpName, args: &[Id]) -> Result<Id, TermRefused>
+    requires count { length args.now ≡ arity op }
+    requires args { All (λ i. i < length table.old.trees) args.now }
+    ensures more { length table.old.trees ≤ length table.new.trees }
+{
+    table.intern_op(OpCode::Builtin(op), args)
+}
+
+// A constant of this type, with no parameters.
+fn constant(alloc: Global, name: &[u8], ty: Id) -> Result<ConstDecl, Fail>
+    ensures { IfOk result (λ d. (n : ℕ) → ty < n → ConstBelow n d) }
+{
+    Ok(ConstDecl {
+        name: Name::new(alloc, name)?,
+        params: Params::new(alloc),
+        ty,
+        attribute: Attribute::Plain,
+        from_reference: false,
+    })
+}
+
+// Whether each term has the type beside it, or none. No type is known at first.
+fn have_types(
+    types: &mut Types,
+    sig: &Signature,
+    table: &mut Table,
+    rows: &[(Id, Option<Id>)],
+) -> Result<bool, Fail>
+    requires { Fit sig.now table.old types.old }
+    ensures more { length table.old.trees ≤ length table.new.trees }
+{
+    for (id, ty) in rows {
+        let id = live(table, *id)?;
+        if types.type_of(sig, table, id)? != *ty {
+            return Ok(false);
+        }
+    }
+    Ok(true)
+}

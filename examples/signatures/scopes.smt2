@@ -1,0 +1,2 @@
+(declare-const n Int)
+(assert (= n 1 2))

@@ -1,0 +1,8 @@
+(set-logic QF_UF)
+(declare-const p Bool)
+(declare-const q Bool)
+(declare-const r Bool)
+(assert (or p q))
+(assert (=> p r))
+(assert (! (and (not r) (not q)) :named neither))
+(check-sat)
