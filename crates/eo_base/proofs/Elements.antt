@@ -1,5 +1,5 @@
 -- Elements by their places, and bounds of numbers.
-use Rattle.std.proofs.Common.{◌≡◌, ℕ, zero, suc, ◌<◌, ◌≤◌, List, [], ◌∷◌, ◌++◌, nat_eq, length, map, slice_get, if◌then◌else◌, Bool, true, false, Option, Some, All, refl, sym, subst, ◌∙◌, arith}
+use Rattle.std.proofs.Common.{◌≡◌, ℕ, zero, suc, ◌<◌, ◌≤◌, List, [], ◌∷◌, ◌++◌, nat_eq, length, map, slice_get, get_or, if◌then◌else◌, Bool, true, false, Option, Some, All, refl, sym, subst, ◌∙◌, arith}
 use Rattle.std.proofs.lemmas.Bool.{eqb-true}
 use Rattle.std.proofs.lemmas.Option.{none-some, same_Some}
 use Rattle.std.proofs.lemmas.List.{map-append}
@@ -42,6 +42,10 @@ holds_more R f g i j e h r k v p = by_test (nat_eq i k) refl (sym (e k) ∙ p)
     by_test false q w = h k v w
 
 -- what all of a list pass, its first ones and its last one pass
+-- the element at a place passes what all pass
+pub all_at : {X : Type 0} (P : X → Type 0) (xs : List X) (i : ℕ) (x : X) → All P xs → i < length xs → x ≡ get_or xs i x → P x
+all_at P xs i x h l e = subst P (sym e) (h i x l)
+
 pub all_first : {X : Type 0} (P : X → Type 0) (xs ys : List X) → All P (xs ++ ys) → All P xs
 all_first P [] ys h = All-nil P
 all_first P (x ∷ xs) ys h = All-cons P x xs (All-head P x (xs ++ ys) h) (all_first P xs ys (All-tail P x (xs ++ ys) h))

@@ -26,6 +26,10 @@ or_second false c e = e
 pub both : {a b : Bool} → (a && b) ≡ true → (a ≡ true) × (b ≡ true)
 both {a} {b} h = and_parts a b h
 
+pub join : {a b : Bool} → a ≡ true → b ≡ true → (a && b) ≡ true
+join {a = true} {b} h k = k
+join {a = false} {b} h k = h
+
 pub clash {ℓ} : {A : Type ℓ} → false ≡ true → A
 clash h = absurd (true≢false (sym h))
 

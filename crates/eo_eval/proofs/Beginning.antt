@@ -5,6 +5,7 @@ use Rattle.std.proofs.Common.{sym, ◌∙◌, ap, subst, arith}
 use Rattle.std.proofs.Math.ListN.{get_or-append}
 use Rattle.std.proofs.lemmas.List.Elements.{All-head, All-tail, All-push, All-weaker}
 use Rattle.std.proofs.lemmas.Option.{none-some, same_Some}
+use Rattle.eo_base.proofs.Tests.{both}
 use Rattle.eo_base.specs.Limits.{calls_limit}
 use Rattle.eo_term.specs.Tree.{Tree}
 use Rattle.eo_term.specs.Terms.{Terms, tree_at}
@@ -28,7 +29,6 @@ use Rattle.eo_eval.specs.declared.stack.Known.TheVariants as known
 use Rattle.eo_eval.specs.declared.stack.Now.TheVariants as next
 use Rattle.eo_eval.proofs.Calling.{call_again, call_new, call_full, covers_new}
 use Rattle.eo_eval.proofs.Called.{call_read}
-use Rattle.eo_term.proofs.Equality.{both}
 use Rattle.eo_term.proofs.Numbers.{found_entry}
 use Rattle.std.specs.Map.{keys_of}
 use Rattle.std.specs.Cmp.Lexicographic.{bytes_decides}
@@ -98,7 +98,7 @@ found_called ts k es i h =
     let f = found_entry (key_eq.ghosts.eq k) es i (sym h) in
     let same = both f.2 in
     let program = (Decides-eqb k.program f.0.0.program).0 same.0 in
-    let args = (bytes_decides k.args.items f.0.0.args.items).0 same.1 in
+    let args = (bytes_decides k.args f.0.0.args).0 same.1 in
     call_read ts es i f.0 f.1 ∙ sym (λ j. record { program = program j; arguments = map (tree_at ts) (args j) })
 
 pub none_of : {A : Type 0} (o : Option A) → is_some o ≡ false → o ≡ None
@@ -154,7 +154,7 @@ module _ (S : Signature) (most : ℕ) (ts : List Tree) (cs : List Entry) (key : 
       }
 
 -- of machines
-module _ (k : Kept) (t : Terms) (typed : List (ℕ × ℕ)) (e later : Machine) (key : CallKey) (live : All (λ i. i < length t.trees) key.args.items) (h : Calling k t typed e (read_call t.trees key))
+module _ (k : Kept) (t : Terms) (typed : List (ℕ × ℕ)) (e later : Machine) (key : CallKey) (live : All (λ i. i < length t.trees) key.args) (h : Calling k t typed e (read_call t.trees key))
     (fs : later.stack.frames.items ≡ e.stack.frames.items) (vs : later.stack.values.items ≡ e.stack.values.items) (scope : later.scope ≡ e.scope) (cs : later.calls.entries ≡ e.calls.entries ++ (key, known.Open) ∷ []) (es : later.terms.entries ≡ e.terms.entries) (ls : later.locals.entries ≡ e.locals.entries)
     (fresh : list_any (call_eq (read_call t.trees key)) (begun t.trees e.calls.entries) ≡ false) (room : nat_lt (length (begun t.trees e.calls.entries)) calls_limit ≡ true) where
   abbrev sig : Signature
@@ -208,7 +208,7 @@ module _ (k : Kept) (t : Terms) (typed : List (ℕ × ℕ)) (e later : Machine) 
         held = record {
           usable = h.held.usable;
           fit = h.held.fit;
-          keys_live = subst (All (λ (c : Entry). All (λ i. i < length t.trees) c.0.args.items)) c (All-push (λ (c : Entry). All (λ i. i < length t.trees) c.0.args.items) e.calls.entries (key, known.Open) h.held.keys_live live);
+          keys_live = subst (All (λ (c : Entry). All (λ i. i < length t.trees) c.0.args)) c (All-push (λ (c : Entry). All (λ i. i < length t.trees) c.0.args) e.calls.entries (key, known.Open) h.held.keys_live live);
           remembers = transport (λ i. Remembers sig calls_limit t.trees (c i) (m i) (l i)) (remembers_more sig calls_limit t.trees e.calls.entries key e.terms.entries e.locals.entries over h.held.remembers);
         };
         stands = transport (λ i. Stands sig calls_limit t.trees (n i) (r i) (f i) (v i) next.Deep)

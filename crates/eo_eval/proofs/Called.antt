@@ -165,7 +165,7 @@ module _ (k : Kept) (t : Terms) (typed : List (ℕ × ℕ)) (e later : Machine) 
           held = record {
             usable = r.held.usable;
             fit = r.held.fit;
-            keys_live = subst (All (λ (c : Entry). All (λ i. i < length t.trees) c.0.args.items)) (sym cs) (keys_set (λ c. All (λ i. i < length t.trees) c.args.items) e.calls.entries place v r.held.keys_live);
+            keys_live = subst (All (λ (c : Entry). All (λ i. i < length t.trees) c.0.args)) (sym cs) (keys_set (λ c. All (λ i. i < length t.trees) c.args) e.calls.entries place v r.held.keys_live);
             remembers = remembers_set r is;
           };
           stands = transport (λ i. Stands sig calls_limit t.trees (q i) (s i) (f i) (u i) (m i)) (call_stands sig calls_limit t.trees b e.scope e.stack.frames.items e.stack.values.items place body base here kept now result r.stands);

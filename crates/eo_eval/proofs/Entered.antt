@@ -2,9 +2,8 @@
 use Rattle.std.specs.Prelude.{◌≡◌, ℕ, zero, suc, ◌<◌, All, true, false, List, [], ◌∷◌, drop, slice_get, Option, Some, None, option_map, option_and_then, IfSome, refl}
 use Rattle.std.specs.Option.{option_or, option_flatten}
 use Rattle.std.proofs.lemmas.List.Elements.{All-head, All-tail, All-drop}
-use Rattle.eo_term.proofs.Equality.{both}
-use Rattle.eo_term.proofs.Values.{clash}
 use Rattle.std.proofs.Common.{sym, ◌∙◌, ap, subst, arith}
+use Rattle.eo_base.proofs.Tests.{both, clash}
 use Rattle.eo_term.specs.Arguments.{arguments_of, argument_at, count_of}
 use Rattle.eo_term.specs.declared.OpCode.{OpCode}
 use Rattle.eo_term.specs.declared.OpName.{OpName}

@@ -191,7 +191,7 @@ module _ (k : Kept) (t : Terms) (typed : List (ℕ × ℕ)) (e : Machine) (i bas
         gathered_ready remembers =
             let s = h.stands in
             record {
-              held = record { usable = h.held.usable; fit = h.held.fit; keys_live = subst (All (λ (c : CallKey × code_known.Known). All (λ i. i < length t.trees) c.0.args.items)) (sym cs) h.held.keys_live; remembers = remembers };
+              held = record { usable = h.held.usable; fit = h.held.fit; keys_live = subst (All (λ (c : CallKey × code_known.Known). All (λ i. i < length t.trees) c.0.args)) (sym cs) h.held.keys_live; remembers = remembers };
               stands = subst (Stands S calls_limit t.trees (begun t.trees later.calls.entries) later.scope later.stack.frames.items later.stack.values.items) (sym same)
                   (stands_same k t typed e later cs e.stack.frames.items later.stack.frames.items (take base e.stack.values.items) later.stack.values.items (now_of o deepest) fs vs scope (record {
                     now_live = live_ended S calls_limit t.trees b e.scope o deepest live;

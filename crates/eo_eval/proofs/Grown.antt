@@ -43,7 +43,7 @@ module _ (old new : Terms) (g : Since old new) where
   Below i = i < length old.trees
 
   abbrev KeyBelow : CallKey × code_known.Known → Type 0
-  KeyBelow c = All Below c.0.args.items
+  KeyBelow c = All Below c.0.args
 
   pub trees_grown : (is : List ℕ) → All Below is → map (tree_at new.trees) is ≡ map (tree_at old.trees) is
   trees_grown [] h = refl
@@ -55,7 +55,7 @@ module _ (old new : Terms) (g : Since old new) where
   pub begun_grown : (es : List (CallKey × code_known.Known)) → All KeyBelow es → begun new.trees es ≡ begun old.trees es
   begun_grown [] h = refl
   begun_grown (e ∷ es) h =
-      let one = trees_grown e.0.args.items (All-head KeyBelow e es h) in
+      let one = trees_grown e.0.args (All-head KeyBelow e es h) in
       let more = begun_grown es (All-tail KeyBelow e es h) in
       λ j. (record { program = e.0.program; arguments = one j }) ∷ more j
 
@@ -211,7 +211,7 @@ module _ (old new : Terms) (g : Since old new) where
     calls_grown : (cs : List (CallKey × code_known.Known)) → All KeyBelow cs → All (CallKnown old.trees) cs → All (CallKnown new.trees) cs
     calls_grown [] l h = All-nil (CallKnown new.trees)
     calls_grown (e ∷ cs) l h =
-        let args = trees_grown e.0.args.items (All-head KeyBelow e cs l) in
+        let args = trees_grown e.0.args (All-head KeyBelow e cs l) in
         let one : CallKnown new.trees e = subst (λ us. IsKnown new.trees b (calls S most (record { program = e.0.program; arguments = us })) e.1) (sym args) (known_grown b (calls S most (read_call old.trees e.0)) e.1 (All-head (CallKnown old.trees) e cs h)) in
         All-cons (CallKnown new.trees) e cs one (calls_grown cs (All-tail KeyBelow e cs l) (All-tail (CallKnown old.trees) e cs h))
 
@@ -246,7 +246,7 @@ module _ (k : Kept) (old new : Terms) (u : GrowsUnder k old new) (e : Machine) (
   held_grown h = record {
     usable = subst IsUsable (sym u.stays.signature) h.usable;
     fit = fit;
-    keys_live = All-weaker (λ (c : CallKey × code_known.Known). All (λ i. i < length old.trees) c.0.args.items) (λ (c : CallKey × code_known.Known). All (λ i. i < length new.trees) c.0.args.items) (λ c l. All-weaker (λ i. i < length old.trees) (λ i. i < length new.trees) (λ i m. omega (arith, m, u.table.now.more_trees)) c.0.args.items l) cs h.keys_live;
+    keys_live = All-weaker (λ (c : CallKey × code_known.Known). All (λ i. i < length old.trees) c.0.args) (λ (c : CallKey × code_known.Known). All (λ i. i < length new.trees) c.0.args) (λ c l. All-weaker (λ i. i < length old.trees) (λ i. i < length new.trees) (λ i m. omega (arith, m, u.table.now.more_trees)) c.0.args l) cs h.keys_live;
     remembers = subst (λ S. Remembers S calls_limit new.trees cs e.terms.entries e.locals.entries) (sym u.stays.signature) (remembers_grown old new u.table.now (signature old.trees k) calls_limit cs e.terms.entries e.locals.entries h.keys_live h.remembers);
   }
 

@@ -1,9 +1,8 @@
 -- A value is evaluated to itself, and begins no call.
 use Rattle.std.specs.Prelude.{◌≡◌, ℕ, ◌≤◌, ◌<◌, true, false, if◌then◌else◌, refl}
 use Rattle.std.proofs.Common.{sym, ◌∙◌, ap, subst, arith}
+use Rattle.eo_base.proofs.Tests.{both, clash}
 use Rattle.eo_term.specs.Tree.{Tree, Con, Num, Bits, Str, Par, Var, App, Arr, Qar, Op, is_tall, is_value, height}
-use Rattle.eo_term.proofs.Equality.{both}
-use Rattle.eo_term.proofs.Values.{clash}
 use Rattle.eo_sig.specs.Signature.{Signature}
 use Rattle.eo_eval.specs.Evaluation.{Outcome, Value, Stuck, Tall, Call, Begun, Ended, Eval, ends, on_value, node, eval_with, call_within}
 use Rattle.std.specs.Prelude.{List, [], length, reverse}

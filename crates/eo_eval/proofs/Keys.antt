@@ -25,7 +25,7 @@ module _ (ts : List Tree) (same : (i j : ℕ) → i < length ts → j < length t
   Below i = i < length ts
 
   abbrev KeyBelow : CallKey × code_known.Known → Type 0
-  KeyBelow c = All Below c.0.args.items
+  KeyBelow c = All Below c.0.args
 
   ids_same : (xs ys : List ℕ) → All (λ i. i < length ts) xs → All (λ i. i < length ts) ys → map (tree_at ts) xs ≡ map (tree_at ts) ys → xs ≡ ys
   ids_same [] [] p q e = refl
@@ -44,10 +44,10 @@ module _ (ts : List Tree) (same : (i j : ℕ) → i < length ts → j < length t
       (λ h. (tree_list_decides (map (tree_at ts) xs) (map (tree_at ts) ys)).1 (ap (map (tree_at ts)) ((bytes_decides xs ys).0 h)))
       (λ h. (bytes_decides xs ys).1 (ids_same xs ys p q ((tree_list_decides (map (tree_at ts) xs) (map (tree_at ts) ys)).0 h)))
 
-  key_alike : (k l : CallKey) → All (λ i. i < length ts) k.args.items → All (λ i. i < length ts) l.args.items → key_eq.ghosts.eq k l ≡ call_eq (read_call ts k) (read_call ts l)
-  key_alike k l p q = ap (λ b. eqb k.program l.program && b) (args_alike k.args.items l.args.items p q)
+  key_alike : (k l : CallKey) → All (λ i. i < length ts) k.args → All (λ i. i < length ts) l.args → key_eq.ghosts.eq k l ≡ call_eq (read_call ts k) (read_call ts l)
+  key_alike k l p q = ap (λ b. eqb k.program l.program && b) (args_alike k.args l.args p q)
 
-  pub begun_found : (k : CallKey) → All (λ i. i < length ts) k.args.items → (es : List (CallKey × code_known.Known)) → All (λ (c : CallKey × code_known.Known). All (λ i. i < length ts) c.0.args.items) es → is_some (lookup (key_eq.ghosts.eq k) es) ≡ list_any (call_eq (read_call ts k)) (begun ts es)
+  pub begun_found : (k : CallKey) → All (λ i. i < length ts) k.args → (es : List (CallKey × code_known.Known)) → All (λ (c : CallKey × code_known.Known). All (λ i. i < length ts) c.0.args) es → is_some (lookup (key_eq.ghosts.eq k) es) ≡ list_any (call_eq (read_call ts k)) (begun ts es)
   begun_found k p [] q = refl
   begun_found k p (e ∷ es) q =
       let rest = begun_found k p es (All-tail KeyBelow e es q) in

@@ -3,8 +3,9 @@ use Rattle.std.specs.Prelude.{◌≡◌, ℕ, zero, suc, ◌≤◌, Bool, true, 
 use Rattle.std.specs.List.{list_any}
 use Rattle.std.proofs.Common.{sym, ◌∙◌, ap, subst, arith, true≢false, eq-eqb}
 use Rattle.std.proofs.lemmas.List.Folds.{list_any-append}
+use Rattle.eo_base.proofs.Tests.{join}
 use Rattle.eo_term.specs.Tree.{Tree}
-use Rattle.eo_term.proofs.Equality.{tree_list_decides, join}
+use Rattle.eo_term.proofs.Equality.{tree_list_decides}
 use Rattle.eo_sig.specs.Signature.{Signature}
 use Rattle.eo_eval.specs.Evaluation.{Outcome, Value, Stuck, Deep, Calls, Range, Tall, Call, call_eq, Begun, Ended, on_value, eval_with, begin, on_body, body_of, call_within}
 use Rattle.eo_eval.specs.Machine.{IsBegun, Covers, Again}

@@ -249,7 +249,7 @@ module _ (k : Kept) (t : Terms) (typed : List (ℕ × ℕ)) (e : Machine) (f : c
     concluded_ready remembers r =
         let s = ended_stands S calls_limit t.trees b e.scope e.stack.frames.items e.stack.values.items f now result o node (λ j c. h.ends (call_within S calls_limit j) c) h.live r.stands in
         record {
-          held = record { usable = r.held.usable; fit = r.held.fit; keys_live = subst (All (λ (c : CallKey × code_known.Known). All (λ i. i < length t.trees) c.0.args.items)) (sym cs) r.held.keys_live; remembers = remembers };
+          held = record { usable = r.held.usable; fit = r.held.fit; keys_live = subst (All (λ (c : CallKey × code_known.Known). All (λ i. i < length t.trees) c.0.args)) (sym cs) r.held.keys_live; remembers = remembers };
           stands = subst (Stands S calls_limit t.trees (begun t.trees later.calls.entries) later.scope later.stack.frames.items later.stack.values.items) (sym same)
               (stands_same k t typed e later cs e.stack.frames.items later.stack.frames.items (values_before e.stack.values.items f) later.stack.values.items (now_of o ending) fs vs scope s);
         }

@@ -66,7 +66,7 @@ first_ready k t typed e id fresh usable fit live =
       held = record {
         usable = usable;
         fit = fit;
-        keys_live = subst (All (λ (c : CallKey × code_known.Known). All (λ i. i < length t.trees) c.0.args.items)) cs (All-nil (λ (c : CallKey × code_known.Known). All (λ i. i < length t.trees) c.0.args.items));
+        keys_live = subst (All (λ (c : CallKey × code_known.Known). All (λ i. i < length t.trees) c.0.args)) cs (All-nil (λ (c : CallKey × code_known.Known). All (λ i. i < length t.trees) c.0.args));
         remembers = remembers_none S calls_limit t.trees e.calls.entries e.terms.entries e.locals.entries fresh.calls fresh.terms fresh.locals;
       };
       stands = transport (λ i. Stands S calls_limit t.trees (begun t.trees (cs i)) (scope i) (fs i) (vs i) (next.Enter id 1000))

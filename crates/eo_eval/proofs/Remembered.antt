@@ -5,9 +5,9 @@ use Rattle.std.proofs.Common.{sym, cond, eqb, subst}
 use Rattle.std.proofs.lemmas.List.Elements.{All-head, All-tail, All-cons, All-nil}
 use Rattle.indexmap.specs.IndexMap.{insert_entry}
 use Rattle.std.proofs.lemmas.Bool.Decides.{Decides-eqb}
+use Rattle.eo_base.proofs.Tests.{both}
 use Rattle.eo_term.specs.Terms.{tree_at}
 use Rattle.eo_term.specs.Tree.{Tree}
-use Rattle.eo_term.proofs.Equality.{both}
 use Rattle.eo_sig.specs.Signature.{Signature}
 use Rattle.eo_eval.specs.Evaluation.{Begun}
 use Rattle.eo_eval.specs.Machine.{evals}

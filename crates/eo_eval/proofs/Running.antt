@@ -216,7 +216,7 @@ module _ (k : Kept) (t : Terms) (typed : List (ℕ × ℕ)) (e : Machine) (place
           held = record {
             usable = h.held.usable;
             fit = h.held.fit;
-            keys_live = subst (All (λ (c : CallKey × code_known.Known). All (λ i. i < length t.trees) c.0.args.items)) c (keys_set (λ c. All (λ i. i < length t.trees) c.args.items) e.calls.entries place (known.Stuck 1) h.held.keys_live);
+            keys_live = subst (All (λ (c : CallKey × code_known.Known). All (λ i. i < length t.trees) c.0.args)) c (keys_set (λ c. All (λ i. i < length t.trees) c.args) e.calls.entries place (known.Stuck 1) h.held.keys_live);
             remembers = transport (λ i. Remembers sig calls_limit t.trees (c i) (m i) (n i))
                 (remembers_put sig calls_limit t.trees e.calls.entries e.terms.entries e.locals.entries place (known.Stuck 1) h.held.remembers (none_again sig calls_limit t.trees b e.scope e.stack.frames.items e.stack.values.items place inside_calls none));
           };

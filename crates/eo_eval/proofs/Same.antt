@@ -20,7 +20,7 @@ use Rattle.eo_eval.specs.declared.stack.Now as code_now
 
 module _ (k : Kept) (t : Terms) (typed : List (ℕ × ℕ)) (e later : Machine) (cs : later.calls.entries ≡ e.calls.entries) where
   abbrev KeyLive : CallKey × code_known.Known → Type 0
-  KeyLive c = All (λ i. i < length t.trees) c.0.args.items
+  KeyLive c = All (λ i. i < length t.trees) c.0.args
 
   pub held_same : later.terms.entries ≡ e.terms.entries → later.locals.entries ≡ e.locals.entries → Held k t typed e → Held k t typed later
   held_same es ls h =

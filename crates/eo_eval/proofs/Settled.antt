@@ -3,11 +3,11 @@ use Rattle.std.specs.Prelude.{◌≡◌, ◌≤◌, Bool, true, false, ◌&&◌,
 use Rattle.std.specs.List.{list_all}
 use Rattle.std.proofs.Common.{sym, ◌∙◌, ap, subst, arith}
 use Rattle.eo_base.specs.Limits.{height_limit, calls_limit, open_calls_limit}
-use Rattle.eo_base.proofs.Tests.{both, clash}
+use Rattle.eo_base.proofs.Tests.{both, clash, join}
 use Rattle.eo_term.specs.declared.OpName.{OpName}
 use Rattle.eo_term.specs.declared.OpCode.{OpCode}
 use Rattle.eo_term.specs.Tree.{Tree, Con, Num, Bits, Str, Par, Var, App, Arr, Qar, Op, Trees, NoTree, More, truth, to_trees, height, height_all, is_tall, is_closed, all_closed, is_value, may_be_type, all_may_be_type, may_type_use, tree_eq}
-use Rattle.eo_term.proofs.Equality.{join, tree_same}
+use Rattle.eo_term.proofs.Equality.{tree_same}
 use Rattle.eo_ops.specs.Operators.{OpAnswer, Gives, IsStuck, IsOutOfRange, tree_op_value}
 use Rattle.eo_sig.specs.Signature.{Signature}
 use Rattle.eo_type.specs.Types.{Typed, Untyped, on_typed, typed_if, typed_answer, chosen, op_in_type, settled_op, settle, settle_all}

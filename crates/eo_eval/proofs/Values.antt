@@ -2,13 +2,12 @@
 use Rattle.std.specs.Prelude.{◌≡◌, ℕ, zero, suc, Bool, true, false, if◌then◌else◌, List, [], ◌∷◌, length, Option, Some, None, is_some, refl}
 use Rattle.std.specs.List.{list_all}
 use Rattle.std.proofs.Common.{sym, ◌∙◌, ap, subst}
+use Rattle.eo_base.proofs.Tests.{both, join, clash}
 use Rattle.eo_base.specs.Limits.{open_calls_limit, calls_limit}
 use Rattle.eo_term.specs.declared.OpName.{OpName}
 use Rattle.eo_term.specs.declared.OpCode.{OpCode}
 use Rattle.eo_term.specs.Tree.{Tree, Con, Num, Bits, Str, Par, Var, App, Arr, Qar, Op, Trees, NoTree, More, truth, is_tall, is_value, tree_eq}
 use Rattle.eo_term.specs.Terms.{Terms, tree_at}
-use Rattle.eo_term.proofs.Equality.{both, join}
-use Rattle.eo_term.proofs.Values.{clash}
 use Rattle.eo_ops.specs.Operators.{OpAnswer, Gives, IsStuck, IsOutOfRange, tree_op_value}
 use Rattle.eo_sig.specs.Signature.{Signature, terminator}
 use Rattle.eo_sig.specs.Usable.{IsUsable}

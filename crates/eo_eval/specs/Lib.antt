@@ -1,4 +1,5 @@
 pub mod Bodies
+pub mod Calls
 pub mod Evaluation
 pub mod Faults
 pub mod Machine

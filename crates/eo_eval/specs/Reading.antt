@@ -141,7 +141,7 @@ Waits S most ts b s ws _ = Unit {0}
 
 -- the calls begun
 abbrev pub read_call : List Tree → CallKey → Call
-read_call ts k = record { program = k.program; arguments = map (tree_at ts) k.args.items }
+read_call ts k = record { program = k.program; arguments = map (tree_at ts) k.args }
 
 abbrev pub begun : List Tree → List (CallKey × code_known.Known) → Begun
 begun ts es = map (λ e. read_call ts e.0) es

@@ -53,7 +53,7 @@ pub record IsFresh (e : Machine) : Type 0 where
 pub record Held (k : Kept) (t : Terms) (typed : List (ℕ × ℕ)) (e : Machine) : Type 0 where
   pub usable : IsUsable (signature t.trees k)
   pub fit : Fit k t typed
-  pub keys_live : All (λ c. All (λ i. i < length t.trees) c.0.args.items) e.calls.entries
+  pub keys_live : All (λ c. All (λ i. i < length t.trees) c.0.args) e.calls.entries
   pub remembers : Remembers (signature t.trees k) calls_limit t.trees e.calls.entries e.terms.entries e.locals.entries
 
 pub record Ready (k : Kept) (t : Terms) (typed : List (ℕ × ℕ)) (e : Machine) (now : code_now.Now) : Type 0 where

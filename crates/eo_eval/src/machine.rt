@@ -35,7 +35,7 @@ use crate::stack::{Frame, Known, Now, Stack};
 use eo_base::limits::CALL_DEPTH;
 use eo_pattern::Subst;
 use eo_sig::Signature;
-use eo_term::{Id, Node, Table};
+use eo_term::{Id, Node, Table, table_law};
 use eo_type::Types;
 use indexmap::IndexMap;
 use std::alloc::{AllocError, Global};
@@ -90,9 +90,11 @@ impl Machine {
         ensures fits { Fit sig.now table.new types.new }
         ensures grows { GrowsUnder sig.now table.old table.new }
     {
+        sig.laws();
+        table_law();
         let mut now = Now::Enter {
             id,
-            left: CALL_DEPTH,
+            left: CALL_DEPTH as u32,
         };
         for _ in 0..u64::MAX {
             if let Some(outcome) = self.ended(&now) {
@@ -181,7 +183,7 @@ impl Machine {
         table: &mut Table,
         types: &mut Types,
         id: Id,
-        left: usize,
+        left: u32,
     ) -> Result<Now, AllocError>
         requires ready { Ready sig.now table.old types.old self.old (next.Enter id left) }
         ensures told { IfOk result (λ n. told_in sig.now table.new self.new n ≡ told_in sig.now table.old self.old (next.Enter id left)) }
@@ -205,7 +207,7 @@ impl Machine {
         table: &mut Table,
         types: &mut Types,
         id: Id,
-        left: usize,
+        left: u32,
     ) -> Result<Now, AllocError>
         requires ready { Ready sig.now table.old types.old self.old (next.Enter id left) }
         requires open { is_value (tree_in table.old id) ≡ false }
@@ -232,7 +234,7 @@ impl Machine {
         table: &mut Table,
         types: &mut Types,
         id: Id,
-        left: usize,
+        left: u32,
     ) -> Result<Now, AllocError>
         requires ready { Ready sig.now table.old types.old self.old (next.Enter id left) }
         requires node { is_par (tree_in table.old id) ≡ false }
@@ -254,7 +256,7 @@ impl Machine {
         types: &Types,
         id: Id,
         i: u8,
-        left: usize,
+        left: u32,
     ) -> Now
         requires ready { Ready sig.now table.now types.now self.now (next.Enter id left) }
         requires parameter { Par i ≡ tree_in table.now id }

@@ -15,9 +15,9 @@ pub(crate) enum Known {
     /// It was begun, and is not finished.
     Open,
     /// A value.
-    Value { id: Id, deepest: usize },
+    Value { id: Id, deepest: u32 },
     /// None.
-    Stuck { deepest: usize },
+    Stuck { deepest: u32 },
 }
 
 /// One thing that waits. `deepest` is the inner depth of what it had so far, and `left` is how many
@@ -29,13 +29,13 @@ pub(crate) enum Frame {
     Parts {
         id: Id,
         base: usize,
-        deepest: usize,
-        left: usize,
+        deepest: u32,
+        left: u32,
     },
     /// A choice waits for its condition.
     Choice {
         id: Id,
-        left: usize,
+        left: u32,
     },
     /// A test waits for its argument, which may be stuck.
     Tested {
@@ -44,40 +44,40 @@ pub(crate) enum Frame {
     /// A comparison waits for its first term.
     Left {
         id: Id,
-        left: usize,
+        left: u32,
     },
     /// It waits for its second one, the first having this value.
     Right {
         id: Id,
         first: Id,
-        deepest: usize,
+        deepest: u32,
     },
     /// The same, the first being stuck.
     Unequal {
         id: Id,
-        deepest: usize,
+        deepest: u32,
     },
     /// A requirement waits for its first term.
     Require {
         id: Id,
-        left: usize,
+        left: u32,
     },
     /// It waits for its second one, the first having this value.
     Required {
         id: Id,
         first: Id,
-        deepest: usize,
-        left: usize,
+        deepest: u32,
+        left: u32,
     },
     /// The same, the first being stuck.
     Missed {
         id: Id,
-        deepest: usize,
+        deepest: u32,
     },
     /// A node waits for another term, whose result is its own.
     Handed {
         id: Id,
-        deepest: usize,
+        deepest: u32,
     },
     /// A call waits for its body. Before it, what stood for parameters was that of the call before
     /// `here`, from `base` on, and so many terms with parameters were remembered.
@@ -94,11 +94,11 @@ pub(crate) enum Frame {
 #[derive(Clone, Copy)]
 pub(crate) enum Now {
     /// A term is evaluated, where so many calls may open.
-    Enter { id: Id, left: usize },
+    Enter { id: Id, left: u32 },
     /// A value is given to what waits for it.
-    Value { id: Id, deepest: usize },
+    Value { id: Id, deepest: u32 },
     /// What waits for a value is told that there is none.
-    Stuck { deepest: usize },
+    Stuck { deepest: u32 },
     /// Too many calls are open.
     Deep,
     /// Too many different calls were begun.
@@ -138,7 +138,7 @@ impl Frame {
     }
 
     /// How many calls had to be allowed to open for what it had so far.
-    pub(crate) fn deepest(&self) -> usize
+    pub(crate) fn deepest(&self) -> u32
         ensures { result ≡ deepest_of self.now }
     {
         match *self {
@@ -168,7 +168,7 @@ impl Now {
     }
 
     /// What a call whose body gives this is known to give, where so many calls may open.
-    pub(crate) fn known(&self, deepest: usize) -> Known
+    pub(crate) fn known(&self, deepest: u32) -> Known
         ensures { result ≡ known_of self.now deepest }
     {
         match *self {
@@ -178,7 +178,7 @@ impl Now {
     }
 
     /// The same result, given by a call whose body gives this.
-    pub(crate) fn deeper(&self, deepest: usize) -> Now
+    pub(crate) fn deeper(&self, deepest: u32) -> Now
         ensures { result ≡ deeper self.now deepest }
     {
         match *self {
@@ -195,7 +195,7 @@ impl Now {
     }
 
     /// How many calls had to be allowed to open for what is given.
-    pub(crate) fn deepest(&self) -> usize
+    pub(crate) fn deepest(&self) -> u32
         ensures { result ≡ depth_of self.now }
     {
         match *self {

@@ -1,5 +1,6 @@
 //! The table of paths.
-ghost use Rattle.std.specs.Prelude.{◌≡◌, ◌<◌, [], Some, length, slice_get, position, bytes_eq, IfOk, OnOk, OnErr};
+ghost use Rattle.std.specs.Prelude.{◌≡◌, ◌<◌, [], Some, length, slice_get, position, bytes_eq, is_some, IfOk, OnOk, OnErr};
+ghost use Rattle.std.specs.List.{list_any};
 ghost use Rattle.eo_io.specs.Paths.{with_path, Extends};
 
 use indexmap::IndexSet;
@@ -53,7 +54,8 @@ impl Paths {
 
     /// The number of a path, if it is there.
     pub fn find(&self, path: &[u8]) -> Option<usize>
-        ensures { result ≡ position (bytes_eq path.now) self.now }
+        ensures number { result ≡ position (bytes_eq path.now) self.now }
+        ensures there { is_some result ≡ list_any (bytes_eq path.now) self.now }
     {
         self.paths.get_index_of(path)
     }

@@ -1,12 +1,13 @@
 -- Terms that spell lists, made from the back and from the front, and lists in two parts.
-use Rattle.std.proofs.Common.{◌≡◌, ℕ, zero, suc, ◌+◌, ◌<◌, ◌≤◌, true, List, [], ◌∷◌, ◌++◌, map, take, drop, fold, reverse, length, get_or, refl, sym, ap, ◌∙◌, subst, All, arith}
+use Rattle.std.proofs.Common.{◌≡◌, ℕ, zero, suc, ◌+◌, ◌<◌, ◌≤◌, true, List, [], ◌∷◌, ◌++◌, map, take, drop, fold, reverse, length, get_or, refl, sym, ap, ◌∙◌, All, arith}
 use Rattle.std.proofs.lemmas.List.{at_drop_more, length-map}
 use Rattle.std.proofs.lemmas.List.Elements.{All-head, All-tail}
 use mathlib.Core.List.{reverse_aux}
+use Rattle.eo_base.proofs.Tests.{still_above}
+use Rattle.eo_base.specs.Limits.{height_limit}
 use Rattle.eo_term.specs.Growth.{Grows}
 use Rattle.eo_term.specs.Terms.{Terms, tree_at}
-use Rattle.eo_term.specs.Tree.{Tree, Con, is_tall}
-use Rattle.eo_term.proofs.Heights.{higher}
+use Rattle.eo_term.specs.Tree.{Tree, Con, height, is_tall}
 use Rattle.eo_lists.specs.Lists.{link, spell}
 use Rattle.eo_lists.specs.Parts.{onto}
 
@@ -15,11 +16,7 @@ pub grows_on : (a b c : Terms) → Grows a b → Grows b c → Grows a c
 grows_on a b c g h = record { now = h.since a g.now; since = λ t s. h.since t (g.since t s) }
 
 pub tall_rest : (f a t : Tree) → is_tall t ≡ true → is_tall (link f a t) ≡ true
-tall_rest f a t e = higher t (link f a t) (omega arith) e
-
--- the element at a place passes what all pass
-pub all_at : {X : Type 0} (P : X → Type 0) (xs : List X) (i : ℕ) (x : X) → All P xs → i < length xs → x ≡ get_or xs i x → P x
-all_at P xs i x h l e = subst P (sym e) (h i x l)
+tall_rest f a t e = still_above height_limit (height t) (height (link f a t)) (omega arith) e
 
 pub get_or-at : {X Y : Type 0} (f : X → Y) (xs : List X) (i : ℕ) (x : X) (d : Y) → i < length xs → x ≡ get_or xs i x → get_or (map f xs) i d ≡ f x
 get_or-at f [] i x d l e = absurd (omega arith)

@@ -3,10 +3,10 @@ use Rattle.std.specs.Prelude.{◌≡◌, ℕ, zero, suc, ◌<◌, ◌≤◌, All
 use Rattle.std.specs.List.{list_all}
 use Rattle.std.proofs.Common.{◌+◌, sym, ◌∙◌, ap, ap₂, subst, arith}
 use Rattle.std.proofs.lemmas.List.Elements.{All-append}
+use Rattle.eo_base.proofs.Tests.{both, join, clash}
 use Rattle.eo_term.specs.Tree.{Tree, App, height, is_value, tree_eq}
 use Rattle.eo_term.specs.Terms.{tree_at}
-use Rattle.eo_term.proofs.Equality.{both, join, tree_same, tree_refl}
-use Rattle.eo_term.proofs.Values.{clash}
+use Rattle.eo_term.proofs.Equality.{tree_same, tree_refl}
 use Rattle.eo_lists.specs.Lists.{link, spell, none_or_empty, spelled}
 use Rattle.eo_lists.specs.Parts.{unlinked}
 

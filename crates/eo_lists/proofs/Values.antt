@@ -3,10 +3,9 @@ use Rattle.std.specs.Prelude.{◌≡◌, ℕ, zero, suc, pos, Bool, true, false,
 use Rattle.std.specs.List.{list_all}
 use Rattle.std.proofs.Common.{ap, subst}
 use mathlib.Core.List.{reverse_aux}
+use Rattle.eo_base.proofs.Tests.{both, join, clash}
 use Rattle.eo_term.specs.declared.OpName.{OpName}
 use Rattle.eo_term.specs.Tree.{Tree, Con, Num, truth, is_value, tree_eq}
-use Rattle.eo_term.proofs.Equality.{both, join}
-use Rattle.eo_term.proofs.Values.{clash}
 use Rattle.eo_sig.specs.Signature.{Signature, terminator}
 use Rattle.eo_lists.specs.Lists.{spell, spelled, erase, set_of, includes, item_at, place_in, on_list, as_list, by_operator, list_value}
 use Rattle.eo_lists.proofs.Spell.{spell-spelled, spell_value}

@@ -6,7 +6,7 @@ ghost use Rattle.eo_term.specs.Builds.{Builds};
 ghost use Rattle.eo_lists.specs.Lists.{link, spell};
 ghost use Rattle.eo_lists.specs.Parts.{onto};
 
-use eo_term::{Id, Node, Table, TermRefused};
+use eo_term::{Id, Node, Table, TermRefused, builds_law};
 
 /// The term that spells the items by the constant `fun`, before what `end` spells.
 pub(crate) fn build(table: &mut Table, fun: Id, end: Id, items: &[Id]) -> Result<Id, TermRefused>
@@ -16,6 +16,7 @@ pub(crate) fn build(table: &mut Table, fun: Id, end: Id, items: &[Id]) -> Result
     ensures gives { Builds table.new result (spell (tree_in table.old fun) (tree_in table.old end) (trees_in table.old items.now)) }
     ensures grows { Grows table.old table.new }
 {
+    builds_law();
     let mut left = items.len();
     let mut made = end;
     while left > 0 {
@@ -38,6 +39,7 @@ pub(crate) fn build_reversed(
     ensures gives { Builds table.new result (fold (onto (tree_in table.old fun)) (tree_in table.old end) (trees_in table.old items.now)) }
     ensures grows { Grows table.old table.new }
 {
+    builds_law();
     let mut made = end;
     for item in items {
         made = put_before(table, fun, *item, made)?;

@@ -12,7 +12,7 @@ ghost use Rattle.eo_lists.specs.Parts.{IsSpelling, GivesTree, by_operator_in, sp
 use crate::build::{build, build_reversed, put_before};
 use crate::items::{first_of_each, is_included, place_of};
 use crate::spelling::{Spelling, items, length_of};
-use eo_term::{FALSE, Id, Node, OpName, TRUE, Table, TermRefused};
+use eo_term::{FALSE, Id, Node, OpName, TRUE, Table, TermRefused, builds_law};
 use std::alloc::Global;
 
 /// The value of an operator, by its arguments after the constant.
@@ -244,6 +244,7 @@ fn without(
     ensures gives { Builds table.new result (spell_in table.old form.now (remove items.now place)) }
     ensures grows { Grows table.old table.new }
 {
+    builds_law();
     let rest = build(table, form.fun, form.end, &items[place + 1..])?;
     build(table, form.fun, rest, &items[..place])
 }

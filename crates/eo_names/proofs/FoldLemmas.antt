@@ -1,5 +1,5 @@
 -- Folds over lists of trees, from a place on.
-use Rattle.std.proofs.Common.{◌≡◌, ℕ, zero, suc, ◌+◌, ◌<◌, ◌≤◌, true, Bool, List, [], ◌∷◌, map, drop, fold, length, get_or, false, refl, sym, ap, ◌∙◌, subst, All, arith}
+use Rattle.std.proofs.Common.{◌≡◌, ℕ, zero, suc, ◌+◌, ◌<◌, ◌≤◌, true, Bool, List, [], ◌∷◌, map, drop, fold, length, get_or, false, refl, sym, ap, ◌∙◌, arith}
 use Rattle.std.proofs.lemmas.List.{at_drop_more}
 use Rattle.eo_base.proofs.Tests.{still_above}
 use Rattle.eo_base.specs.Limits.{height_limit}
@@ -54,10 +54,6 @@ pub get_or-at : {X Y : Type 0} (f : X → Y) (xs : List X) (i : ℕ) (x : X) (d 
 get_or-at f [] i x d l e = absurd (omega arith)
 get_or-at f (y ∷ ys) zero x d l e = ap f (sym e)
 get_or-at f (y ∷ ys) (suc i) x d l e = get_or-at f ys i x d (omega arith) e
-
--- the element at a place passes what all pass
-pub all_at : {X : Type 0} (P : X → Type 0) (xs : List X) (i : ℕ) (x : X) → All P xs → i < length xs → x ≡ get_or xs i x → P x
-all_at P xs i x h l e = subst P (sym e) (h i x l)
 
 -- from the right: a grouping by what is put before a list that is not empty
 module _ (grouped : List Tree → Tree) (onto : Tree → Tree → Tree)

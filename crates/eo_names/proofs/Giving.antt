@@ -14,7 +14,6 @@ use Rattle.eo_term.specs.Tree.{Tree, is_tall}
 use Rattle.eo_names.specs.declared.folding.Turn.{Turn}
 use Rattle.eo_names.specs.declared.refused.ElabRefused.{ElabRefused}
 use Rattle.eo_term.specs.Builds.{TallWhere, Builds}
-use Rattle.eo_term.proofs.Building.{tall_where}
 use Rattle.eo_pattern.specs.Matching.{Assignment, put}
 use Rattle.eo_pattern.specs.Steps.{IsMade}
 use Rattle.eo_names.specs.Gives.{GivesTree, GivesTerm, GivesTurn}
@@ -27,7 +26,8 @@ use Rattle.eo_names.specs.Worlds.{World, turned_in}
 -- a term with what stands for its parameters put in
 pub builds_put : (σ : Assignment) (ts : List Tree) (k : ℕ) (new : Terms) (r : Result ℕ TermRefused) → IfOk r (IsMade σ ts k new.trees) → (IsTall r → is_tall (put σ (tree_at ts k)) ≡ true) → Builds new r (put σ (tree_at ts k))
 builds_put σ ts k new (Ok i) h t = record { live = h.live; tree = h.tree }
-builds_put σ ts k new (Err e) h t = tall_where ℕ e (is_tall (put σ (tree_at ts k))) t
+builds_put σ ts k new (Err term.Tall) h t = t tt
+builds_put σ ts k new (Err (term.Memory e)) h t = tt
 
 -- the height as a fault
 pub tall_told : {A : Type 0} (e : TermRefused) (b : Bool) (o : Checked A) → (b ≡ true → o ≡ Err TermHeight) → TallWhere e b → Tells told (of_term e) o

@@ -20,7 +20,7 @@ use crate::scope::Scope;
 use crate::usage::Use;
 use eo_pattern::{Subst, substitute};
 use eo_sig::SignatureView;
-use eo_term::{HEIGHT_LIMIT, Id, Node, OpCode, Table, TermRefused};
+use eo_term::{HEIGHT_LIMIT, Id, Node, OpCode, Table, TermRefused, builds_law};
 use std::alloc::Global;
 
 /// The term of arguments that are used so.
@@ -79,6 +79,7 @@ fn apply_operator(table: &mut Table, code: OpCode, args: &[Id]) -> Result<Id, Te
     ensures gives { Builds table.new result (Op code (to_trees (trees_in table.old args.now))) }
     ensures grows { Grows table.old table.new }
 {
+    builds_law();
     table.intern_op(code, args)
 }
 
@@ -91,6 +92,7 @@ pub fn function_type(table: &mut Table, types: &[Id]) -> Result<Id, TermRefused>
     ensures gives { Builds table.new result (arrow (trees_in table.old types.now)) }
     ensures grows { Grows table.old table.new }
 {
+    builds_law();
     let mut left = types.len() - 1;
     let mut made = types[left];
     while left > 0 {

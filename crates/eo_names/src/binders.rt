@@ -18,7 +18,7 @@ use crate::laws::names_law;
 use crate::locals::Bindings;
 use crate::scope::Scope;
 use eo_sig::SignatureView;
-use eo_term::{Id, Node, Table, TermRefused};
+use eo_term::{Id, Node, Table, TermRefused, builds_law};
 use std::alloc::{AllocError, Global};
 
 /// Puts the variable of each name and type in the place of the type, and gives the list that the
@@ -60,6 +60,7 @@ fn make_variables(alloc: Global, names: &mut Bindings, table: &mut Table) -> Res
     ensures binds { BindsVariables table.old table.new names.old names.new result }
     ensures grows { Grows table.old table.new }
 {
+    builds_law();
     for i in 0..names.len() {
         let (name, ty) = names.get(i);
         let id = variable(alloc, name, ty, table)?;

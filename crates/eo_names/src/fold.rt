@@ -9,7 +9,7 @@ ghost use Rattle.eo_term.specs.Builds.{Builds};
 ghost use Rattle.eo_names.specs.Worlds.{left_in, onto_in, last_in, right_nil_in};
 
 use crate::scope::Scope;
-use eo_term::{Id, Ids, Node, OpCode, OpName, Table, TermRefused};
+use eo_term::{Id, Ids, Node, OpCode, OpName, Table, TermRefused, builds_law};
 use std::alloc::Global;
 
 /// The application of a term to another.
@@ -41,6 +41,7 @@ pub(crate) fn apply_to_all(table: &mut Table, f: Id, args: &[Id]) -> Result<Id, 
     ensures gives { Builds table.new result (applied (tree_in table.old f) (trees_in table.old args.now)) }
     ensures grows { Grows table.old table.new }
 {
+    builds_law();
     let mut made = f;
     for a in args {
         made = apply(table, made, *a)?;
@@ -71,6 +72,7 @@ pub(crate) fn group_left(
     ensures gives { Builds table.new result (left_in table.old f first args.now) }
     ensures grows { Grows table.old table.new }
 {
+    builds_law();
     let mut made = first;
     for a in args {
         made = apply_to_two(table, f, made, *a)?;
@@ -86,6 +88,7 @@ pub(crate) fn group_right(table: &mut Table, f: Id, args: &[Id]) -> Result<Id, T
     ensures gives { Builds table.new result (right (tree_in table.old f) (trees_in table.old args.now)) }
     ensures grows { Grows table.old table.new }
 {
+    builds_law();
     let mut left = args.len() - 1;
     let mut made = args[left];
     while left > 0 {
@@ -112,6 +115,7 @@ pub(crate) fn group_list(
     ensures gives { Builds table.new result (right_nil_in table.old scope.now f nil args.now) }
     ensures grows { Grows table.old table.new }
 {
+    builds_law();
     let mut left = args.len() - 1;
     let mut made = last_of_list(table, scope, f, args[left], nil)?;
     while left > 0 {

@@ -7,7 +7,7 @@ ghost use Rattle.eo_names.specs.Gives.{AddsAll};
 ghost use Rattle.eo_names.specs.Worlds.{with_each};
 
 use crate::fold::apply_to_two;
-use eo_term::{Id, Ids, Table, TermRefused};
+use eo_term::{Id, Ids, Table, TermRefused, builds_law};
 use std::alloc::Global;
 
 /// A term on each two neighbours, in order.
@@ -22,6 +22,7 @@ pub(crate) fn neighbours(
     ensures gives { BuildsAll table.new result (links (tree_in table.old f) (trees_in table.old args.now)) }
     ensures grows { Grows table.old table.new }
 {
+    builds_law();
     let mut made = Ids::new(alloc);
     for i in 1..args.len() {
         let link = apply_to_two(table, f, args[i - 1], args[i])?;
@@ -42,6 +43,7 @@ pub(crate) fn pairs(
     ensures gives { BuildsAll table.new result (all_pairs (tree_in table.old f) (trees_in table.old args.now)) }
     ensures grows { Grows table.old table.new }
 {
+    builds_law();
     let mut made = Ids::new(alloc);
     for i in 0..args.len() {
         add_pairs(table, f, args[i], &args[i + 1..], &mut made)?;
@@ -64,6 +66,7 @@ fn add_pairs(
     ensures adds { AddsAll table.old table.new made.old made.new result (with_each table.old f a others.now) }
     ensures grows { Grows table.old table.new }
 {
+    builds_law();
     for b in others {
         let pair = apply_to_two(table, f, a, *b)?;
         made.push(pair)?;

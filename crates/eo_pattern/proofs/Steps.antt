@@ -6,13 +6,11 @@ use Rattle.std.proofs.lemmas.Option.{none-some}
 use mathlib.Core.Path.{fun_ext}
 use Rattle.eo_term.specs.Tree.{Tree, Con, Num, Bits, Str, Par, Var, App, Arr, Qar, Op, Trees, NoTree, More, to_list, is_closed, all_closed, occurs, occurs_in, occurs_in_all, is_tall}
 use Rattle.eo_term.specs.declared.OpCode.{OpCode}
-use Rattle.eo_base.proofs.Tests.{or_second}
-use Rattle.eo_term.proofs.Equality.{both}
+use Rattle.eo_base.proofs.Elements.{holds_more}
+use Rattle.eo_base.proofs.Tests.{or_second, both, clash}
 use Rattle.eo_term.specs.ParamSet.{has}
 use Rattle.std.specs.Prelude.{IfSome, IfNone}
 use Rattle.eo_term.specs.Memo.{told, TellsOnly}
-use Rattle.eo_term.proofs.Memos.{tells_more, tells_weaker}
-use Rattle.eo_term.proofs.Values.{clash}
 use Rattle.eo_pattern.specs.Matching.{Assignment, empty, assign, value_or_par, put, put_all, Matches}
 use Rattle.eo_pattern.specs.Slots.{Slots, SlotBelow, AreBelow, Holds, Leads, Keeps, held, IsPut, IsAssigned}
 use Rattle.eo_pattern.specs.Matched.{IsKept, AreMatched}
@@ -369,11 +367,11 @@ put_later s old new k h g l = λ i. put ((holds_grown s old new h g).held i) (g.
 pub puts_grown : (s : Slots) (old new : Terms) (m : List (ℕ × ℕ)) → AreBelow (length old.trees) s → Since old new → TellsOnly (IsPut (held old.trees s) old.trees) m → TellsOnly (IsPut (held new.trees s) new.trees) m
 puts_grown s old new m h g t =
     let same = (holds_grown s old new h g).held in
-    tells_weaker (IsPut (held old.trees s) old.trees) (IsPut (held new.trees s) new.trees) m (λ k v p. record {
+    λ k v e. let p = t k v e in record {
       term = omega (arith, p.term, g.more_trees);
       made = omega (arith, p.made, g.more_trees);
       tree = g.tree v p.made ∙ p.tree ∙ (λ i. put (sym same i) (sym (g.tree k p.term) i));
-    }) t
+    }
 
 -- where the term k becomes too tall, so does the term id
 abbrev pub Overtops : Assignment → List Tree → ℕ → ℕ → Type 0
@@ -396,7 +394,7 @@ module _ (s : Slots) (old mid new : Terms) (id k : ℕ) (b : AreBelow (length ol
   step_kept v m n w f t p =
       let below = (holds_grown s old mid b g).below in
       let live : k < length mid.trees = omega (arith, l, g.more_trees) in
-      tells_more (IsPut (held new.trees s) new.trees) m n k v f (puts_grown s mid new m below w t) (record {
+      holds_more (IsPut (held new.trees s) new.trees) (told m) (told n) k v f (puts_grown s mid new m below w t) (record {
         term = omega (arith, live, w.more_trees);
         made = p.live;
         tree = p.tree ∙ sym (put_later s mid new k below w live);

@@ -1,13 +1,15 @@
 //! What holds of matching. A call costs nothing: it tells a proof what its clauses say.
-ghost use Rattle.std.specs.Prelude.{◌≡◌, ◌<◌, ◌≤◌, ◌+◌, ℕ, List, Some, true};
+ghost use Rattle.std.specs.Prelude.{◌≡◌, ◌<◌, ◌≤◌, ◌+◌, ℕ, List, Some, None, true};
 ghost use Rattle.eo_term.specs.Tree.{Tree, Trees, height, is_closed};
 ghost use Rattle.eo_term.specs.Arguments.{argument_at, count_of};
 ghost use Rattle.eo_pattern.specs.Matching.{Assignment, Matches, empty, matching, put, put_all};
 
-/// A law: matching as it is computed finds just the assignment that makes patterns equal to trees.
+/// A law: matching as it is computed finds just the assignment that makes patterns equal to trees, and
+/// nothing where there is none.
 pub fn matching_law()
     ensures sound { (before σ : Assignment) (ps ts : List Tree) → matching before ps ts ≡ Some σ → Matches before ps ts σ }
     ensures complete { (before σ : Assignment) (ps ts : List Tree) → Matches before ps ts σ → matching before ps ts ≡ Some σ }
+    ensures none { (before : Assignment) (ps ts : List Tree) → ((σ : Assignment) → Matches before ps ts σ → ⊥) → matching before ps ts ≡ None }
 {}
 
 /// A law: what is put in for parameters changes nothing where there are none, or nothing stands for

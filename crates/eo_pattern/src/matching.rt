@@ -9,7 +9,7 @@ ghost use Rattle.eo_pattern.specs.Split.{IsSplit};
 
 use crate::Subst;
 use crate::matched::{PAIRS, is_matched, keep};
-use eo_term::{Id, Node, Table};
+use eo_term::{Id, Node, Table, arguments_law, codes_law};
 
 /// Whether some assignment that extends the present one, by just the patterns' parameters, makes
 /// the patterns equal to the terms, one to one. There is at most one; it is then held. On `false`
@@ -184,6 +184,7 @@ fn match_args(
     ensures matched { IsTrue result → AreMatched table.now.trees (held table.now.trees subst.new) matched.new }
     ensures kept { Keeps (length table.now.trees) subst.old subst.new }
 {
+    arguments_law();
     for i in 0..count {
         if !match_one(
             table,
@@ -221,6 +222,7 @@ fn split_roots(table: &Table, pattern: Id, term: Id) -> Split
     requires term { term < length table.now.trees }
     ensures { IsSplit table.now.trees pattern term result }
 {
+    codes_law();
     if table.is_closed(pattern) {
         return if table.is_same(pattern, term) {
             Split::Equal

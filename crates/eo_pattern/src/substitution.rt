@@ -12,7 +12,10 @@ ghost use Rattle.eo_pattern.specs.Steps.{put_in, IsMade, IsOperator, IsStep, IsI
 
 use crate::Subst;
 use eo_base::limits::PARAMETERS;
-use eo_term::{Id, Memo, Node, OpCode, ParamSet, Step, TYPE, Table, TermRefused, Walk};
+use eo_term::{
+    Id, Memo, Node, OpCode, ParamSet, Step, TYPE, Table, TermRefused, Walk, height_law, table_law,
+    walk_law,
+};
 
 /// The term in which each parameter that has a value is replaced by it. Nothing is renamed. A part
 /// without such parameters is taken as it is, and its own parts are not looked at. A part that stands at
@@ -29,6 +32,7 @@ pub fn substitute(table: &mut Table, subst: &Subst, id: Id) -> Result<Id, TermRe
     ensures holds { Holds subst.now table.old.trees table.new.trees }
     ensures grows { Grows table.old table.new }
 {
+    table_law();
     let mark = table.mark();
     let made = put_from(table, subst, id);
     if made.is_err() {
@@ -70,6 +74,7 @@ fn put_walk(
     ensures tall { IsTall result → is_tall (put_in table.old subst.now walk.old.top) ≡ true }
     ensures grows { Grows table.old table.new }
 {
+    walk_law();
     loop {
         match put_node(table, subst, assigned, walk.memo(), walk.top())? {
             Step::Made(made) => {
@@ -156,6 +161,7 @@ fn put_op(
     ensures tall { IsTall result → is_tall (put_in table.old subst.now id) ≡ true }
     ensures grows { Grows table.old table.new }
 {
+    height_law();
     let mut args = [TYPE; PARAMETERS];
     for i in 0..count {
         let arg = table.arg(id, i);

@@ -15,10 +15,13 @@ use Rattle.eo_term.specs.Tree.{Tree, tree_eq, truth}
 use Rattle.eo_term.specs.Growth.{IsTable}
 use Rattle.eo_term.specs.Terms.{Terms, tree_at, first_trees}
 use Rattle.eo_proof.specs.declared.facts.Begun.{Begun}
-use Rattle.eo_proof.specs.Kept.{NamedId, Kept, read_fact, outer_facts, opened, scopes, outer_count, innermost, AreBelow, AreBegun, IsKept, with_named, with_begun, holds_false}
+use Rattle.eo_proof.specs.Kept.{NamedId, Kept, read_fact, outer_facts, opened, scopes, outer_count, innermost, AreBelow, AreBegun, IsKept, with_named, with_begun, without_begun, holds_false}
 use Rattle.eo_proof.specs.Scopes.{depth, opened_facts, live_facts, formula_named, fact_named, with_fact, with_scope, outside, innermost_hypothesis, is_live, is_free_outside, has_false, formulas, no_facts}
 
 -- ---- scopes that are open
+
+pub without_none : (fs : List NamedId) → ◌≡◌ {A = Kept} (record { facts = fs; begun = [] }) (without_begun (record { facts = fs; begun = [] }))
+without_none fs = ap (λ (xs : List NamedId). record { facts = xs; begun = [] }) (sym (take-length fs))
 
 pub outer_more : (fs gs : List NamedId) (b : Begun) (bs : List Begun) → b.first < length fs → outer_facts (fs ++ gs) (b ∷ bs) ≡ outer_facts fs (b ∷ bs)
 outer_more fs gs b bs h = ap (λ ys. outer_facts ys bs) (take-append-le b.first fs gs (omega (arith, h)))

@@ -74,5 +74,9 @@ pub record IsKept (k : Kept) (told : Bool) : Type 0 where
 abbrev pub with_named : Kept → NamedId → Kept
 with_named k f = record k { facts = k.facts ++ f ∷ [] }
 
+-- the facts outside the innermost scope
+abbrev pub without_begun : Kept → Kept
+without_begun k = record { facts = take (outer_count k) k.facts; begun = drop 1 k.begun }
+
 abbrev pub with_begun : Kept → NamedId → Kept
 with_begun k f = record { facts = k.facts ++ f ∷ []; begun = record { first = length k.facts; hypothesis = f.1 } ∷ k.begun }

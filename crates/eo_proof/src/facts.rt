@@ -6,7 +6,7 @@ ghost use Rattle.std.specs.Str.{bytes_eq};
 ghost use Rattle.eo_term.specs.Growth.{IsTable};
 ghost use Rattle.eo_term.specs.Terms.{Terms, tree_at};
 ghost use Rattle.eo_term.specs.Tree.{Tree};
-ghost use Rattle.eo_proof.specs.Kept.{scopes, outer_count, innermost, outer_facts, holds_false, with_named, with_begun, AreBelow};
+ghost use Rattle.eo_proof.specs.Kept.{scopes, outer_count, innermost, outer_facts, holds_false, with_named, with_begun, AreBelow, AreBegun};
 ghost use Rattle.eo_proof.specs.Outcomes.{Added, Found};
 ghost use Rattle.eo_proof.specs.Scopes as scope;
 ghost use Rattle.eo_proof.specs.Scopes.{no_facts};
@@ -116,6 +116,7 @@ impl Facts {
     pub fn add_new(&mut self, name: &[u8], id: Id) -> Result<(), AllocError>
         requires { (ts : List Tree) → scope.is_live (scopes ts self.old) name.now ≡ false }
         ensures adds { OnOk result ((ts : List Tree) → scopes ts self.new ≡ scope.with_fact (scopes ts self.old) name.now (tree_at ts id)) }
+        ensures kept { OnOk result (self.new ≡ with_named self.old (name.now, id)) }
         ensures below { (m : ℕ) → AreBelow m self.old → id < m → AreBelow m self.new }
         ensures same { OnErr result (self.new ≡ self.old) }
     {
@@ -124,12 +125,16 @@ impl Facts {
         Ok(())
     }
 
-    /// A law: which names facts have is the same over all lists of trees.
+    /// A law: which names facts have is the same over all lists of trees. The scopes begin within the
+    /// facts, and the inner ones behind the outer ones.
     #[tactic(auto, using(crate::proofs::Reading::same_names))]
     pub fn laws(&self)
         ensures names { (ts us : List Tree) (name : List ℕ) →
             scope.is_live (scopes ts self.now) name ≡ scope.is_live (scopes us self.now) name }
-    {}
+        ensures begun { AreBegun (length self.now.facts) self.now.begun }
+    {
+        let _refutes = self.refutes;
+    }
 
     /// The fact with the name, in any scope.
     pub fn find(&self, name: &[u8]) -> Result<Id, UnknownPremise>

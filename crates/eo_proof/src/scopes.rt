@@ -1,10 +1,10 @@
 //! Scopes that are opened and closed.
-ghost use Rattle.std.specs.Prelude.{◌≡◌, ℕ, ◌<◌, List, ◌∷◌, ◌++◌, [], IfOk, IfSome, IfNone, OnErr};
+ghost use Rattle.std.specs.Prelude.{◌≡◌, ℕ, ◌<◌, List, ◌∷◌, ◌++◌, [], IfOk, IfSome, IfNone, OnOk, OnErr};
 ghost use Rattle.std.specs.Map.{lookup};
 ghost use Rattle.std.specs.Str.{bytes_eq};
 ghost use Rattle.eo_term.specs.Terms.{tree_at};
 ghost use Rattle.eo_term.specs.Tree.{Tree};
-ghost use Rattle.eo_proof.specs.Kept.{scopes, outer_count, AreBelow};
+ghost use Rattle.eo_proof.specs.Kept.{scopes, outer_count, with_begun, without_begun, AreBelow};
 ghost use Rattle.eo_proof.specs.Outcomes.{Pushed, Popped};
 
 use crate::facts::Begun;
@@ -21,6 +21,7 @@ impl Facts {
     #[tactic(auto, using(crate::proofs::Reading::live_is_named))]
     pub fn push(&mut self, name: &[u8], id: Id) -> Result<(), FactRefused>
         ensures pushes { (ts : List Tree) → Pushed result (scopes ts self.old) name.now (tree_at ts id) (scopes ts self.new) }
+        ensures kept { OnOk result (self.new ≡ with_begun self.old (name.now, id)) }
         ensures below { (m : ℕ) → AreBelow m self.old → id < m → AreBelow m self.new }
         ensures same { OnErr result (self.new ≡ self.old) }
     {
@@ -40,6 +41,7 @@ impl Facts {
     /// `NoScope`: none is open.
     pub fn pop(&mut self) -> Result<Id, NoScope>
         ensures pops { (ts : List Tree) → Popped ts result (scopes ts self.old) (scopes ts self.new) }
+        ensures kept { self.new ≡ without_begun self.old }
         ensures below { (m : ℕ) → AreBelow m self.old → AreBelow m self.new }
         ensures live { (m : ℕ) → AreBelow m self.old → IfOk result (λ i. i < m) }
     {

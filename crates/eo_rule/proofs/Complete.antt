@@ -6,9 +6,9 @@ use Rattle.std.proofs.lemmas.List.Folds.{list_any-append}
 use mathlib.Core.Path.{fun_ext}
 use Rattle.eo_base.specs.declared.FaultName.TheVariants.{IllTyped, PremiseMismatch, NotBool}
 use Rattle.eo_base.specs.Checks.{require}
-use Rattle.eo_base.proofs.Tests.{clash}
+use Rattle.eo_base.proofs.Tests.{clash, join}
 use Rattle.eo_term.specs.Tree.{Tree, Con, is_value, is_plain, occurs, occurs_in, occurs_openly, bool_tree}
-use Rattle.eo_term.proofs.Equality.{join, tree_decides}
+use Rattle.eo_term.proofs.Equality.{tree_decides}
 use Rattle.eo_term.proofs.Values.{plain_occurs}
 use Rattle.eo_sig.specs.Signature.{Signature, Parameter, Rule, PremiseShape, Each, Joined, terminator, premise_patterns, rule_patterns, known, is_solved}
 use Rattle.eo_pattern.specs.Matching.{Assignment, empty, put, matching}

@@ -1,13 +1,14 @@
 -- A conclusion under requirements: made from the back, and how tall it is.
 use Rattle.std.proofs.Common.{◌≡◌, ℕ, zero, suc, ◌<◌, ◌≤◌, true, List, [], ◌∷◌, length, map, drop, get_or, Option, Some, None, refl, sym, ap, ◌∙◌, arith}
 use Rattle.std.specs.Prelude.{Result, Ok, Err, IfOk}
+use Rattle.eo_base.proofs.Tests.{still_above}
+use Rattle.eo_base.specs.Limits.{height_limit}
 use Rattle.eo_term.specs.declared.table.TermRefused.{TermRefused}
+use Rattle.eo_term.specs.declared.table.TermRefused.TheVariants as term
 use Rattle.eo_term.specs.Builds.{Builds}
 use Rattle.eo_term.specs.Refused.{IsTall}
 use Rattle.eo_term.specs.Terms.{Terms, tree_at}
 use Rattle.eo_term.specs.Tree.{Tree, Con, Num, Bits, Str, Par, Var, App, Arr, Qar, Op, Trees, NoTree, More, height, height_all, is_tall}
-use Rattle.eo_term.proofs.Building.{tall_where}
-use Rattle.eo_term.proofs.Heights.{higher}
 use Rattle.eo_pattern.specs.Matching.{Assignment, put, put_all, value_or_par}
 use Rattle.eo_pattern.specs.Steps.{IsMade}
 use Rattle.eo_rule.specs.Instance.{under, required}
@@ -25,7 +26,7 @@ length_map f (x ∷ xs) = omega (arith, length_map f xs)
 -- ---- requirements
 
 tall_under : (q : Tree × Tree) (t : Tree) → is_tall t ≡ true → is_tall (under q t) ≡ true
-tall_under q t e = higher t (under q t) (omega arith) e
+tall_under q t e = still_above height_limit (height t) (height (under q t)) (omega arith) e
 
 pub required_tall : (qs : List (Tree × Tree)) (t : Tree) (i : ℕ) → is_tall (required (drop i qs) t) ≡ true → is_tall (required qs t) ≡ true
 required_tall qs t zero e = e
@@ -74,9 +75,10 @@ mutual
   put_all_higher σ (More t ts) = omega (arith, put_higher σ t, put_all_higher σ ts)
 
 pub put_tall : (σ : Assignment) (t : Tree) → is_tall t ≡ true → is_tall (put σ t) ≡ true
-put_tall σ t e = higher t (put σ t) (put_higher σ t) e
+put_tall σ t e = still_above height_limit (height t) (height (put σ t)) (put_higher σ t) e
 
 -- what a substitution answers
 pub builds_put : (new : Terms) (σ : Assignment) (ts : List Tree) (k : ℕ) (u : Tree) (r : Result ℕ TermRefused) → put σ (tree_at ts k) ≡ u → IfOk r (IsMade σ ts k new.trees) → (IsTall r → is_tall (put σ (tree_at ts k)) ≡ true) → Builds new r u
 builds_put new σ ts k u (Ok i) e h t = record { live = h.live; tree = h.tree ∙ e }
-builds_put new σ ts k u (Err x) e h t = tall_where ℕ x (is_tall u) (λ q. sym (ap is_tall e) ∙ t q)
+builds_put new σ ts k u (Err term.Tall) e h t = sym (ap is_tall e) ∙ t tt
+builds_put new σ ts k u (Err (term.Memory x)) e h t = tt

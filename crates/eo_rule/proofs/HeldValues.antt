@@ -4,9 +4,8 @@ use Rattle.std.specs.List.{list_all}
 use Rattle.std.specs.Option.{option_or}
 use Rattle.std.specs.Cmp.Lexicographic.{pointwise}
 use Rattle.std.proofs.Common.{sym, ap, subst, true≢false}
-use Rattle.eo_base.proofs.Tests.{clash}
+use Rattle.eo_base.proofs.Tests.{clash, both}
 use Rattle.eo_term.specs.Tree.{Tree, Par, Var, App, Arr, Qar, Op, is_value, occurs, occurs_in, tree_eq}
-use Rattle.eo_term.proofs.Equality.{both}
 use Rattle.eo_pattern.specs.Matching.{Assignment, put, met, met_in, tried, matching}
 use Rattle.eo_pattern.proofs.Put.{HoldsValues, put_named}
 

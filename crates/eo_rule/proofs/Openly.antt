@@ -2,11 +2,10 @@
 use Rattle.std.specs.Prelude.{◌≡◌, ℕ, Bool, true, false, ◌&&◌, ◌||◌, if◌then◌else◌, List, [], ◌∷◌, refl}
 use Rattle.std.specs.List.{list_all}
 use Rattle.std.proofs.Common.{sym, ◌∙◌, ap, ap₂, subst}
-use Rattle.eo_base.proofs.Tests.{clash}
+use Rattle.eo_base.proofs.Tests.{clash, both}
 use Rattle.eo_term.specs.declared.OpName.{OpName}
 use Rattle.eo_term.specs.declared.OpCode.{OpCode}
 use Rattle.eo_term.specs.Tree.{Tree, Con, Num, Bits, Str, Par, Var, App, Arr, Qar, Op, truth, to_trees, is_tall, is_closed, is_value, is_plain, occurs_openly, tree_eq}
-use Rattle.eo_term.proofs.Equality.{both}
 use Rattle.eo_term.proofs.Values.{value_openly}
 use Rattle.eo_ops.specs.Operators.{tree_op_value}
 use Rattle.eo_sig.specs.Signature.{Signature}

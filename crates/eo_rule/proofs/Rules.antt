@@ -1,35 +1,17 @@
--- A rule over a table that has grown.
-use Rattle.std.proofs.Common.{◌≡◌, ℕ, zero, suc, [], ◌∷◌, length, All, Option, Some, None, refl, ap, arith}
+-- A use of a rule over a table that has grown.
+use Rattle.std.proofs.Common.{◌≡◌, ℕ, length, Option, Some, None, refl, ap, arith}
 use Rattle.std.specs.Prelude.{option_map}
 use Rattle.eo_base.proofs.Elements.{ids_more, map_same}
-use Rattle.std.proofs.lemmas.List.Elements.{All-head}
 use Rattle.eo_term.specs.Terms.{Terms, Since, tree_at}
-use Rattle.eo_sig.specs.declared.records.RuleDecl.{RuleDecl}
-use Rattle.eo_sig.specs.declared.records.Declared.TheVariants as declared
-use Rattle.eo_sig.specs.Reading.{Kept, EntryBelow, RuleBelow, SomeBelow}
-use Rattle.eo_sig.proofs.Same.{below_grown, rule_same}
+use Rattle.eo_sig.specs.Reading.{SomeBelow}
 use Rattle.eo_rule.specs.declared.RuleUse.{RuleUse}
-use Rattle.eo_rule.specs.Reading.{RuleStays, UseBelow, UseStays}
-
-one : {X : Type 0} (P : X → Type 0) (x : X) → P x → All P (x ∷ [])
-one P x p zero d l = p
-one P x p (suc i) d l = absurd (omega arith)
-
--- it is what it was, and its terms are there
-pub rule_grown : (d : RuleDecl) (old new : Terms) → RuleBelow (length old.trees) d → Since old new → RuleStays d old.trees new.trees
-rule_grown d old new h g =
-    let k : Kept = record { entries = declared.Rule d ∷ []; macros = [] } in
-    let all = below_grown old new k g (record { entries = one (EntryBelow (length old.trees)) (declared.Rule d) h; macros = λ i d l. absurd (omega arith) }) in
-    record {
-      rule = rule_same (length old.trees) old.trees new.trees (record { at = g.tree }) d h;
-      below = All-head (EntryBelow (length new.trees)) (declared.Rule d) [] all.entries;
-    }
+use Rattle.eo_rule.specs.Reading.{UseBelow, UseStays}
 
 some_grown : (old new : Terms) → Since old new → (o : Option ℕ) → SomeBelow (length old.trees) o → (option_map (tree_at new.trees) o ≡ option_map (tree_at old.trees) o) × SomeBelow (length new.trees) o
 some_grown old new g None h = (refl, tt)
 some_grown old new g (Some i) h = (ap Some (g.tree i h), omega (arith, h, g.more_trees))
 
--- and so is a use of it
+-- it is what it was, and its terms are there
 pub use_grown : (u : RuleUse) (old new : Terms) → UseBelow (length old.trees) u → Since old new → UseStays u old.trees new.trees
 use_grown u old new h g =
     let a = some_grown old new g u.«assumption» h.assumed in

@@ -6,9 +6,9 @@ use Rattle.std.proofs.lemmas.Bool.Decides.{Decides-ltb}
 use Rattle.std.proofs.lemmas.List.Folds.{list_any-append}
 use mathlib.Core.Path.{fun_ext}
 use Rattle.eo_base.proofs.ChecksLemmas.{ok_injective}
-use Rattle.eo_base.proofs.Tests.{clash}
+use Rattle.eo_base.proofs.Tests.{clash, both, join}
 use Rattle.eo_term.specs.Tree.{Tree, Con, is_tall, is_value, is_plain, occurs, occurs_in, occurs_openly, uses_only, bool_tree}
-use Rattle.eo_term.proofs.Equality.{both, join, tree_same}
+use Rattle.eo_term.proofs.Equality.{tree_same}
 use Rattle.eo_term.proofs.Values.{value_plain, plain_occurs, unused_openly}
 use Rattle.eo_sig.specs.Signature.{Signature, Parameter, Rule, PremiseShape, Each, Joined, terminator, premise_patterns, rule_patterns, known, are_ordered}
 use Rattle.eo_pattern.specs.Matching.{Assignment, empty, put, Matches, matching}

@@ -20,7 +20,7 @@ use crate::values::value_of;
 use eo_eval::Evaluator;
 use eo_pattern::{Subst, substitute};
 use eo_sig::{RuleDecl, Signature};
-use eo_term::{Id, Table, TermRefused};
+use eo_term::{Id, Table, TermRefused, builds_law};
 use eo_type::Types;
 
 /// The value of a rule's conclusion under its requirements, with what is held put in. Its
@@ -57,6 +57,7 @@ fn put_conclusion(table: &mut Table, subst: &Subst, rule: &RuleDecl) -> Result<I
         (guarded_conclusion (read_rule table.old.trees rule.now))) }
     ensures grows { Grows table.old table.new }
 {
+    builds_law();
     growing_law();
     let guarded = guarded_conclusion(table, rule)?;
     substitute(table, subst, guarded)

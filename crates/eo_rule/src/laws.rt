@@ -12,6 +12,8 @@ ghost use Rattle.eo_rule.specs.Reading.{RuleStays, UseBelow, UseStays};
 ghost use Rattle.eo_rule.specs.declared.RuleUse.{RuleUse};
 ghost use Rattle.eo_rule.specs.Uses.{Use, AreGiven, Concludes, conclusion};
 
+use eo_sig::growth_law;
+
 /// A law: the checks of a use of a rule give just the formulas that the rule concludes as it is
 /// stated, where terminators are values and the type of a rule's parameter uses earlier ones only.
 pub fn conclusion_law()
@@ -35,4 +37,6 @@ pub(crate) fn growing_law()
         RuleStays d old.trees new.trees }
     ensures given { (u : RuleUse) (old new : Terms) → UseBelow (length old.trees) u → Since old new →
         UseStays u old.trees new.trees }
-{}
+{
+    growth_law();
+}

@@ -6,7 +6,7 @@ ghost use Rattle.eo_term.specs.Growth.{Grows, tree_in};
 ghost use Rattle.eo_rule.specs.Instance.{guarded_conclusion, under};
 
 use eo_sig::RuleDecl;
-use eo_term::{Id, OpCode, OpName, Table, TermRefused};
+use eo_term::{Id, OpCode, OpName, Table, TermRefused, builds_law, table_law};
 
 /// The conclusion of a rule under its requirements, the first outermost.
 pub(crate) fn guarded_conclusion(table: &mut Table, rule: &RuleDecl) -> Result<Id, TermRefused>
@@ -14,6 +14,8 @@ pub(crate) fn guarded_conclusion(table: &mut Table, rule: &RuleDecl) -> Result<I
     ensures gives { Builds table.new result (guarded_conclusion (read_rule table.old.trees rule.now)) }
     ensures grows { Grows table.old table.new }
 {
+    builds_law();
+    table_law();
     let requirements = rule.requirements.as_slice();
     let mut left = requirements.len();
     let mut made = rule.conclusion;

@@ -16,7 +16,7 @@ use crate::values::{settled, value_type};
 use eo_base::FaultName;
 use eo_pattern::Subst;
 use eo_sig::{Param, Signature};
-use eo_term::{Id, Table};
+use eo_term::{Id, Table, table_law};
 use eo_type::Types;
 use std::alloc::Global;
 
@@ -38,6 +38,7 @@ pub(crate) fn check_types(
     ensures fits { Fit sig.now table.new types.new }
     ensures grows { GrowsUnder sig.now table.old table.new }
 {
+    table_law();
     sig.laws();
     let mut left = params.len();
     while left > 0 {

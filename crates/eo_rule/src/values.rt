@@ -20,7 +20,7 @@ use eo_eval::{Evaluator, Outcome};
 use eo_pattern::{Subst, substitute};
 use eo_sig::Signature;
 use eo_term::{Id, Table};
-use eo_type::{Types, settle};
+use eo_type::{Types, settle, settled_law};
 use std::alloc::Global;
 
 /// The type of a value, as the checks of rules and commands ask for it.
@@ -77,6 +77,7 @@ fn settled_type(
     ensures gives { GivesTerm table.new result (typed_or (settled (tree_in table.old ty))) }
     ensures grows { Grows table.old table.new }
 {
+    settled_law();
     table.laws();
     let Some(found) = settle(alloc, sig, table, ty)? else {
         return Err(RuleRefused::Fault(FaultName::IllTyped));

@@ -1,8 +1,8 @@
 -- In a closed check the proof declares no program and no rule.
-use Rattle.std.specs.Prelude.{◌≡◌, ℕ, Bool, true, false, not, ◌&&◌, if◌then◌else◌, List, [], ◌∷◌, Option, Some, None, Ok, Err, refl, cond, bytes_eq, option_map, option_and_then}
-use Rattle.std.proofs.Common.{sym, ap, ◌∙◌, subst, true≢false}
+use Rattle.std.specs.Prelude.{◌≡◌, ℕ, Bool, true, false, not, ◌&&◌, if◌then◌else◌, List, [], ◌∷◌, Option, Some, None, Ok, Err, refl, bytes_eq, option_map, option_and_then}
+use Rattle.std.proofs.Common.{sym, ◌∙◌, subst, true≢false}
 use Rattle.std.proofs.lemmas.Option.{none-some, same_Some}
-use Rattle.eo_base.proofs.ChecksLemmas.{ok_injective, err_is_not_ok, bind_ok, require_then, require_ok, value_or_ok}
+use Rattle.eo_base.proofs.ChecksLemmas.{ok_injective, err_is_not_ok, bind_ok, require_then, value_or_ok}
 use Rattle.eo_base.specs.declared.FaultName.TheVariants.{BadCommand, UnknownCommand, SecondReference}
 use Rattle.eo_io.specs.Library.{Files}
 use Rattle.eo_run.proofs.Quiet.{IsQuiet, declares_rules, quiet_command, command_closed}
@@ -21,7 +21,7 @@ use Rattle.eo_sexp.specs.Sexp as sexp
 use Rattle.eo_sexp.specs.Sexp.{Sexp, Atom, Listed, children_of}
 use Rattle.eo_shape.specs.Shapes as shapes
 use Rattle.eo_shape.specs.Words.{symbol_of}
-use Rattle.eo_shape.specs.Shapes.{ProgramShape, RuleShape, Command, DeclareConst, DeclareFun, DeclareSort, DeclareParameterized, DeclareLiterals, Define, DefineProgram, DeclareRule, Assume, AssumePush, Step, StepPop, Include, Refer, DefineFun, DefineSort, Assert, Exit, Skip, Form, skipped, skipping_forms, reference_forms, form_of, command_of}
+use Rattle.eo_shape.specs.Shapes.{ProgramShape, RuleShape, Command, DeclareConst, DeclareFun, DeclareSort, DefineProgram, DeclareRule, DefineFun, DefineSort, Assert, Exit, Skip, Form, skipped, skipping_forms, reference_forms, form_of, command_of}
 use Rattle.eo_sig.specs.Signature.{Program, Rule, programs, rules}
 
 -- ---- a reference file has no command that declares a program or a rule

@@ -1,14 +1,11 @@
 -- What steps do to a state.
-use Rattle.std.proofs.Common.{◌≡◌, refl, ℕ, ◌<◌, Bool, true, false, not, ◌&&◌, List, [], ◌∷◌, ◌++◌, length, All, Option, None, Some, sym, ap, subst, ◌∙◌, arith, true≢false}
-use Rattle.std.specs.Prelude.{◌≢◌, Result, Ok, Err, IfErr, slice_get}
-use Rattle.std.specs.Result.{IsErrAnd}
+use Rattle.std.proofs.Common.{◌≡◌, refl, ℕ, Bool, true, false, not, ◌&&◌, List, [], ◌∷◌, ◌++◌, Option, None, Some, sym, ap, ◌∙◌}
+use Rattle.std.specs.Prelude.{Ok, Err}
 use Rattle.std.specs.Option.{option_map_or}
 use Rattle.std.proofs.lemmas.List.{append-nil, append_assoc}
 use Rattle.eo_base.specs.declared.FaultName.{FaultName}
 use Rattle.eo_base.specs.declared.FaultName.TheVariants.{Redeclared, ProofDeclares, NoScope, UnknownRule, UnknownPremise}
-use Rattle.eo_base.specs.Answers.{Tells}
 use Rattle.eo_base.specs.Checks.{Checked, ◌>>=◌, require, value_or}
-use Rattle.eo_base.proofs.ChecksLemmas.{bind_step, bind_fails}
 use Rattle.eo_proof.specs.Scopes.{innermost_hypothesis, fact_named}
 use Rattle.eo_rule.specs.Uses.{Use, conclusion}
 use Rattle.eo_sexp.specs.Sexp.{Sexp}

@@ -1,6 +1,6 @@
 -- What a command is by where it stands, and what is answered for it.
-use Rattle.std.proofs.Common.{◌≡◌, refl, Bool, true, false, not, ◌||◌, sym, ap, subst, ◌∙◌, true≢false}
-use Rattle.std.specs.Prelude.{Result, Ok, Err, IfErr}
+use Rattle.std.proofs.Common.{◌≡◌, refl, Bool, true, false, not, ◌||◌, sym, subst, ◌∙◌, true≢false}
+use Rattle.std.specs.Prelude.{Result, Ok, Err}
 use Rattle.std.specs.Result.{IsErrAnd}
 use Rattle.eo_base.specs.declared.FaultName.{FaultName}
 use Rattle.eo_base.specs.declared.FaultName.TheVariants.{FileAbsent, InScope}
@@ -10,17 +10,17 @@ use Rattle.eo_shape.specs.Shapes.{Command, command_of}
 use Rattle.eo_shape.specs.Reading as shapes
 use Rattle.eo_shape.specs.declared.ShapeRefused.{ShapeRefused}
 use Rattle.eo_shape.specs.declared.ShapeRefused.TheVariants as shape
-use Rattle.eo_run.specs.State.{State, first_state, begin_reference, is_in_scope}
+use Rattle.eo_run.specs.State.{State, is_in_scope}
 use Rattle.eo_run.specs.Step.{is_in_reference}
 use Rattle.eo_run.specs.Commands.{by_command, may_be_in_scope, next_by, scoped_command, placed_command, uncounted}
-use Rattle.eo_run.specs.Stepping.{IsMemory, Refuses, Gives, Does, DoesNext, Standing, Steps, StepsTo}
+use Rattle.eo_run.specs.Stepping.{Refuses, Gives, Does, DoesNext, Standing, StepsTo}
 use Rattle.eo_run.specs.Held.{state_of}
 use Rattle.eo_run.specs.declared.Next.{Next}
 use Rattle.eo_run.specs.declared.held.Held.{Held}
 use Rattle.eo_run.specs.declared.refused.Refused.{Refused}
 use Rattle.eo_run.specs.declared.refused.Refused.TheVariants as refused
 use Rattle.eo_run.proofs.Exits.{at_exit}
-use Rattle.eo_run.proofs.Sessions.{shape-fault, shape-ok, scope-fault, scope-ok, placed-fault, placed-stops, placed-ok, refuses_on, begin-ok}
+use Rattle.eo_run.proofs.Sessions.{shape-fault, shape-ok, scope-fault, scope-ok, placed-fault, placed-stops, placed-ok, refuses_on}
 use Rattle.eo_run.specs.Origin.{Origin}
 
 -- ---- each command
@@ -59,3 +59,11 @@ pub steps-refused : (x : Refused) (m n : Checked (State × Next)) (old new : Sta
 steps-refused (refused.Fault name) m n old new o e h f = (o, f name h.0, e)
 steps-refused refused.Ended m n old new o e h f = absurd h.1
 steps-refused (refused.Memory a) m n old new o e h f = (o, e)
+
+-- ---- where no scope is open
+
+-- a command that may stand, and not in a scope, stands outside all
+pub not_in_scope : (a b : Bool) → (not a || b) ≡ true → b ≡ false → a ≡ false
+not_in_scope true true e h = absurd (true≢false h)
+not_in_scope true false e h = absurd (true≢false (sym e))
+not_in_scope false b e h = refl

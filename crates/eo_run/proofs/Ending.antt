@@ -10,7 +10,7 @@ use Rattle.eo_sexp.specs.Spot.{Spot}
 use Rattle.eo_sexp.specs.declared.Fed.TheVariants as fed
 use Rattle.eo_sexp.specs.declared.Finished.TheVariants as finished
 use Rattle.eo_sexp.specs.Texts.{Phase, Then, Ends, Placed}
-use Rattle.eo_sexp.specs.Collecting.{Collecting, Within, AtCommand, Failed as FailedAt, NoMemory, IsLive, IsWithin, IsAtCommand, here_of, fed_with, finished_with, fed_answer, finish_answer}
+use Rattle.eo_sexp.specs.Collecting.{Collecting, Within, AtCommand, Failed as FailedAt, NoMemory, IsLive, IsWithin, here_of, fed_with, finished_with, fed_answer, finish_answer}
 use Rattle.eo_sexp.specs.Cutting.{IsWaiting, rest_of, ReadsInPieces}
 use Rattle.eo_sexp.specs.Answering.{IsAnswer, IsLexical, AnswersAlone}
 use Rattle.eo_run.specs.State.{State}

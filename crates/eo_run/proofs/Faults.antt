@@ -1,14 +1,14 @@
 -- No check of a use of a rule finds that a file is absent.
-use Rattle.std.proofs.Common.{◌≡◌, refl, ℕ, suc, Bool, true, false, List, [], ◌∷◌, Option, None, Some, sym, subst}
-use Rattle.std.specs.Prelude.{◌≢◌, Result, Ok, Err, IfErr, option_to_list}
+use Rattle.std.proofs.Common.{◌≡◌, ℕ, suc, Bool, true, false, List, [], ◌∷◌, Option, None, Some, subst}
+use Rattle.std.specs.Prelude.{◌≢◌, Ok, Err, IfErr, option_to_list}
 use Rattle.eo_base.specs.declared.FaultName.{FaultName}
-use Rattle.eo_base.specs.declared.FaultName.TheVariants.{WrongKind, UnknownRule, TermHeight, PremiseMismatch, IllTyped, NumberRange, NotBool, ConclusionDiffers, FileAbsent}
+use Rattle.eo_base.specs.declared.FaultName.TheVariants.{WrongKind, UnknownRule, TermHeight, PremiseMismatch, IllTyped, NotBool, ConclusionDiffers, FileAbsent}
 use Rattle.eo_base.specs.Answers.{Tells}
-use Rattle.eo_base.specs.Checks.{Checked, Passed, ◌>>=◌, require, value_or}
-use Rattle.eo_eval.specs.Evaluation.{Outcome, Value, Stuck, Deep, Calls, Range, Tall, eval0}
+use Rattle.eo_base.specs.Checks.{Checked, ◌>>=◌, require, value_or}
+use Rattle.eo_eval.specs.Evaluation.{Outcome, Value, Stuck, Deep, Calls, Range, Tall}
 use Rattle.eo_eval.specs.Faults.{value_or_fault}
 use Rattle.eo_pattern.specs.Matching.{Assignment, empty}
-use Rattle.eo_rule.specs.Uses.{Use, typed_or, typed, check_kind, joined, join_premises, match_trees, match_use, matched, check_value, check_type, check_types, conclude_value, check_formula, check_stated, kind_conclusion, rule_conclusion, conclusion}
+use Rattle.eo_rule.specs.Uses.{Use, typed_or, typed, joined, join_premises, match_trees, match_use, matched, check_value, check_type, check_types, conclude_value, check_formula, check_stated, kind_conclusion, rule_conclusion, conclusion}
 use Rattle.eo_rule.specs.declared.refused.RuleRefused.{RuleRefused}
 use Rattle.eo_rule.specs.declared.refused.RuleRefused.TheVariants as rule
 use Rattle.eo_rule.specs.Answers.{told}

@@ -142,3 +142,20 @@ closed_inside = refl
 closed_before : verdict ((codes "c.eo", codes "(include \"b.eo\")") ∷ (codes "b.eo", codes "(program f () :signature (Bool) Bool ())") ∷ (codes "p.eo", codes "(include \"b.eo\")") ∷ []) (closed (Some (codes "c.eo"))) ≡ at_byte (codes "p.eo") 16 NoReference
 unfolding computed
 closed_before = refl
+
+-- a program is behind the shape of its declaration, and before its name
+closed_program : verdict ((codes "p.eo", codes "(program let () :signature (Bool) Bool ())") ∷ []) (closed None) ≡ at_byte (codes "p.eo") 0 ProofDeclares
+unfolding computed
+closed_program = refl
+
+closed_shape : verdict ((codes "p.eo", codes "(program let () :signature () Bool ())") ∷ []) (closed None) ≡ at_byte (codes "p.eo") 0 BadCommand
+unfolding computed
+closed_shape = refl
+
+open_program : verdict ((codes "p.eo", codes "(program let () :signature (Bool) Bool ())") ∷ []) (job None None) ≡ at_byte (codes "p.eo") 0 Redeclared
+unfolding computed
+open_program = refl
+
+reference_program : verdict ((codes "p.eo", []) ∷ (codes "r.smt2", codes "(program let () :signature (Bool) Bool ())") ∷ []) (job None (Some (codes "r.smt2"))) ≡ at_byte (codes "r.smt2") 0 UnknownCommand
+unfolding computed
+reference_program = refl

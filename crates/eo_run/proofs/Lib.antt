@@ -1,4 +1,9 @@
 pub mod Adding
+pub mod Alive
+pub mod Counting
+pub mod Members
+pub mod Moved
+pub mod Rooted
 pub mod Assertions
 pub mod Closed
 pub mod Computed
@@ -21,6 +26,7 @@ pub mod Opened
 pub mod Pieces
 pub mod Running
 pub mod Quiet
+pub mod Reclaiming
 pub mod Runs
 pub mod Scoping
 pub mod Sessions
@@ -29,7 +35,6 @@ pub mod SoundSteps
 pub mod Soundness
 pub mod Taking
 pub mod Used
-mod ClosedVectors
 mod FileVectors
 mod ScopeVectors
 mod Vectors

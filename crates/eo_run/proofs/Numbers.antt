@@ -15,7 +15,6 @@ use Rattle.eo_run.specs.Numbered.{origin_of, number_of}
 use Rattle.eo_run.specs.Answer.{Denotes}
 use Rattle.eo_run.specs.Opening as opening
 use Rattle.eo_run.specs.Opening.{opener_of, run_source, IsNumbered, Told, StaysOpen, Passes, RunsOpen, RefusesFile, RunsFile, place_in}
-use Rattle.eo_run.specs.declared.Next.{Next}
 use Rattle.eo_run.specs.declared.Next.TheVariants as next
 use Rattle.eo_run.specs.declared.Verdict.{Verdict}
 use Rattle.eo_run.specs.Verdict.{Refusal}

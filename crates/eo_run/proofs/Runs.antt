@@ -4,15 +4,15 @@ use Rattle.std.specs.List.{list_any}
 use Rattle.std.proofs.Common.{subst, ap}
 use Rattle.std.proofs.lemmas.Option.{same_Some, none-some}
 use Rattle.eo_base.specs.declared.FaultName.{FaultName}
-use Rattle.eo_base.specs.declared.FaultName.TheVariants.{FileAbsent, IncludeDepth}
+use Rattle.eo_base.specs.declared.FaultName.TheVariants.{IncludeDepth}
 use Rattle.eo_base.specs.Checks.{Checked}
-use Rattle.eo_io.specs.Library.{Files, file_at}
+use Rattle.eo_io.specs.Library.{Files}
 use Rattle.eo_sexp.specs.Spot.{Spot}
 use Rattle.eo_sexp.specs.Sexp.{Sexp}
 use Rattle.eo_sexp.specs.Texts.{Reads, Then, Ends, Fails}
 use Rattle.eo_run.specs.State.{State, begin_reference}
 use Rattle.eo_run.specs.Commands.{step}
-use Rattle.eo_run.specs.Run.{Progress, Ran, Opener, Runner, with_included, ◌>>=◌, placed, or_fault, refusal_at, is_exit, run_commands, open_nothing, run_reference, include_file, refer_to_file, open_file, run_file, included_runner, include_limit, job_file, run_signature, run_proof, run_job_reference, if_given}
+use Rattle.eo_run.specs.Run.{Progress, Ran, Opener, Runner, with_included, ◌>>=◌, placed, or_fault, refusal_at, is_exit, run_commands, open_nothing, run_reference, include_file, refer_to_file, open_file, run_file, included_runner, include_limit, run_signature, run_proof, run_job_reference, if_given}
 use Rattle.eo_run.specs.Verdict.{Refusal}
 use Rattle.eo_run.specs.Origin.{Origin}
 use Rattle.eo_run.specs.Origin as origin

@@ -1,5 +1,5 @@
 -- Facts in scopes, with numbers of terms.
-use Rattle.std.proofs.Common.{◌≡◌, refl, ℕ, zero, suc, ◌<◌, ◌≤◌, Bool, true, false, List, [], ◌∷◌, ◌++◌, length, map, take, drop, All, Option, Some, None, sym, ap, ◌∙◌, arith, true≢false}
+use Rattle.std.proofs.Common.{◌≡◌, refl, ℕ, ◌<◌, ◌≤◌, Bool, true, false, List, [], ◌∷◌, ◌++◌, map, take, drop, All, None, sym, ap, ◌∙◌, arith, true≢false}
 use Rattle.std.specs.Prelude.{◌&&◌, Result, Ok, Err}
 use Rattle.std.specs.List.{list_all}
 use Rattle.std.proofs.lemmas.List.{map-append}
@@ -15,6 +15,10 @@ use Rattle.eo_proof.specs.declared.facts.NoScope.{NoScope}
 use Rattle.eo_run.specs.Held.{AreValues, AreMarks}
 
 -- ---- a table that grows
+
+pub map_grown : {A : Type 0} (f g : A → Tree) (P : A → Type 0) → ((x : A) → P x → f x ≡ g x) → (xs : List A) → All P xs → map f xs ≡ map g xs
+map_grown f g P h [] a = refl
+map_grown f g P h (x ∷ xs) a = (λ k. h x (All-head P x xs a) k ∷ map_grown f g P h xs (All-tail P x xs a) k)
 
 module _ (ts us : List Tree) (n : ℕ) (same : (i : ℕ) → i < n → tree_at us i ≡ tree_at ts i) where
   facts_grown : (fs : List NamedId) → All (λ (f : NamedId). f.1 < n) fs → map (read_fact us) fs ≡ map (read_fact ts) fs

@@ -3,14 +3,14 @@ use Rattle.std.proofs.Common.{◌≡◌, refl, ℕ, ◌<◌, Bool, true, false, 
 use Rattle.std.specs.Prelude.{◌≢◌, Option, Some, None, Result, Ok, Err, nat_lt, if◌then◌else◌, ◌&&◌, ◌||◌}
 use Rattle.std.specs.Result.{IsErrAnd}
 use Rattle.eo_base.specs.declared.FaultName.{FaultName}
-use Rattle.eo_base.specs.declared.FaultName.TheVariants.{Redeclared, IllTyped, NotBool, NotAsserted, NoReference, NoRefutation, SecondReference, NumberRange, TermHeight, FileAbsent, InScope, ScopeOpen, ScopeDepth}
+use Rattle.eo_base.specs.declared.FaultName.TheVariants.{Redeclared, IllTyped, NotBool, NotAsserted, NoReference, NoRefutation, SecondReference, FileAbsent, InScope, ScopeOpen, ScopeDepth}
 use Rattle.eo_base.specs.Answers.{Tells}
 use Rattle.eo_base.specs.Checks.{Checked, ◌>>=◌, require}
 use Rattle.eo_sexp.specs.Sexp.{Sexp}
 use Rattle.eo_shape.specs.Shapes.{Command, command_of}
 use Rattle.eo_term.specs.Tree.{Tree, type_tree, bool_tree, is_value, is_tall, tree_eq}
 use Rattle.eo_term.specs.Growth.{Grows}
-use Rattle.eo_term.specs.Terms.{Terms, tree_at}
+use Rattle.eo_term.specs.Terms.{Terms}
 use Rattle.eo_eval.specs.Evaluation.{Outcome, eval0}
 use Rattle.eo_eval.specs.Faults.{value_or_fault}
 use Rattle.eo_eval.specs.Outcomes.{IsValueOf}

@@ -13,7 +13,7 @@ use Rattle.eo_eval.specs.Evaluation.{Outcome, Value, Stuck, Deep, Calls, Range, 
 use Rattle.eo_eval.specs.Faults.{value_or_fault}
 use Rattle.eo_pattern.specs.Matching.{put}
 use Rattle.eo_proof.specs.Scopes as scopes
-use Rattle.eo_proof.specs.Scopes.{Scopes, fact, fact_named, hypotheses, innermost_hypothesis, outside}
+use Rattle.eo_proof.specs.Scopes.{fact, fact_named, hypotheses, innermost_hypothesis, outside}
 use Rattle.eo_rule.specs.Derivability.{Derives, IsRuleOf, by_assumption, by_rule, by_discharge}
 use Rattle.eo_rule.specs.Instance.{Instance, guarded_conclusion}
 use Rattle.eo_rule.specs.Uses.{Use, AreGiven, Concludes, conclusion, typed_or}
@@ -30,7 +30,6 @@ use Rattle.eo_run.specs.Step.{Concluded, evaluated, value, values, optional_valu
 use Rattle.eo_sexp.specs.Sexp.{Sexp}
 use Rattle.eo_shape.specs.Shapes.{StepShape}
 use Rattle.eo_sig.specs.Signature.{Signature, Rule, rule_at}
-use Rattle.eo_term.proofs.Equality.{tree_same}
 use Rattle.eo_term.specs.Tree.{Tree, bool_tree, is_value}
 use Rattle.eo_type.specs.Types.{TypeOutcome, Typed, Untyped, TypeRange, TypeTall, on_typed, typed_if, type_of}
 
@@ -167,7 +166,7 @@ module _ (laws : Layers) (st : State) (h : IsSound st) where
       let b = require_then _ _ _ v k.2 in
       let is = laws.values st.signature t.0 u.0 h.usable (value_is (eval0 st.signature t.0) u.0 u.1) in
       subst (λ (x : Tree). (is_value x ≡ true) × (type_of st.signature x ≡ Typed bool_tree)) (ok_injective u.0 v b.1)
-      (is, typed_type st u.0 k.0 k.1 ∙ ap Typed (tree_same k.0 bool_tree b.0))
+      (is, typed_type st u.0 k.0 k.1 ∙ ap Typed ((laws.equals k.0 bool_tree).0 b.0))
 
   -- ---- facts and scopes
 
@@ -214,7 +213,7 @@ module _ (laws : Layers) (st : State) (h : IsSound st) where
       let v = bind_ok (formula st s) _ st' free.1 in
       let reference = require_then _ _ _ st' v.2 in
       let member = require_then _ _ _ st' reference.1 in
-      let asserted : Contains st.assertions v.0 = Contains-from_any tree_same v.0 st.assertions member.0 in
+      let asserted : Contains st.assertions v.0 = Contains-from_any (λ t u. (laws.equals t u).0) v.0 st.assertions member.0 in
       sound_after (with_fact st name v.0) st'
       (fact_sound name v.0 st.sorry (formula_is s v.0 v.1).0 (λ x. x) (λ x. by_assumption (Contains-append_right (hypotheses st.scopes) st.assertions v.0 asserted)))
       member.1

@@ -1,11 +1,10 @@
 -- Each command keeps a run sound, and a check that is correct refutes its assertions.
 use Rattle.std.specs.Prelude.{◌≡◌, ℕ, Bool, true, false, not, ◌||◌, nat_eq, if◌then◌else◌, List, [], ◌∷◌, length, Option, Some, None, Ok, Err, All, refl}
 use Rattle.std.specs.List.{list_any}
-use Rattle.std.proofs.Common.{ap, subst, arith}
+use Rattle.std.proofs.Common.{subst, arith}
 use Rattle.std.proofs.lemmas.Bool.{eqb-true}
 use Rattle.std.proofs.lemmas.List.Elements.{All-nil, All-head, All-tail}
 use Rattle.eo_base.proofs.ChecksLemmas.{ok_injective, err_is_not_ok, bind_ok, require_then}
-use Rattle.eo_base.specs.Checks.{Checked}
 use Rattle.eo_base.specs.declared.FaultName.{FaultName}
 use Rattle.eo_base.specs.declared.FaultName.TheVariants.{SecondReference, ScopeOpen, NoReference, NoRefutation}
 use Rattle.eo_elab.specs.Declarations.{declared_const, declared_fun, declared_sort, declared_parameterized, declared_literals}
@@ -33,7 +32,6 @@ use Rattle.eo_run.specs.declared.Next.{Next}
 use Rattle.eo_sexp.specs.Sexp.{Sexp}
 use Rattle.eo_shape.specs.Shapes.{Command, DeclareConst, DeclareFun, DeclareSort, DeclareParameterized, DeclareLiterals, Define, DefineProgram, DeclareRule, Assume, AssumePush, Step, StepPop, Include, Refer, DefineFun, DefineSort, Assert, Exit, Skip}
 use Rattle.eo_sig.specs.Signature.{Signature, first_signature}
-use Rattle.eo_term.proofs.Equality.{tree_same}
 use Rattle.eo_term.specs.Tree.{Tree, bool_tree, tree_eq, truth}
 use Rattle.eo_type.specs.Types.{Typed, type_of}
 
@@ -153,12 +151,12 @@ outermost_derives : (S : Signature) (assertions : List Tree) (out : List Fact) (
 outermost_derives S assertions out [] d = d
 outermost_derives S assertions out (s ∷ ss) d = outermost_derives S assertions out ss d.1
 
-false_holds : (P : Tree → Type 0) (out : List Fact) → All (OfFormula P) out → list_any (λ (f : Fact). tree_eq f.formula (truth false)) out ≡ true → P (truth false)
-false_holds P [] all e = absurd (cc e)
-false_holds P (f ∷ fs) all e = by (tree_eq f.formula (truth false)) refl e (false_holds P fs (All-tail (OfFormula P) f fs all))
+false_holds : (laws : Layers) (P : Tree → Type 0) (out : List Fact) → All (OfFormula P) out → list_any (λ (f : Fact). tree_eq f.formula (truth false)) out ≡ true → P (truth false)
+false_holds laws P [] all e = absurd (cc e)
+false_holds laws P (f ∷ fs) all e = by (tree_eq f.formula (truth false)) refl e (false_holds laws P fs (All-tail (OfFormula P) f fs all))
   where
     by : (b : Bool) → tree_eq f.formula (truth false) ≡ b → (b || list_any (λ (f : Fact). tree_eq f.formula (truth false)) fs) ≡ true → (list_any (λ (f : Fact). tree_eq f.formula (truth false)) fs ≡ true → P (truth false)) → P (truth false)
-    by true same e rest = subst P (tree_same f.formula (truth false) same) (All-head (OfFormula P) f fs all)
+    by true same e rest = subst P ((laws.equals f.formula (truth false)).0 same) (All-head (OfFormula P) f fs all)
     by false same e rest = rest e
 
 no_end_fault : (st : State) → end_fault st ≡ None → has_false st.scopes ≡ true
@@ -190,5 +188,5 @@ correct_refutes laws files job e =
     record {
       final = k.0;
       ends = k.1;
-      derives = false_holds (Derives st.signature st.assertions) st.scopes.outermost (outermost_derives st.signature st.assertions st.scopes.outermost st.scopes.opened derived) (no_end_fault st k.2);
+      derives = false_holds laws (Derives st.signature st.assertions) st.scopes.outermost (outermost_derives st.signature st.assertions st.scopes.outermost st.scopes.opened derived) (no_end_fault st k.2);
     }

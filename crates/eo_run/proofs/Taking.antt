@@ -1,13 +1,12 @@
 -- A run of a file that goes on behind what its commands ask for.
 use Rattle.std.proofs.Common.{◌≡◌, refl, ℕ, zero, suc, ◌-◌, ◌≤◌, Bool, true, false, List, [], ◌∷◌, ◌++◌, length, ap, sym, subst, ◌∙◌, arith, append_assoc}
-use Rattle.std.specs.Prelude.{◌≢◌, Result, Ok, Err, Option, Some, None, is_some, position, bytes_eq}
+use Rattle.std.specs.Prelude.{◌≢◌, Result, Ok, Err, Option, Some, None, bytes_eq}
 use Rattle.std.specs.List.{list_any}
 use Rattle.eo_base.specs.declared.Fault.{Fault}
 use Rattle.eo_base.specs.declared.FaultName.{FaultName}
 use Rattle.eo_base.specs.declared.FaultName.TheVariants.{BadPath, IncludeDepth, FileAbsent}
 use Rattle.eo_io.specs.Library.{Files, Rest, file_at}
 use Rattle.eo_io.specs.Paths.{fold_path, Extends}
-use Rattle.eo_io.proofs.PathLemmas.{is_some-position}
 use Rattle.eo_sexp.specs.Collecting.{Collecting}
 use Rattle.eo_sexp.specs.Spot.{Spot}
 use Rattle.eo_sexp.specs.Texts.{Ends}
@@ -19,7 +18,6 @@ use Rattle.eo_run.specs.Opening as opening
 use Rattle.eo_run.specs.Opening.{IsNumbered, FoldsHere, BeginsHere, opener_of, run_source, LeadsIn, FinishesIn, FailsIn, Told, StopsAs, Opens, IfWhole, IsTaken, IsLeft, TakesPiece, TakesEnd, StaysOpen, LibraryReads, RunsOpen, RefusesFile, RunsFile}
 use Rattle.eo_run.specs.Numbered.{origin_of}
 use Rattle.eo_run.specs.Answer.{Denotes, AnswerHasCause}
-use Rattle.eo_run.specs.Origin.{Origin}
 use Rattle.eo_run.specs.Origin as origin
 use Rattle.eo_run.specs.declared.Next.{Next}
 use Rattle.eo_run.specs.declared.Next.TheVariants as next
@@ -238,7 +236,3 @@ pub unbegun-present : (told : Option Files) (s : Source) (at : Spot) (v : Verdic
 unbegun-present told s at answer.OutOfMemory st new b n h = tt
 unbegun-present None s at v st new b n h = subst (Caused None b n) (sym h.2) (λ e. absurd (begin-present st h.0 h.1 e))
 unbegun-present (Some files) s at v st new b n h = subst (Caused (Some files) b n) (sym h.2) tt
-
--- the paths that are found are those that are there
-pub found-is : (paths : List (List ℕ)) (path : List ℕ) (o : Option ℕ) (b : Bool) → o ≡ position (bytes_eq path) paths → is_some o ≡ b → list_any (bytes_eq path) paths ≡ b
-found-is paths path o b e h = sym (is_some-position (bytes_eq path) paths) ∙ ap is_some (sym e) ∙ h

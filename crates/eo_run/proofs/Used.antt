@@ -1,5 +1,5 @@
 -- What a rule is used on: terms that are there and are values.
-use Rattle.std.proofs.Common.{◌≡◌, refl, ℕ, zero, suc, ◌<◌, ◌≤◌, Bool, true, false, List, [], ◌∷◌, ◌++◌, length, map, All, Option, None, Some, option_map, sym, ap, subst, ◌∙◌, arith, cond}
+use Rattle.std.proofs.Common.{◌≡◌, refl, ℕ, ◌<◌, Bool, true, false, List, [], ◌∷◌, ◌++◌, length, map, Option, None, Some, option_map, sym, ap, subst, ◌∙◌, arith, cond}
 use Rattle.std.specs.Prelude.{Result, Ok, Err, IfOk, ◌&&◌, find, slice_get, option_to_list, bytes_eq}
 use Rattle.std.specs.List.{list_all}
 use Rattle.std.proofs.lemmas.Grind.{common_steps}
@@ -10,7 +10,7 @@ use Rattle.eo_base.proofs.Elements.{ids_more, push_below, push_same, map_same}
 use Rattle.eo_eval.specs.Outcomes.{IsValueOf}
 use Rattle.eo_proof.specs.Scopes.{Fact, Scope, Scopes, fact_named, formula_named, innermost_hypothesis, live_facts}
 use Rattle.eo_rule.specs.Answers.{AnswersOnly}
-use Rattle.eo_rule.specs.Reading.{UseBelow, read_use}
+use Rattle.eo_rule.specs.Reading.{read_use}
 use Rattle.eo_rule.specs.Uses.{Use}
 use Rattle.eo_rule.specs.declared.RuleUse.{RuleUse}
 use Rattle.eo_rule.specs.declared.refused.RuleRefused.{RuleRefused}
@@ -91,7 +91,7 @@ pub discharged : (t : Terms) (i : ℕ) → i < length t.trees → is_value (tree
 discharged t i live value = record { live = live; value = (λ k. value k && true) }
 
 pub discharges_innermost : (h : Held) → IsWhole h → (i : ℕ) → i < length h.table.trees → innermost_hypothesis (state_of h).scopes ≡ Some (tree_in h.table i) → MayDischarge h.table (Some i)
-discharges_innermost h whole i live e = discharged h.table i live (hypothesis_value (state_of h).scopes (tree_in h.table i) whole.values e)
+discharges_innermost h whole i live e = discharged h.table i live (hypothesis_value (state_of h).scopes (tree_in h.table i) whole.held.values e)
 
 -- ---- uses
 

@@ -1,5 +1,5 @@
--- What the layers below say of declarations, of evaluation, of the uses of rules and of derivability.
-use Rattle.std.specs.Prelude.{◌≡◌, ℕ, true, List, [], ◌++◌, Ok, Contains}
+-- What the layers below say of equality, of declarations, of evaluation, of the uses of rules and of derivability.
+use Rattle.std.specs.Prelude.{◌≡◌, ℕ, true, List, [], ◌++◌, Ok, Contains, Decides}
 use Rattle.std.specs.List.{list_all}
 use Rattle.eo_elab.specs.Declarations.{declared_rule, defined, defined_fun, defined_sort}
 use Rattle.eo_elab.specs.Fitting.{FitsTerms, macro_is_bound, label_is_closed}
@@ -13,9 +13,10 @@ use Rattle.eo_sexp.specs.Sexp.{Sexp}
 use Rattle.eo_shape.specs.Shapes.{ParameterShape, RuleShape}
 use Rattle.eo_sig.specs.Signature.{Signature, Macro, Rule, are_ordered}
 use Rattle.eo_sig.specs.Usable.{IsUsable}
-use Rattle.eo_term.specs.Tree.{Tree, is_value}
+use Rattle.eo_term.specs.Tree.{Tree, is_value, tree_eq}
 
 pub record Layers : Type 0 where
+  pub equals : (t u : Tree) → Decides (tree_eq t u) (t ≡ u)
   pub rules : (c : Context) (s : RuleShape) (r : Rule) → FitsTerms c → declared_rule c s ≡ Ok r → are_ordered 0 r.parameters ≡ true
   pub macros : (c : Context) (name : List ℕ) (params : List ParameterShape) (body : Sexp) (m : Macro) → FitsTerms c → defined c name params body ≡ Ok m → macro_is_bound m ≡ true
   pub functions : (c : Context) (name : List ℕ) (params : List ParameterShape) (output body : Sexp) (m : Macro) → FitsTerms c → defined_fun c name params output body ≡ Ok m → macro_is_bound m ≡ true

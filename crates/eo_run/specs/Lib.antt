@@ -16,6 +16,8 @@ pub mod Judging
 pub mod Pieces
 pub mod Asserting
 pub mod Held
+pub mod Roots
+pub mod Moving
 pub mod Beginning
 pub mod StateCode
 pub mod Using

@@ -2,7 +2,7 @@
 ghost use Rattle.std.specs.Prelude.{◌≡◌, IfOk};
 ghost use Rattle.eo_term.specs.Terms.{first_trees};
 ghost use Rattle.eo_run.specs.Beginning.{IsFirstSignature, AreFirstTools};
-ghost use Rattle.eo_run.specs.Held.{state_of, IsWhole};
+ghost use Rattle.eo_run.specs.Held.{state_of, IsSettled};
 ghost use Rattle.eo_run.specs.State.{first_state};
 
 use crate::held::Held;
@@ -29,7 +29,7 @@ pub(crate) struct Tools {
 impl Held {
     /// What is held before the first command.
     pub(crate) fn new(alloc: Global, closed: bool) -> Result<Held, AllocError>
-        ensures whole { IfOk result IsWhole }
+        ensures settled { IfOk result IsSettled }
         ensures state { IfOk result (λ h. state_of h ≡ first_state closed) }
     {
         let table = Table::new(alloc)?;
@@ -71,7 +71,7 @@ fn first(alloc: Global, closed: bool, table: Table, signature: Signature, tools:
     requires trees { table.trees ≡ first_trees }
     requires signature { IsFirstSignature signature }
     requires tools { AreFirstTools tools }
-    ensures whole { IsWhole result }
+    ensures settled { IsSettled result }
     ensures state { state_of result ≡ first_state closed }
 {
     let Tools {
@@ -81,6 +81,7 @@ fn first(alloc: Global, closed: bool, table: Table, signature: Signature, tools:
         assertions,
         facts,
     } = tools;
+    let kept = table.mark();
     Held {
         alloc,
         table,
@@ -92,6 +93,7 @@ fn first(alloc: Global, closed: bool, table: Table, signature: Signature, tools:
         has_reference: false,
         facts,
         marks: Marks::new(alloc),
+        kept,
         sorry: false,
         closed,
         commands: 0,

@@ -1,5 +1,5 @@
 //! Commands that declare.
-ghost use Rattle.std.specs.Prelude.{◌≡◌, ◌<◌, Some, List, [], length, true, not, ◌&&◌};
+ghost use Rattle.std.specs.Prelude.{◌≡◌, ◌<◌, Some, Ok, List, [], ◌∷◌, length, true, false, not, ◌&&◌, Contains, OnOk};
 ghost use Rattle.eo_sig.specs.Reading.{read_attribute, read_constant, read_macro, read_program, read_named};
 ghost use Rattle.eo_sig.specs.Reading.{ConstBelow, MacroBelow, ProgramBelow, IsFree, IsWithin};
 ghost use Rattle.eo_shape.specs.Reading.{read_attribute as shape_of, read_program as program_of};
@@ -10,7 +10,9 @@ ghost use Rattle.eo_elab.specs.Declaring.{MayRepeat, MayBeMacro};
 ghost use Rattle.eo_elab.specs.Fitting.{macro_is_bound};
 ghost use Rattle.eo_elab.specs.Worlds.{context_in};
 ghost use Rattle.eo_run.specs.Numbered.{origin_of};
-ghost use Rattle.eo_run.specs.Held.{state_of, IsWhole};
+ghost use Rattle.eo_run.specs.Held.{state_of, next_constant, IsWhole, HoldsOnly};
+ghost use Rattle.eo_run.specs.Roots.{constant_trees, macro_trees, program_trees};
+ghost use Rattle.eo_run.specs.State.{is_in_scope, with_macro};
 ghost use Rattle.eo_run.specs.Step as step;
 ghost use Rattle.eo_run.specs.Step.{declare_parameterized as declared_over, define_program, added_program, is_in_proof};
 ghost use Rattle.eo_run.specs.Stepping.{Does};
@@ -25,7 +27,7 @@ use eo_elab::{
 };
 use eo_sexp::{Children, Sexp};
 use eo_shape::{AttributeShape, ParameterShapes, ProgramShape, Symbols};
-use eo_sig::{Attribute, ConstDecl, Entry, LiteralClass, MacroDecl, ProgramDecl};
+use eo_sig::{Attribute, ConstDecl, Entry, LiteralClass, MacroDecl, ProgramDecl, growth_law};
 use eo_term::Id;
 
 impl Held {
@@ -38,8 +40,9 @@ impl Held {
         ty: &Sexp<'_>,
         shape: &AttributeShape<'_>,
     ) -> Result<(), Refused>
-        requires { IsWhole self.old }
-        ensures whole { IsWhole self.new }
+        requires whole { IsWhole self.old }
+        requires outside { is_in_scope (state_of self.old) ≡ false }
+        ensures whole { OnOk result (IsWhole self.new) }
         ensures does { Does result
             (step.declare_const (state_of self.old) (read_setting setting) name.now ty.now (shape_of shape.now)) self.new }
     {
@@ -63,8 +66,9 @@ impl Held {
         inputs: &Children<'_>,
         output: &Sexp<'_>,
     ) -> Result<(), Refused>
-        requires { IsWhole self.old }
-        ensures whole { IsWhole self.new }
+        requires whole { IsWhole self.old }
+        requires outside { is_in_scope (state_of self.old) ≡ false }
+        ensures whole { OnOk result (IsWhole self.new) }
         ensures does { Does result (step.declare_fun (state_of self.old) (read_setting setting) name.now inputs.now output.now) self.new }
     {
         let d = declared_fun(
@@ -87,8 +91,9 @@ impl Held {
         name: &[u8],
         arity: u8,
     ) -> Result<(), Refused>
-        requires { IsWhole self.old }
-        ensures whole { IsWhole self.new }
+        requires whole { IsWhole self.old }
+        requires outside { is_in_scope (state_of self.old) ≡ false }
+        ensures whole { OnOk result (IsWhole self.new) }
         ensures does { Does result (step.declare_sort (state_of self.old) (read_setting setting) name.now arity) self.new }
     {
         let d = declared_sort(
@@ -110,8 +115,9 @@ impl Held {
         ty: &Sexp<'_>,
         shape: &AttributeShape<'_>,
     ) -> Result<(), Refused>
-        requires { IsWhole self.old }
-        ensures whole { IsWhole self.new }
+        requires whole { IsWhole self.old }
+        requires outside { is_in_scope (state_of self.old) ≡ false }
+        ensures whole { OnOk result (IsWhole self.new) }
         ensures does { Does result (declared_over (state_of self.old) name.now params.now ty.now (shape_of shape.now)) self.new }
     {
         let d = declared_parameterized(
@@ -132,8 +138,9 @@ impl Held {
         class: LiteralClass,
         ty: &Sexp<'_>,
     ) -> Result<(), Refused>
-        requires { IsWhole self.old }
-        ensures whole { IsWhole self.new }
+        requires whole { IsWhole self.old }
+        requires outside { is_in_scope (state_of self.old) ≡ false }
+        ensures whole { OnOk result (IsWhole self.new) }
         ensures does { Does result (step.declare_literals (state_of self.old) class ty.now) self.new }
     {
         let ty = declared_literals(self.alloc, class, ty, &self.signature, &mut self.table)?;
@@ -149,7 +156,7 @@ impl Held {
         body: &Sexp<'_>,
     ) -> Result<(), Refused>
         requires { IsWhole self.old }
-        ensures whole { IsWhole self.new }
+        ensures whole { OnOk result (IsWhole self.new) }
         ensures does { Does result (step.define (state_of self.old) name.now params.now body.now) self.new }
     {
         ordering_law();
@@ -174,7 +181,7 @@ impl Held {
         body: &Sexp<'_>,
     ) -> Result<(), Refused>
         requires { IsWhole self.old }
-        ensures whole { IsWhole self.new }
+        ensures whole { OnOk result (IsWhole self.new) }
         ensures does { Does result (step.define_fun (state_of self.old) name.now params.now output.now body.now) self.new }
     {
         reference_law();
@@ -199,7 +206,7 @@ impl Held {
         ty: &Sexp<'_>,
     ) -> Result<(), Refused>
         requires { IsWhole self.old }
-        ensures whole { IsWhole self.new }
+        ensures whole { OnOk result (IsWhole self.new) }
         ensures does { Does result (step.define_sort (state_of self.old) name.now params.now ty.now) self.new }
     {
         reference_law();
@@ -220,8 +227,9 @@ impl Held {
         from: Origin,
         shape: &ProgramShape<'_>,
     ) -> Result<(), Refused>
-        requires { IsWhole self.old }
-        ensures whole { IsWhole self.new }
+        requires whole { IsWhole self.old }
+        requires outside { is_in_scope (state_of self.old) ≡ false }
+        ensures whole { OnOk result (IsWhole self.new) }
         ensures does { Does result (define_program (state_of self.old) (origin_of from) (program_of shape.now)) self.new }
     {
         if !self.may_declare(from) {
@@ -239,33 +247,52 @@ impl Held {
 
     // Defines a program, which may be declared here.
     fn declare_program(&mut self, shape: &ProgramShape<'_>) -> Result<(), Refused>
-        requires { IsWhole self.old }
-        ensures whole { IsWhole self.new }
+        requires whole { IsWhole self.old }
+        requires outside { is_in_scope (state_of self.old) ≡ false }
+        ensures whole { OnOk result (IsWhole self.new) }
         ensures does { Does result (added_program (state_of self.old) (program_of shape.now)) self.new }
     {
         let d = declared_program(self.alloc, shape, &self.signature, &mut self.table)?;
         self.add_program(d)
     }
 
-    // A program whose name is free.
+    // Carries the terms of a program whose name is free, and adds it.
     fn add_program(&mut self, d: ProgramDecl) -> Result<(), Refused>
         requires whole { IsWhole self.old }
+        requires outside { is_in_scope (state_of self.old) ≡ false }
         requires below { ProgramBelow (length self.old.table.trees) d }
         requires free { IsFree self.old.signature d.name }
-        ensures whole { IsWhole self.new }
+        ensures whole { OnOk result (IsWhole self.new) }
         ensures does { Does result (step.checked_program (state_of self.old) (read_program self.old.table.trees d)) self.new }
     {
+        let d = self.carry_program(d)?;
+        self.put_program(d)
+    }
+
+    // A program whose name is free, and whose terms are carried.
+    fn put_program(&mut self, d: ProgramDecl) -> Result<(), Refused>
+        requires whole { IsWhole self.old }
+        requires outside { is_in_scope (state_of self.old) ≡ false }
+        requires below { ProgramBelow (length self.old.table.trees) d }
+        requires free { IsFree self.old.signature d.name }
+        requires only { HoldsOnly (program_trees (read_program self.old.table.trees d)) self.old }
+        ensures whole { OnOk result (IsWhole self.new) }
+        ensures does { Does result (step.checked_program (state_of self.old) (read_program self.old.table.trees d)) self.new }
+    {
+        growth_law();
         self.signature.add_program(&self.table, d)?;
+        self.kept = self.table.mark();
         Ok(())
     }
 
     // A constant without parameters, whose declared type is the value of its type.
     fn add_valued(&mut self, d: ConstDecl) -> Result<(), Refused>
         requires whole { IsWhole self.old }
+        requires outside { is_in_scope (state_of self.old) ≡ false }
         requires below { ConstBelow (length self.old.table.trees) d }
         requires may { MayRepeat (context_in self.old.table self.old.signature) (read_constant self.old.table.trees d) }
         requires alone { d.params ≡ [] }
-        ensures whole { IsWhole self.new }
+        ensures whole { OnOk result (IsWhole self.new) }
         ensures does { Does result (step.typed_constant (state_of self.old) (read_constant self.old.table.trees d)) self.new }
     {
         d.laws();
@@ -276,9 +303,10 @@ impl Held {
     // A constant without parameters, or one of the reference file that it repeats.
     fn add_or_repeat(&mut self, d: ConstDecl) -> Result<(), Refused>
         requires whole { IsWhole self.old }
+        requires outside { is_in_scope (state_of self.old) ≡ false }
         requires below { ConstBelow (length self.old.table.trees) d }
         requires may { MayRepeat (context_in self.old.table self.old.signature) (read_constant self.old.table.trees d) }
-        ensures whole { IsWhole self.new }
+        ensures whole { OnOk result (IsWhole self.new) }
         ensures does { Does result (step.added_constant (state_of self.old) (read_constant self.old.table.trees d)) self.new }
     {
         match self.signature.lookup(d.name.as_bytes()) {
@@ -292,26 +320,61 @@ impl Held {
         }
     }
 
-    // A constant whose name is free.
+    // Carries the terms of a constant whose name is free, and declares it. The constant itself is a
+    // term that is alive, also where no other term names it.
     fn add_constant(&mut self, d: ConstDecl) -> Result<(), Refused>
         requires whole { IsWhole self.old }
+        requires outside { is_in_scope (state_of self.old) ≡ false }
         requires below { ConstBelow (length self.old.table.trees) d }
         requires free { IsFree self.old.signature d.name }
-        ensures whole { IsWhole self.new }
+        ensures whole { OnOk result (IsWhole self.new) }
         ensures does { Does result (step.checked_constant (state_of self.old) (read_constant self.old.table.trees d)) self.new }
     {
+        let d = self.carry_constant(d)?;
+        self.put_constant(d)
+    }
+
+    // A constant whose name is free, and whose terms are carried.
+    fn put_constant(&mut self, d: ConstDecl) -> Result<(), Refused>
+        requires whole { IsWhole self.old }
+        requires outside { is_in_scope (state_of self.old) ≡ false }
+        requires below { ConstBelow (length self.old.table.trees) d }
+        requires free { IsFree self.old.signature d.name }
+        requires itself { Contains self.old.table.trees (next_constant self.old) }
+        requires only { HoldsOnly (next_constant self.old ∷ constant_trees (read_constant self.old.table.trees d)) self.old }
+        ensures whole { OnOk result (IsWhole self.new) }
+        ensures does { Does result (step.checked_constant (state_of self.old) (read_constant self.old.table.trees d)) self.new }
+    {
+        growth_law();
         self.signature.declare(&self.table, d)?;
+        self.kept = self.table.mark();
         Ok(())
     }
 
-    // The type of a class of literals.
+    // Carries the type of a class of literals, and gives it to the class.
     fn add_literals(&mut self, class: LiteralClass, ty: Id) -> Result<(), Refused>
         requires whole { IsWhole self.old }
+        requires outside { is_in_scope (state_of self.old) ≡ false }
         requires below { ty < length self.old.table.trees }
-        ensures whole { IsWhole self.new }
+        ensures whole { OnOk result (IsWhole self.new) }
         ensures does { Does result (step.checked_literals (state_of self.old) class (tree_in self.old.table ty)) self.new }
     {
+        let ty = self.carry_one(ty)?;
+        self.put_literals(class, ty)
+    }
+
+    // The type of a class of literals, which is carried.
+    fn put_literals(&mut self, class: LiteralClass, ty: Id) -> Result<(), Refused>
+        requires whole { IsWhole self.old }
+        requires outside { is_in_scope (state_of self.old) ≡ false }
+        requires below { ty < length self.old.table.trees }
+        requires only { HoldsOnly (tree_in self.old.table ty ∷ []) self.old }
+        ensures whole { OnOk result (IsWhole self.new) }
+        ensures does { Does result (step.checked_literals (state_of self.old) class (tree_in self.old.table ty)) self.new }
+    {
+        growth_law();
         self.signature.set_literal_type(&self.table, class, ty)?;
+        self.kept = self.table.mark();
         Ok(())
     }
 
@@ -321,14 +384,11 @@ impl Held {
         requires below { MacroBelow (length self.old.table.trees) d }
         requires may { MayBeMacro (context_in self.old.table self.old.signature) (read_macro self.old.table.trees d) }
         requires bound { macro_is_bound (read_macro self.old.table.trees d) ≡ true }
-        ensures whole { IsWhole self.new }
+        ensures whole { OnOk result (IsWhole self.new) }
         ensures does { Does result (step.added_macro (state_of self.old) (read_macro self.old.table.trees d)) self.new }
     {
         match self.signature.lookup(d.name.as_bytes()) {
-            None => {
-                self.signature.define(d)?;
-                Ok(())
-            }
+            None => self.add_new_macro(d),
             Some(entry) => {
                 if self.repeats_macro(entry, &d) {
                     return Ok(());
@@ -336,6 +396,35 @@ impl Held {
                 Err(Refused::Fault(FaultName::Redeclared))
             }
         }
+    }
+
+    // Carries the terms of a macro whose name is free, and defines it.
+    fn add_new_macro(&mut self, d: MacroDecl) -> Result<(), Refused>
+        requires whole { IsWhole self.old }
+        requires below { MacroBelow (length self.old.table.trees) d }
+        requires free { IsFree self.old.signature d.name }
+        requires bound { macro_is_bound (read_macro self.old.table.trees d) ≡ true }
+        ensures whole { OnOk result (IsWhole self.new) }
+        ensures does { Does result (Ok (with_macro (state_of self.old) (read_macro self.old.table.trees d))) self.new }
+    {
+        let d = self.carry_macro(d)?;
+        self.put_macro(d)
+    }
+
+    // A macro whose name is free, and whose terms are carried.
+    fn put_macro(&mut self, d: MacroDecl) -> Result<(), Refused>
+        requires whole { IsWhole self.old }
+        requires below { MacroBelow (length self.old.table.trees) d }
+        requires free { IsFree self.old.signature d.name }
+        requires bound { macro_is_bound (read_macro self.old.table.trees d) ≡ true }
+        requires only { HoldsOnly (macro_trees (read_macro self.old.table.trees d)) self.old }
+        ensures whole { OnOk result (IsWhole self.new) }
+        ensures does { Does result (Ok (with_macro (state_of self.old) (read_macro self.old.table.trees d))) self.new }
+    {
+        growth_law();
+        self.signature.define(d)?;
+        self.kept = self.table.mark();
+        Ok(())
     }
 
     // Whether the name stands for a constant of the reference file that the declaration repeats.

@@ -1,10 +1,10 @@
 //! What a session holds between two commands.
-ghost use Rattle.std.specs.Prelude.{◌≡◌, ◌<◌, [], false, Ok, not, length, IfOk};
+ghost use Rattle.std.specs.Prelude.{◌≡◌, ◌<◌, [], ◌∷◌, false, Ok, not, length, IfOk, OnOk};
 ghost use Rattle.eo_term.specs.Growth.{tree_in};
 ghost use Rattle.eo_elab.specs.Meaning.{meaning};
 ghost use Rattle.eo_eval.specs.Outcomes.{IsValueOf};
 ghost use Rattle.eo_proof.specs.Scopes as proof;
-ghost use Rattle.eo_run.specs.Held.{state_of, IsWhole, Keeps};
+ghost use Rattle.eo_run.specs.Held.{state_of, IsWhole, Keeps, HoldsOnly};
 ghost use Rattle.eo_run.specs.State.{context, is_asserted, is_in_scope, with_fact};
 ghost use Rattle.eo_run.specs.Step.{is_free_fact, value, formula, assume as assumed};
 ghost use Rattle.eo_run.specs.Stepping.{GivesTerm, Does};
@@ -18,8 +18,8 @@ use eo_pattern::Subst;
 use eo_proof::Facts;
 use eo_ref::Reference;
 use eo_sexp::Sexp;
-use eo_sig::{Signature, is_reserved};
-use eo_term::{Id, Table};
+use eo_sig::{Signature, growth_law, is_reserved};
+use eo_term::{Id, Mark, Table};
 use eo_type::Types;
 use std::alloc::Global;
 
@@ -46,8 +46,11 @@ pub(crate) struct Held {
     pub(crate) has_reference: bool,
     /// The facts, in scopes.
     pub(crate) facts: Facts,
-    /// Which macros were there before each open scope.
+    /// What was there before each open scope.
     pub(crate) marks: Marks,
+    /// The mark of what is kept: the terms before it are exactly those that are alive, and those
+    /// behind it were made by the command that is running.
+    pub(crate) kept: Mark,
     /// Whether a step used a rule that is marked as unproved.
     pub(crate) sorry: bool,
     /// Whether the proof may declare no rules and programs.
@@ -60,7 +63,7 @@ impl Held {
     /// Adds a formula that is asserted to the facts, by a name that is free.
     pub(crate) fn assume(&mut self, name: &[u8], formula: &Sexp<'_>) -> Result<(), Refused>
         requires { IsWhole self.old }
-        ensures whole { IsWhole self.new }
+        ensures whole { OnOk result (IsWhole self.new) }
         ensures does { Does result (assumed (state_of self.old) name.now formula.now) self.new }
     {
         if self.is_taken(name) {
@@ -76,16 +79,31 @@ impl Held {
         self.add_fact(name, value)
     }
 
-    /// Adds a value to the facts of the innermost scope, by a name that no fact has.
+    /// Carries a value, and adds it to the facts of the innermost scope, by a name that no fact has.
     pub(crate) fn add_fact(&mut self, name: &[u8], formula: Id) -> Result<(), Refused>
         requires whole { IsWhole self.old }
         requires value { IsValueOf self.old.table formula }
         requires free { proof.is_live (state_of self.old).scopes name.now ≡ false }
-        ensures whole { IsWhole self.new }
+        ensures whole { OnOk result (IsWhole self.new) }
         ensures does { Does result (Ok (with_fact (state_of self.old) name.now (tree_in self.old.table formula))) self.new }
     {
+        let formula = self.carry_one(formula)?;
+        self.put_fact(name, formula)
+    }
+
+    // Adds a value that is carried to the facts.
+    fn put_fact(&mut self, name: &[u8], formula: Id) -> Result<(), Refused>
+        requires whole { IsWhole self.old }
+        requires value { IsValueOf self.old.table formula }
+        requires free { proof.is_live (state_of self.old).scopes name.now ≡ false }
+        requires only { HoldsOnly (tree_in self.old.table formula ∷ []) self.old }
+        ensures whole { OnOk result (IsWhole self.new) }
+        ensures does { Does result (Ok (with_fact (state_of self.old) name.now (tree_in self.old.table formula))) self.new }
+    {
+        growth_law();
         self.facts.laws();
         self.facts.add_new(name, formula)?;
+        self.kept = self.table.mark();
         Ok(())
     }
 

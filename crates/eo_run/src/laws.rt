@@ -16,6 +16,7 @@ ghost use Rattle.eo_run.specs.declared.Next.{Next};
 use eo_elab::{ordering_law, reference_law};
 use eo_eval::values_law;
 use eo_rule::{conclusion_law, derivability_law};
+use eo_term::equality_law;
 
 /// A law: a check that is correct refutes what its reference file asserts.
 ///
@@ -37,6 +38,7 @@ pub fn soundness_law()
 fn layers_law()
     ensures { Layers }
 {
+    equality_law();
     ordering_law();
     reference_law();
     values_law();

@@ -7,12 +7,14 @@
 
 mod asserting;
 mod beginning;
+mod carrying;
 mod checking;
 mod declaring;
 mod evaluating;
 mod held;
 mod laws;
 mod marks;
+mod moving;
 mod naming;
 mod opening;
 mod premises;

@@ -251,7 +251,6 @@ fn open_next<L: Library>(
         return Ok(());
     }
     match next {
-        Next::Done => Ok(()),
         Next::Include(name) => {
             let file = folded(alloc, source, &name, at)?;
             include(alloc, source, file.as_bytes(), at, files, run, paths)
@@ -260,7 +259,7 @@ fn open_next<L: Library>(
             let file = folded(alloc, source, &name, at)?;
             refer(alloc, source, file.as_bytes(), at, files, run, paths)
         }
-        Next::Exit => Ok(()),
+        Next::Done | Next::Exit => Ok(()),
     }
 }
 

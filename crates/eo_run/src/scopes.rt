@@ -1,25 +1,27 @@
 //! Scopes that are opened and closed.
-ghost use Rattle.std.specs.Prelude.{◌≡◌, ◌<◌, nat_lt, false, Ok};
+ghost use Rattle.std.specs.Prelude.{◌≡◌, ◌<◌, [], ◌∷◌, nat_lt, false, Ok, OnOk};
 ghost use Rattle.eo_eval.specs.Outcomes.{IsValueOf};
 ghost use Rattle.eo_proof.specs.Scopes.{depth, scope_limit, is_live};
 ghost use Rattle.eo_term.specs.Growth.{tree_in};
-ghost use Rattle.eo_run.specs.Held.{state_of, IsWhole};
+ghost use Rattle.eo_run.specs.Held.{state_of, IsWhole, HoldsOnly};
 ghost use Rattle.eo_run.specs.State.{with_scope, without_scope};
 ghost use Rattle.eo_run.specs.Step.{assume_push as pushed};
 ghost use Rattle.eo_run.specs.Stepping.{Does};
 
 use crate::Refused;
 use crate::held::Held;
+use crate::marks::ScopeMark;
 use eo_base::FaultName;
 use eo_base::limits::SCOPES;
 use eo_sexp::Sexp;
+use eo_sig::growth_law;
 use eo_term::Id;
 
 impl Held {
     /// Opens a scope with a formula as its assumption, by a name that is free.
     pub(crate) fn assume_push(&mut self, name: &[u8], formula: &Sexp<'_>) -> Result<(), Refused>
         requires { IsWhole self.old }
-        ensures whole { IsWhole self.new }
+        ensures whole { OnOk result (IsWhole self.new) }
         ensures does { Does result (pushed (state_of self.old) name.now formula.now) self.new }
     {
         if !self.has_room() {
@@ -39,22 +41,40 @@ impl Held {
         self.facts.depth() < SCOPES
     }
 
-    // Opens a scope with a value as its assumption, by a name that no fact has.
+    // Carries a value, and opens a scope with it as its assumption, by a name that no fact has.
     fn open_scope(&mut self, name: &[u8], hypothesis: Id) -> Result<(), Refused>
         requires whole { IsWhole self.old }
         requires value { IsValueOf self.old.table hypothesis }
         requires few { depth (state_of self.old).scopes < scope_limit }
         requires free { is_live (state_of self.old).scopes name.now ≡ false }
-        ensures whole { IsWhole self.new }
+        ensures whole { OnOk result (IsWhole self.new) }
         ensures does { Does result (Ok (with_scope (state_of self.old) name.now (tree_in self.old.table hypothesis))) self.new }
     {
-        let mark = self.signature.mark();
+        let hypothesis = self.carry_one(hypothesis)?;
+        self.put_scope(name, hypothesis)
+    }
+
+    // Opens a scope with a value that is carried.
+    fn put_scope(&mut self, name: &[u8], hypothesis: Id) -> Result<(), Refused>
+        requires whole { IsWhole self.old }
+        requires value { IsValueOf self.old.table hypothesis }
+        requires few { depth (state_of self.old).scopes < scope_limit }
+        requires free { is_live (state_of self.old).scopes name.now ≡ false }
+        requires only { HoldsOnly (tree_in self.old.table hypothesis ∷ []) self.old }
+        ensures whole { OnOk result (IsWhole self.new) }
+        ensures does { Does result (Ok (with_scope (state_of self.old) name.now (tree_in self.old.table hypothesis))) self.new }
+    {
+        growth_law();
+        let macros = self.signature.mark();
+        let table = self.kept;
         self.facts.push(name, hypothesis)?;
-        self.marks.add(mark)?;
+        self.marks.add(ScopeMark { table, macros })?;
+        self.kept = self.table.mark();
         Ok(())
     }
 
-    /// Closes the innermost scope with its facts and macros. Where none is open, nothing changes.
+    /// Closes the innermost scope with its facts and macros. Its terms are given back with those of
+    /// the command that closes it. Where no scope is open, nothing changes.
     pub(crate) fn close_scope(&mut self)
         requires { IsWhole self.old }
         ensures whole { IsWhole self.new }
@@ -65,6 +85,7 @@ impl Held {
         let Some(mark) = self.marks.take_last() else {
             return;
         };
-        self.signature.release(mark);
+        self.signature.release(mark.macros);
+        self.kept = mark.table;
     }
 }

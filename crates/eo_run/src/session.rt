@@ -1,8 +1,9 @@
 //! A run between two commands.
-ghost use Rattle.std.specs.Prelude.{◌≡◌, ◌≢◌, false, true, not, ◌||◌, IfOk, Err};
+ghost use Rattle.std.specs.Prelude.{◌≡◌, ◌≢◌, false, true, not, ◌||◌, IfOk, Err, OnOk};
 ghost use Rattle.eo_base.specs.declared.FaultName.TheVariants.{FileAbsent};
 ghost use Rattle.eo_run.specs.declared.refused.Refused.TheVariants.{Fault};
-ghost use Rattle.eo_run.specs.Held.{state_of, IsWhole};
+ghost use Rattle.eo_run.specs.Held.{state_of, IsWhole, IsSettled};
+ghost use Rattle.eo_run.specs.Roots.{live_count};
 ghost use Rattle.eo_run.specs.Numbered.{origin_of, number_of};
 ghost use Rattle.eo_run.specs.State.{first_state, begin_reference, end_fault, is_in_scope};
 ghost use Rattle.eo_names.specs.Scopes.{read_setting};
@@ -101,7 +102,8 @@ pub struct Session {
 }
 
 impl Model for Session {
-    ghost use Rattle.eo_run.specs.Held.{state_of, IsWhole};
+    ghost use Rattle.std.specs.Prelude.{◌≡◌, false};
+    ghost use Rattle.eo_run.specs.Held.{state_of, IsSettled};
     ghost use Rattle.eo_run.specs.StateCode.{standing_code};
     ghost use Rattle.eo_run.specs.Stepping.{Standing};
 
@@ -111,7 +113,7 @@ impl Model for Session {
 
     ghost view = { λ a. record { ended = a.ended; state = state_of a.held } };
 
-    ghost invariant = { λ a. IsWhole a.held };
+    ghost invariant = { λ a. a.ended ≡ false → IsSettled a.held };
 }
 
 impl Session {
@@ -239,6 +241,15 @@ impl Session {
         EndAnswer::Correct
     }
 
+    /// How many terms are alive, in a session that is not ended: the different subtrees of what is
+    /// declared and asserted and of the facts. The table holds no others.
+    pub fn live(&self) -> usize
+        requires { self.now.ended ≡ false }
+        ensures { result ≡ live_count self.now.state }
+    {
+        self.held.live()
+    }
+
     /// How many commands were accepted, or 2^64 - 1 where there were more.
     pub fn commands(&self) -> u64
         ensures { result ≡ self.now.state.commands }
@@ -250,17 +261,19 @@ impl Session {
 // Checks a command, and does what it says.
 fn run_command(held: &mut Held, s: &Sexp<'_>, from: Origin) -> Result<Next, Refused>
     requires { IsWhole held.old }
-    ensures whole { IsWhole held.new }
+    ensures settled { OnOk result (IsSettled held.new) }
     ensures does { DoesNext result (uncounted (state_of held.old) (origin_of from) s.now) held.new }
 {
     let command = command_of(s, from.is_reference())?;
-    run_placed(held, &command, from)
+    let next = run_placed(held, &command, from)?;
+    held.release();
+    Ok(next)
 }
 
 // Does what a command says, and answers what is done next.
 fn run_placed(held: &mut Held, command: &Command<'_>, from: Origin) -> Result<Next, Refused>
     requires { IsWhole held.old }
-    ensures whole { IsWhole held.new }
+    ensures whole { OnOk result (IsWhole held.new) }
     ensures does { DoesNext result (placed_command (state_of held.old) (origin_of from) (read_command command.now)) held.new }
 {
     run_scoped(held, command, from)?;
@@ -270,7 +283,7 @@ fn run_placed(held: &mut Held, command: &Command<'_>, from: Origin) -> Result<Ne
 // Does what a command says, where it may stand.
 fn run_scoped(held: &mut Held, command: &Command<'_>, from: Origin) -> Result<(), Refused>
     requires { IsWhole held.old }
-    ensures whole { IsWhole held.new }
+    ensures whole { OnOk result (IsWhole held.new) }
     ensures does { Does result (scoped_command (state_of held.old) (origin_of from) (read_command command.now)) held.new }
 {
     if !may_stand(held, command) {
@@ -299,10 +312,11 @@ fn may_be_in_scope(command: &Command<'_>) -> bool
     }
 }
 
-// Does what a command says.
+// Does what a command says, which may stand here.
 fn run_shape(held: &mut Held, command: &Command<'_>, from: Origin) -> Result<(), Refused>
-    requires { IsWhole held.old }
-    ensures whole { IsWhole held.new }
+    requires whole { IsWhole held.old }
+    requires stands { (not (is_in_scope (state_of held.old)) || definition.may_be_in_scope (read_command command.now)) ≡ true }
+    ensures whole { OnOk result (IsWhole held.new) }
     ensures does { Does result (by_command (state_of held.old) (origin_of from) (read_command command.now)) held.new }
 {
     match command {

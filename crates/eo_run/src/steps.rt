@@ -1,5 +1,5 @@
 //! Steps, which add what a rule concludes to the facts.
-ghost use Rattle.std.specs.Prelude.{◌≡◌, ◌<◌, length, true, Some, Ok, IfOk, option_map};
+ghost use Rattle.std.specs.Prelude.{◌≡◌, ◌<◌, length, true, Some, Ok, IfOk, option_map, OnOk};
 ghost use Rattle.eo_eval.specs.Outcomes.{IsValueOf};
 ghost use Rattle.eo_proof.specs.Scopes.{innermost_hypothesis};
 ghost use Rattle.eo_rule.specs.Answers.{GivesTerm as GivesConclusion};
@@ -35,7 +35,7 @@ impl Held {
     /// Adds what a rule concludes to the facts of the innermost scope, by a name that is free.
     pub(crate) fn step(&mut self, shape: &StepShape<'_>) -> Result<(), Refused>
         requires { IsWhole self.old }
-        ensures whole { IsWhole self.new }
+        ensures whole { OnOk result (IsWhole self.new) }
         ensures does { Does result (step_plain (state_of self.old) (read_step shape.now)) self.new }
     {
         if self.is_taken(shape.name) {
@@ -48,7 +48,7 @@ impl Held {
     /// around it, by a name that is free there.
     pub(crate) fn step_pop(&mut self, shape: &StepShape<'_>) -> Result<(), Refused>
         requires { IsWhole self.old }
-        ensures whole { IsWhole self.new }
+        ensures whole { OnOk result (IsWhole self.new) }
         ensures does { Does result (popped (state_of self.old) (read_step shape.now)) self.new }
     {
         let Some(assumed) = self.facts.hypothesis() else {
@@ -64,7 +64,7 @@ impl Held {
     fn step_free(&mut self, shape: &StepShape<'_>) -> Result<(), Refused>
         requires whole { IsWhole self.old }
         requires free { is_free_fact (state_of self.old) shape.now.name.now ≡ true }
-        ensures whole { IsWhole self.new }
+        ensures whole { OnOk result (IsWhole self.new) }
         ensures does { Does result (conclusion_with (state_of self.old) (read_step shape.now)) self.new }
     {
         let concluded = self.concluded(None, shape)?;
@@ -77,7 +77,7 @@ impl Held {
         requires live { assumed < length self.old.table.trees }
         requires assumed { innermost_hypothesis (state_of self.old).scopes ≡ Some (tree_in self.old.table assumed) }
         requires free { is_free_outer_fact (state_of self.old) shape.now.name.now ≡ true }
-        ensures whole { IsWhole self.new }
+        ensures whole { OnOk result (IsWhole self.new) }
         ensures does { Does result
             (conclusion_outside (state_of self.old) (tree_in self.old.table assumed) (read_step shape.now)) self.new }
     {
@@ -99,7 +99,7 @@ impl Held {
         requires whole { IsWhole self.old }
         requires value { IsValueOf self.old.table concluded.formula }
         requires free { is_free_fact (state_of self.old) name.now ≡ true }
-        ensures whole { IsWhole self.new }
+        ensures whole { OnOk result (IsWhole self.new) }
         ensures does { Does result (Ok (with_conclusion (state_of self.old) name.now (read_conclusion self.old.table concluded))) self.new }
     {
         self.add_fact(name, concluded.formula)?;

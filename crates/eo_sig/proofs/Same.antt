@@ -70,7 +70,7 @@ module _ (n : ℕ) (ts us : List Tree) (s : SameTrees n ts us) where
   option_same None h = refl
   option_same (Some j) h = ap Some (s.at j h)
 
-  pub rule_same : (d : RuleDecl) → RuleBelow n d → read_rule us d ≡ read_rule ts d
+  rule_same : (d : RuleDecl) → RuleBelow n d → read_rule us d ≡ read_rule ts d
   rule_same d h =
       let p = parameters d.params h.params in
       let o = option_same d.«assumption» h.assumed in
@@ -121,6 +121,16 @@ some_more : (n m : ℕ) → n ≤ m → (o : Option ℕ) → SomeBelow n o → S
 some_more n m l None h = tt
 some_more n m l (Some i) h = omega arith
 
+pub rule_more : (n m : ℕ) → n ≤ m → (d : RuleDecl) → RuleBelow n d → RuleBelow m d
+rule_more n m l d h = record {
+  params = params_more n m l d.params h.params;
+  assumed = some_more n m l d.«assumption» h.assumed;
+  premises = premises_more n m l d.premises h.premises;
+  args = ids_more n m l d.args h.args;
+  requirements = All-weaker (λ (q : ℕ × ℕ). (q.0 < n) × (q.1 < n)) (λ (q : ℕ × ℕ). (q.0 < m) × (q.1 < m)) (λ q g. (omega (arith, g.0), omega (arith, g.1))) d.requirements h.requirements;
+  conclusion = omega (arith, h.conclusion);
+}
+
 entry_more : (n m : ℕ) → n ≤ m → (x : Declared) → EntryBelow n x → EntryBelow m x
 entry_more n m l (declared.Const d) h = record { params = params_more n m l d.params h.params; type = omega (arith, h.type); attribute = attribute_more n m l d.attribute h.attribute }
 entry_more n m l (declared.Program d) h = record {
@@ -130,14 +140,7 @@ entry_more n m l (declared.Program d) h = record {
   cases = All-weaker (CaseBelow n) (CaseBelow m) (λ k g. record { patterns = ids_more n m l k.patterns g.patterns; body = omega (arith, g.body) }) d.cases h.cases;
   few = h.few;
 }
-entry_more n m l (declared.Rule d) h = record {
-  params = params_more n m l d.params h.params;
-  assumed = some_more n m l d.«assumption» h.assumed;
-  premises = premises_more n m l d.premises h.premises;
-  args = ids_more n m l d.args h.args;
-  requirements = All-weaker (λ (q : ℕ × ℕ). (q.0 < n) × (q.1 < n)) (λ (q : ℕ × ℕ). (q.0 < m) × (q.1 < m)) (λ q g. (omega (arith, g.0), omega (arith, g.1))) d.requirements h.requirements;
-  conclusion = omega (arith, h.conclusion);
-}
+entry_more n m l (declared.Rule d) h = rule_more n m l d h
 entry_more n m l (declared.Literal k t) h = omega arith
 
 pub below_more : (n m : ℕ) (k : Kept) → n ≤ m → IsBelow n k → IsBelow m k
@@ -148,6 +151,9 @@ below_more n m k l h = record {
 
 pub below_grown : (old new : Terms) (k : Kept) → Since old new → IsBelow (length old.trees) k → IsBelow (length new.trees) k
 below_grown old new k g h = below_more (length old.trees) (length new.trees) k g.more_trees h
+
+pub rule_grown : (d : RuleDecl) (old new : Terms) → RuleBelow (length old.trees) d → Since old new → read_rule new.trees d ≡ read_rule old.trees d
+rule_grown d old new h g = rule_same (length old.trees) old.trees new.trees (record { at = g.tree }) d h
 
 -- where the table grows
 pub stays_grown : (k : Kept) (old new : Terms) → IsBelow (length old.trees) k → Since old new → Stays k old.trees new.trees

@@ -4,7 +4,7 @@ ghost use Rattle.eo_term.specs.Tree.{Tree};
 ghost use Rattle.eo_term.specs.Terms.{first_trees};
 ghost use Rattle.eo_sig.specs.Signature as sig;
 ghost use Rattle.eo_sig.specs.Parts.{lookup_in};
-ghost use Rattle.eo_sig.specs.Reading.{signature, macros, constants_of, rules_of, IsBelow, IsWithin};
+ghost use Rattle.eo_sig.specs.Reading.{signature, macros, constants_of, programs_of, rules_of, IsBelow, IsWithin};
 ghost use Rattle.eo_sig.specs.Reading.{first_kept, first_constant, with_entry, read_named};
 ghost use Rattle.eo_sig.specs.Growth.{StaysUnder};
 ghost use Rattle.eo_sig.specs.Usable.{IsUsable};
@@ -147,7 +147,8 @@ impl Signature {
 
     /// How many programs there are, which is the number of the next one.
     pub fn programs(&self) -> usize
-        ensures { (ts : List Tree) → result ≡ length (sig.programs (signature ts self.now)) }
+        ensures count { result ≡ length (programs_of self.now) }
+        ensures value { (ts : List Tree) → result ≡ length (sig.programs (signature ts self.now)) }
     {
         self.programs.len()
     }

@@ -8,3 +8,6 @@ grows_from old new g = record { now = g; since = λ t h. since_trans t old new h
 
 pub grows_refl : (t : Terms) → Grows t t
 grows_refl t = record { now = since_refl t; since = λ s h. h }
+
+pub grows_on : (a b c : Terms) → Grows a b → Grows b c → Grows a c
+grows_on a b c g h = record { now = h.since a g.now; since = λ t s. h.since t (g.since t s) }

@@ -1,19 +1,13 @@
--- A tree with a part that is too tall is too tall.
+-- An operator with an argument that is too tall is too tall.
 use Rattle.std.proofs.Common.{◌≡◌, ℕ, zero, suc, ◌<◌, ◌≤◌, true, arith}
 use Rattle.std.proofs.lemmas.Bool.{lt-ltb, ltb-true}
 use Rattle.eo_base.specs.Limits.{height_limit}
 use Rattle.eo_term.specs.declared.OpCode.{OpCode}
-use Rattle.eo_term.specs.Tree.{Tree, Trees, App, Op, NoTree, More, height, height_all, is_tall}
+use Rattle.eo_term.specs.Tree.{Tree, Trees, Op, NoTree, More, height, height_all, is_tall}
 use Rattle.eo_term.specs.Arguments.{count_of, argument_at}
 
-pub higher : (t u : Tree) → height t ≤ height u → is_tall t ≡ true → is_tall u ≡ true
+higher : (t u : Tree) → height t ≤ height u → is_tall t ≡ true → is_tall u ≡ true
 higher t u h e = let l = ltb-true height_limit (height t) e in lt-ltb height_limit (height u) (omega (arith, h, l))
-
-pub tall_first : (a b : Tree) → is_tall a ≡ true → is_tall (App a b) ≡ true
-tall_first a b e = higher a (App a b) (omega arith) e
-
-pub tall_second : (a b : Tree) → is_tall b ≡ true → is_tall (App a b) ≡ true
-tall_second a b e = higher b (App a b) (omega arith) e
 
 argument_height : (ts : Trees) (i : ℕ) → i < count_of ts → height (argument_at ts i) ≤ height_all ts
 argument_height NoTree i l = absurd (omega arith)

@@ -3,9 +3,9 @@ use Rattle.std.proofs.Common.{◌≡◌, ℕ, Bool, true, false, true≢false, c
 use Rattle.std.specs.Prelude.{bytes_eq, codes, find}
 use Rattle.std.specs.List.{list_all, starts_with}
 use Rattle.std.proofs.lemmas.Slice.Eq.{bytes_eq-Decides}
+use Rattle.eo_base.proofs.Tests.{both}
 use Rattle.eo_term.specs.declared.OpName.{OpName}
 use Rattle.eo_term.specs.Operators.{operator, operators, is_named, operator_named}
-use Rattle.eo_term.proofs.Equality.{both}
 
 abbrev begins_so : List ℕ → Bool
 begins_so word = starts_with nat_eq word (codes "eo::")

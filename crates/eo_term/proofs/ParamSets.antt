@@ -5,10 +5,9 @@ use Rattle.std.specs.Int.Count.{count_leading_zeros}
 use Rattle.std.proofs.lemmas.Bool.{cases_lt, or_cases, or_left, or_right, eqb-true, eq-eqb}
 use Rattle.std.proofs.lemmas.Nat.Bits.{bit_at-zero, bit_at-lt, bit_at_and, bit_at_or, bit_at_above, bit_at_set_same, bit_at_set_other, shr_and_one, same_from_bits}
 use Rattle.std.specs.Int.{bit_at}
+use Rattle.eo_base.proofs.Tests.{both, join, clash}
 use Rattle.eo_term.specs.ParamSet.{has}
 use Rattle.eo_term.specs.Tree.{Tree, Trees, Con, Num, Bits, Str, Par, Var, App, Arr, Qar, Op, NoTree, More, occurs, occurs_in_all, uses_only, all_use_only}
-use Rattle.eo_term.proofs.Equality.{both, join}
-use Rattle.eo_term.proofs.Values.{clash}
 
 pub has_nothing : (i : ℕ) → has 0 i ≡ false
 unfolding has

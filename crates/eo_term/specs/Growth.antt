@@ -25,6 +25,15 @@ pub record Grows (old new : Terms) : Type 0 where
   pub now : Since old new
   pub since : (t : Terms) → Since t old → Since t new
 
+-- the table is again what it was
+pub record IsBack (old new : Terms) : Type 0 where
+  pub same : new ≡ old
+  pub grows : Grows old new
+
+-- A table is cut at a mark. Whatever it had grown from since that mark was taken, it is that again.
+abbrev pub GoesBack : Terms → ℕ × ℕ → Terms → Type 0
+GoesBack old m new = (t : Terms) → Grows t old → m ≡ (length t.trees, length t.texts) → IsBack t new
+
 -- the id is that of a term that is there, and this is its tree
 pub record IsTerm (t : Terms) (u : Tree) (i : ℕ) : Type 0 where
   pub live : i < length t.trees

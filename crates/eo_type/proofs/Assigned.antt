@@ -1,11 +1,11 @@
 -- Assignments that hold nothing, and parameters of arguments.
-use Rattle.std.proofs.Common.{◌≡◌, ℕ, zero, suc, List, [], ◌∷◌, Option, Some, None, slice_get, All, refl, sym, ap, subst}
+use Rattle.std.proofs.Common.{◌≡◌, ℕ, zero, suc, List, [], ◌∷◌, Option, None, slice_get, All, refl, sym, ap, subst}
 use Rattle.std.specs.Option.{option_flatten, option_map}
 use Rattle.std.proofs.lemmas.List.Elements.{All-head, All-tail, All-weaker}
 use mathlib.Core.Path.{fun_ext}
 use Rattle.eo_term.specs.Tree.{Tree}
 use Rattle.eo_term.specs.Terms.{tree_at}
-use Rattle.eo_pattern.specs.Matching.{Assignment, empty, Matches, matching}
+use Rattle.eo_pattern.specs.Matching.{empty}
 use Rattle.eo_pattern.specs.Slots.{Slots, SlotBelow, AreBelow, AreEmpty, held}
 
 slot_empty : (n : ℕ) (o : Option ℕ) → o ≡ None → SlotBelow n o
@@ -21,11 +21,3 @@ nothing_at (v ∷ vs) (suc i) h = nothing_at vs i (All-tail (λ (o : Option ℕ)
 
 pub empty_held : (ts : List Tree) (s : Slots) → AreEmpty s → held ts s ≡ empty
 empty_held ts s h = fun_ext (λ i. ap (option_map (tree_at ts)) (nothing_at s.values i h))
-
--- what nothing matches
-pub no_matching : (before : Assignment) (ps ts : List Tree) → ((σ : Assignment) → matching before ps ts ≡ Some σ → Matches before ps ts σ) → ((σ : Assignment) → Matches before ps ts σ → ⊥) → matching before ps ts ≡ None
-no_matching before ps ts sound h = by (matching before ps ts) refl
-  where
-    by : (o : Option Assignment) → matching before ps ts ≡ o → o ≡ None
-    by None e = refl
-    by (Some σ) e = absurd (h σ (sound σ e))

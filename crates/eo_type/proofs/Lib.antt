@@ -6,3 +6,5 @@ pub mod Heights
 pub mod SettleSteps
 pub mod Assigned
 pub mod Fitting
+pub mod Greatest
+pub mod Keeping

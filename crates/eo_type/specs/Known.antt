@@ -1,10 +1,12 @@
 -- The types that are kept.
-use Rattle.std.specs.Prelude.{◌≡◌, ℕ, ◌<◌, List, ◌++◌, length, All, Option}
+use Rattle.std.specs.Prelude.{◌≡◌, ℕ, ◌<◌, ◌≤◌, Bool, ◌&&◌, nat_eq, nat_lt, List, ◌++◌, length, take, All, Option, Some, Result, Ok, IfOk, IfSome}
+use Rattle.std.specs.Map.{lookup}
 use Rattle.eo_term.specs.Tree.{Tree}
 use Rattle.eo_term.specs.Terms.{Terms, Since, tree_at}
 use Rattle.eo_sig.specs.Reading.{Kept, IsBelow, signature}
 use Rattle.eo_sig.specs.Signature.{Signature, literal_type}
 use Rattle.eo_lit.specs.declared.LiteralClass.{LiteralClass}
+use Rattle.eo_type.specs.declared.refused.TypeRefused.{TypeRefused}
 use Rattle.eo_type.specs.Types.{TypeOutcome, Typed, type_of}
 
 -- a term and its type, both among those trees
@@ -26,6 +28,32 @@ pub record Fit (k : Kept) (t : Terms) (known : List (ℕ × ℕ)) : Type 0 where
 pub record Lasts (known : List (ℕ × ℕ)) : Type 0 where
   pub grown : (k : Kept) (old new : Terms) → Since old new → Fit k old known → Fit k new known
   pub longer : (S later : Signature) (ts : List Tree) → Fits S ts known → Fits (S ++ later) ts known
+
+-- the type that is kept for a term
+abbrev pub kept_type : List (ℕ × ℕ) → ℕ → Option ℕ
+kept_type known i = lookup (nat_eq i) known
+
+-- each type that was kept is kept
+abbrev pub Keeps : List (ℕ × ℕ) → List (ℕ × ℕ) → Type 0
+Keeps old new = (i u : ℕ) → kept_type old i ≡ Some u → kept_type new i ≡ Some u
+
+-- more types are kept than before of terms below n alone
+abbrev pub FindsBelow : ℕ → List (ℕ × ℕ) → List (ℕ × ℕ) → Type 0
+FindsBelow n old new = (i : ℕ) → n ≤ i → kept_type new i ≡ kept_type old i
+
+-- What is kept where the type of a term is asked for: what was kept, and a type that is answered.
+pub record Remembers (old : List (ℕ × ℕ)) (i : ℕ) (result : Result (Option ℕ) TypeRefused) (new : List (ℕ × ℕ)) : Type 0 where
+  pub keeps : Keeps old new
+  pub answer : IfOk result (λ o. IfSome o (λ u. kept_type new i ≡ Some u))
+
+-- a term and its type are both among the first n terms
+abbrev pub is_before : ℕ → ℕ × ℕ → Bool
+is_before n e = nat_lt e.0 n && nat_lt e.1 n
+
+-- Types that fit a table and are then cut to n fit each table that has the same first n terms, if the signature has no others.
+abbrev pub FitsCut : ℕ → List (ℕ × ℕ) → List (ℕ × ℕ) → Type 0
+FitsCut n known left =
+    (k : Kept) (old new : Terms) → Fit k old known → IsBelow n k → n ≤ length old.trees → take n new.trees ≡ take n old.trees → Fit k new left
 
 -- the type of a tree, over the terms of a table
 abbrev pub type_in : Kept → Terms → Tree → TypeOutcome Tree

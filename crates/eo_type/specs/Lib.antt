@@ -1,5 +1,6 @@
 pub mod Types
 pub mod Outcomes
 pub mod Known
+pub mod Greatest
 pub mod Parts
 pub mod Steps

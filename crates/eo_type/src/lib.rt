@@ -3,6 +3,8 @@
 #![tactic(auto)]
 
 mod application;
+mod known;
+mod laws;
 mod leaves;
 mod literals;
 mod operators;
@@ -10,6 +12,7 @@ mod refused;
 mod settling;
 mod types;
 
+pub use laws::settled_law;
 pub use leaves::is_constant;
 pub use literals::operator_value;
 pub use refused::TypeRefused;

@@ -1,8 +1,9 @@
 //! Why no type was found.
-ghost use Rattle.std.specs.Prelude.{ℕ, List, Contains, IfOk, IfSome};
+ghost use Rattle.std.specs.Prelude.{◌≡◌, ℕ, List, Some, IfOk, IfSome};
 ghost use Rattle.eo_term.specs.Tree.{Tree};
 ghost use Rattle.eo_term.specs.Terms.{Terms};
 ghost use Rattle.eo_type.specs.Types.{TypeOutcome};
+ghost use Rattle.eo_type.specs.Known.{kept_type};
 ghost use Rattle.eo_type.specs.Outcomes.{Answers, Gives};
 
 use eo_term::{Id, TermRefused};
@@ -60,8 +61,8 @@ impl From<TermRefused> for Stop {
 /// The answer of a walk.
 pub(crate) fn answer(found: Result<Id, Stop>) -> Result<Option<Id>, TypeRefused>
     ensures answers { (t : Terms) (o : TypeOutcome Tree) → Gives t found o → Answers t result o }
-    ensures among { (types : List (ℕ × ℕ)) (t : ℕ) → IfOk found (λ i. Contains types (t, i)) →
-        IfOk result (λ o. IfSome o (λ i. Contains types (t, i))) }
+    ensures kept { (known : List (ℕ × ℕ)) (i : ℕ) → IfOk found (λ u. kept_type known i ≡ Some u) →
+        IfOk result (λ o. IfSome o (λ u. kept_type known i ≡ Some u)) }
 {
     match found {
         Ok(id) => Ok(Some(id)),

@@ -1,5 +1,5 @@
 //! Settling: each operator without parameters becomes its value.
-ghost use Rattle.std.specs.Prelude.{◌≡◌, ℕ, ◌<◌, [], length, false, None, All};
+ghost use Rattle.std.specs.Prelude.{◌≡◌, ℕ, ◌<◌, [], length, false, None, All, OnErr};
 ghost use Rattle.eo_term.specs.Tree.{Op, is_tall, to_trees};
 ghost use Rattle.eo_term.specs.Memo.{told, TellsOnly};
 ghost use Rattle.eo_term.specs.Terms.{HasArity};
@@ -26,7 +26,7 @@ use std::alloc::Global;
 /// places is looked at once.
 ///
 /// `NumberRange`: a value is out of range. `Tall` never comes, since no term becomes taller.
-/// `Memory`: want of memory.
+/// `Memory`: want of memory. Where it is refused, the table is as it was.
 pub fn settle(
     alloc: Global,
     _sig: &Signature,
@@ -36,9 +36,17 @@ pub fn settle(
     requires { id < length table.old.trees }
     ensures answers { Answers table.new result (settle (tree_in table.old id)) }
     ensures never_tall { IsTall result → ⊥ }
+    ensures refused { OnErr result (table.new ≡ table.old) }
     ensures grows { Grows table.old table.new }
 {
-    answer(settle_term(alloc, table, id))
+    let mark = table.mark();
+    match answer(settle_term(alloc, table, id)) {
+        Ok(settled) => Ok(settled),
+        Err(e) => {
+            table.release(mark);
+            Err(e)
+        }
+    }
 }
 
 /// The same, as a walk.

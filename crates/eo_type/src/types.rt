@@ -1,5 +1,5 @@
 //! Types of terms, and the types that are kept.
-ghost use Rattle.std.specs.Prelude.{◌≡◌, ℕ, ◌<◌, List, [], length, Some, Contains, IfOk, IfSome, OnOk};
+ghost use Rattle.std.specs.Prelude.{◌≡◌, ℕ, ◌+◌, ◌<◌, List, [], length, filter, max, Ok, Some, None, IfOk, OnErr};
 ghost use Rattle.eo_term.specs.Tree.{Tree, App, Arr};
 ghost use Rattle.eo_term.specs.Growth.{tree_in, Grows};
 ghost use Rattle.eo_pattern.specs.Slots.{AreBelow, AreEmpty};
@@ -9,27 +9,30 @@ ghost use Rattle.eo_type.specs.Types.{declared, literal_type_at};
 ghost use Rattle.eo_type.specs.Outcomes.{Answers, Gives, GivesBoth};
 ghost use Rattle.eo_type.specs.Parts.{variable_type};
 ghost use Rattle.eo_sig.specs.Growth.{GrowsUnder};
-ghost use Rattle.eo_type.specs.Known.{IsFit, Fits, Fit, Lasts, class_type, type_at, type_in};
+ghost use Rattle.eo_type.specs.Known.{Fits, Fit, Lasts, Remembers, Keeps, FindsBelow, FitsCut, kept_type, is_before};
+ghost use Rattle.eo_type.specs.Known.{class_type, type_at, type_in};
 
 use crate::TypeRefused;
 use crate::application::{application_type, assign, settled};
+use crate::known::Known;
 use crate::leaves::{if_value, is_constant};
 use crate::refused::{Stop, answer};
 use eo_pattern::Subst;
 use eo_sig::{LiteralClass, Signature, growth_law, longer_law};
-use eo_term::{Id, Node, Table};
-use indexmap::IndexMap;
+use eo_term::{Id, Mark, Node, Table};
 use std::alloc::{AllocError, Global};
 use std::marker::Model;
 
-/// Types that were found, with their terms. Contracts see them as a list of pairs.
+/// Types that were found, with their terms, in the order in which they were found. Contracts see them
+/// as a list of pairs.
 ///
 /// They fit a signature and a table where each pair names terms of the table, the second being the
-/// type of the first. Every call that takes them has this condition, and leaves them fitting.
+/// type of the first. Every call that takes them has this condition, and leaves them fitting. Who
+/// cuts the table at a mark lets them [forget](Types::forget) to that mark.
 #[derive(Drop)]
 pub struct Types {
     alloc: Global,
-    known: IndexMap<Id, Id>,
+    known: Known,
 }
 
 impl Model for Types {
@@ -37,7 +40,7 @@ impl Model for Types {
 
     ghost Value = { List (ℕ × ℕ) };
 
-    ghost view = { λ a. a.known.entries };
+    ghost view = { λ a. a.known };
 }
 
 impl Types {
@@ -48,7 +51,7 @@ impl Types {
     {
         Ok(Types {
             alloc,
-            known: IndexMap::new(alloc),
+            known: Known::new(alloc),
         })
     }
 
@@ -58,7 +61,7 @@ impl Types {
     {
         growth_law();
         longer_law();
-        let _count = self.known.len();
+        let _known = &self.known;
     }
 
     /// The type of a term, by the typing rules of the Ethos manual; `None` exactly where it has
@@ -66,8 +69,10 @@ impl Types {
     ///
     /// A constant has its declared type, a literal that of its class with the literal put in,
     /// a variable its own. `NumberRange`: a number, a bit string or a string in a type is out of
-    /// range. `Tall`: a type is too tall. `Memory`: want of memory. A part that is shared is typed
-    /// once.
+    /// range. `Tall`: a type is too tall. `Memory`: want of memory. After any of these the table is
+    /// as it was. A part that is shared is typed once.
+    ///
+    /// Types that are found are kept. One that is kept is answered at once, without memory.
     pub fn type_of(
         &mut self,
         sig: &Signature,
@@ -77,34 +82,91 @@ impl Types {
         requires live { id < length table.old.trees }
         requires fits { Fit sig.now table.old self.old }
         ensures answers { Answers table.new result (type_at sig.now table.old id) }
-        ensures kept { IfOk result (λ o. IfSome o (λ i. Contains self.new (id, i))) }
+        ensures known { (u : ℕ) → kept_type self.old id ≡ Some u → (result ≡ Ok (Some u)) × (table.new ≡ table.old) × (self.new ≡ self.old) }
+        ensures kept { Remembers self.old id result self.new }
+        ensures refused { OnErr result (table.new ≡ table.old) }
         ensures fits { Fit sig.now table.new self.new }
         ensures grows { GrowsUnder sig.now table.old table.new }
     {
-        answer(self.find(sig, table, id))
+        match self.known.get(id) {
+            Some(ty) => Ok(Some(ty)),
+            None => self.type_of_new(sig, table, id),
+        }
     }
 
-    // The type of a term that may be known. What is found is kept before it is answered, and the first
-    // failure ends the walk, so no term is derived twice in a call. It goes down from a term to its
-    // parts alone, so its calls nest no deeper than a small multiple of the term's height, which
-    // `HEIGHT_LIMIT` bounds.
+    /// Drops each entry that names a term which was made after the mark. It takes no memory, and it
+    /// costs no more than was found since the table was last marked so, or before.
+    pub fn forget(&mut self, mark: Mark)
+        ensures left { self.new ≡ filter (is_before mark.0) self.old }
+        ensures fits { FitsCut mark.0 self.old self.new }
+    {
+        growth_law();
+        self.known.forget(mark.terms());
+    }
+
+    // The type of a term of which none is kept.
+    fn type_of_new(
+        &mut self,
+        sig: &Signature,
+        table: &mut Table,
+        id: Id,
+    ) -> Result<Option<Id>, TypeRefused>
+        requires live { id < length table.old.trees }
+        requires fits { Fit sig.now table.old self.old }
+        requires new { kept_type self.old id ≡ None }
+        ensures answers { Answers table.new result (type_at sig.now table.old id) }
+        ensures kept { Remembers self.old id result self.new }
+        ensures refused { OnErr result (table.new ≡ table.old) }
+        ensures fits { Fit sig.now table.new self.new }
+        ensures grows { GrowsUnder sig.now table.old table.new }
+    {
+        let mark = table.mark();
+        match answer(self.find_new(sig, table, id)) {
+            Ok(found) => Ok(found),
+            Err(e) => {
+                table.release(mark);
+                self.forget(mark);
+                Err(e)
+            }
+        }
+    }
+
+    // The type of a term.
     #[cycle(typing)]
     fn find(&mut self, sig: &Signature, table: &mut Table, id: Id) -> Result<Id, Stop>
         requires live { id < length table.old.trees }
         requires fits { Fit sig.now table.old self.old }
         ensures gives { Gives table.new result (type_at sig.now table.old id) }
-        ensures kept { IfOk result (λ i. Contains self.new (id, i)) }
+        ensures keeps { Keeps self.old self.new }
+        ensures older { FindsBelow (id + 1) self.old self.new }
         ensures fits { Fit sig.now table.new self.new }
         ensures grows { GrowsUnder sig.now table.old table.new }
     {
-        match self.known(id) {
+        match self.known.get(id) {
             Some(ty) => Ok(ty),
-            None => {
-                let ty = self.derive(sig, table, id)?;
-                self.keep(id, ty)?;
-                Ok(ty)
-            }
+            None => self.find_new(sig, table, id),
         }
+    }
+
+    // The type of a term of which none is kept. What is found is kept before it is answered, and the
+    // first failure ends the walk, so no term is derived twice in a call. It goes down from a term to
+    // its parts alone, so its calls nest no deeper than a small multiple of the term's height, which
+    // `HEIGHT_LIMIT` bounds.
+    #[cycle(typing)]
+    fn find_new(&mut self, sig: &Signature, table: &mut Table, id: Id) -> Result<Id, Stop>
+        requires live { id < length table.old.trees }
+        requires fits { Fit sig.now table.old self.old }
+        requires new { kept_type self.old id ≡ None }
+        ensures gives { Gives table.new result (type_at sig.now table.old id) }
+        ensures kept { IfOk result (λ u. kept_type self.new id ≡ Some u) }
+        ensures keeps { Keeps self.old self.new }
+        ensures older { FindsBelow (id + 1) self.old self.new }
+        ensures fits { Fit sig.now table.new self.new }
+        ensures grows { GrowsUnder sig.now table.old table.new }
+    {
+        let ty = self.derive(sig, table, id)?;
+        self.known.keep(id, ty)?;
+        Ok(ty)
     }
 
     // The type of a term, by the types of its parts.
@@ -113,6 +175,8 @@ impl Types {
         requires live { id < length table.old.trees }
         requires fits { Fit sig.now table.old self.old }
         ensures gives { Gives table.new result (type_at sig.now table.old id) }
+        ensures keeps { Keeps self.old self.new }
+        ensures older { FindsBelow id self.old self.new }
         ensures fits { Fit sig.now table.new self.new }
         ensures grows { GrowsUnder sig.now table.old table.new }
     {
@@ -136,6 +200,8 @@ impl Types {
         requires live { ty < length table.old.trees }
         requires fits { Fit sig.now table.old self.old }
         ensures gives { Gives table.new result (variable_type (signature table.old.trees sig.now) (tree_in table.old ty)) }
+        ensures keeps { Keeps self.old self.new }
+        ensures older { FindsBelow (ty + 1) self.old self.new }
         ensures fits { Fit sig.now table.new self.new }
         ensures grows { GrowsUnder sig.now table.old table.new }
     {
@@ -159,6 +225,8 @@ impl Types {
         requires arg { arg < length table.old.trees }
         requires fits { Fit sig.now table.old self.old }
         ensures gives { Gives table.new result (type_in sig.now table.old (App (tree_in table.old fun) (tree_in table.old arg))) }
+        ensures keeps { Keeps self.old self.new }
+        ensures older { FindsBelow (max fun arg + 1) self.old self.new }
         ensures fits { Fit sig.now table.new self.new }
         ensures grows { GrowsUnder sig.now table.old table.new }
     {
@@ -178,6 +246,8 @@ impl Types {
         requires to { to < length table.old.trees }
         requires fits { Fit sig.now table.old self.old }
         ensures gives { Gives table.new result (type_in sig.now table.old (Arr (tree_in table.old from) (tree_in table.old to))) }
+        ensures keeps { Keeps self.old self.new }
+        ensures older { FindsBelow (max from to + 1) self.old self.new }
         ensures fits { Fit sig.now table.new self.new }
         ensures grows { GrowsUnder sig.now table.old table.new }
     {
@@ -195,6 +265,8 @@ impl Types {
         requires b { b < length table.old.trees }
         requires fits { Fit sig.now table.old self.old }
         ensures gives { GivesBoth table.new result (type_at sig.now table.old a) (type_at sig.now table.old b) }
+        ensures keeps { Keeps self.old self.new }
+        ensures older { FindsBelow (max a b + 1) self.old self.new }
         ensures fits { Fit sig.now table.new self.new }
         ensures grows { GrowsUnder sig.now table.old table.new }
     {
@@ -222,23 +294,6 @@ impl Types {
             None => Err(Stop::Untyped),
             Some(ty) => literal_in(self.alloc, table, ty, id),
         }
-    }
-
-    // The type that is kept for a term.
-    fn known(&self, id: Id) -> Option<Id>
-        ensures fits { (S : spec.Signature) (ts : List Tree) → Fits S ts self.now → IfSome result (λ u. IsFit S ts (id, u)) }
-        ensures kept { IfSome result (λ u. Contains self.now (id, u)) }
-    {
-        self.known.get(&id).copied()
-    }
-
-    // Keeps the type of a term.
-    fn keep(&mut self, id: Id, ty: Id) -> Result<(), AllocError>
-        ensures fits { (S : spec.Signature) (ts : List Tree) → Fits S ts self.old → IsFit S ts (id, ty) → Fits S ts self.new }
-        ensures kept { OnOk result (Contains self.new (id, ty)) }
-    {
-        self.known.insert(id, ty)?;
-        Ok(())
     }
 }
 

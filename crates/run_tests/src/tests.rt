@@ -15,9 +15,105 @@ fn a_step_that_is_refused_ends_the_session(rt: HostRuntime) -> Result<(), Fail> 
 // What is accepted before a refused step is refused behind it, and so is the step itself.
 fn behind_a_refused_step(run: &mut Run) -> Result<Option<usize>, Fail> {
     run.wrong(&[
-        (b"(define @t () true)", Done),
+        (b"(define @t () true)", Done(4)),
         (b"(step @a :rule nope)", Fault(UnknownRule)),
         (b"(define @u () true)", Ended),
         (b"(step @a :rule nope)", Ended),
     ])
+}
+
+#[test]
+fn a_session_holds_what_is_alive(rt: HostRuntime) -> Result<(), Fail> {
+    assert_eq!(rt; tell(rt.alloc(), with_scopes)?, None);
+    Ok(())
+}
+
+// The commands of a benchmark's signature, and a scope that is opened and closed twice.
+fn with_scopes(run: &mut Run) -> Result<Option<usize>, Fail> {
+    run.wrong(&[
+        (b"(declare-const Int Type)", Done(5)),
+        (b"(declare-consts <numeral> Int)", Done(5)),
+        (b"(declare-const not (-> Bool Bool))", Done(7)),
+        (
+            b"(declare-const or (-> Bool Bool Bool) :right-assoc-nil false)",
+            Done(9),
+        ),
+        (b"(declare-const at (-> Int Bool))", Done(11)),
+        (
+            b"(declare-rule hop ((n Int)) :args (n) :conclusion (or (not (at n)) (at (eo::add n 1))))",
+            Done(21),
+        ),
+        (
+            b"(declare-rule unit ((a Bool) (b Bool)) :premises (a (or (not a) b)) :conclusion b)",
+            Done(27),
+        ),
+        (
+            b"(declare-rule contra ((a Bool)) :premises (a (not a)) :conclusion false)",
+            Done(27),
+        ),
+        (
+            b"(declare-rule scope ((a Bool) (b Bool)) :assumption a :premises (b) :conclusion (or (not a) b))",
+            Done(27),
+        ),
+        (b"(assume-push @h (at 0))", Done(29)),
+        (b"(define @t () (not (at (eo::add 0 0))))", Done(32)),
+        (b"(step @i :rule hop :args (0))", Done(38)),
+        (b"(step @j :rule unit :premises (@h @i))", Done(38)),
+        (b"(step-pop @a :rule scope :premises (@j))", Done(35)),
+        (b"(assume-push @h (at 0))", Done(35)),
+        (b"(step-pop @b :rule scope :premises (@h))", Done(38)),
+        (b"(define @u () (at (eo::add 0 0)))", Done(40)),
+    ])
+}
+
+#[test]
+fn scopes_leave_nothing_behind(rt: HostRuntime) -> Result<(), Fail> {
+    assert_eq!(rt; tell(rt.alloc(), with_many_scopes)?, None);
+    Ok(())
+}
+
+// Scopes that are opened and closed one after another, each with the same conclusion. The first one
+// leaves its terms, and no other does.
+fn with_many_scopes(run: &mut Run) -> Result<Option<usize>, Fail> {
+    let first = run.wrong(&[
+        (b"(declare-const Int Type)", Done(5)),
+        (b"(declare-consts <numeral> Int)", Done(5)),
+        (b"(declare-const not (-> Bool Bool))", Done(7)),
+        (
+            b"(declare-const or (-> Bool Bool Bool) :right-assoc-nil false)",
+            Done(9),
+        ),
+        (b"(declare-const at (-> Int Bool))", Done(11)),
+        (
+            b"(declare-rule scope ((a Bool) (b Bool)) :assumption a :premises (b) :conclusion (or (not a) b))",
+            Done(18),
+        ),
+        (b"(assume-push @h (at 0))", Done(20)),
+        (b"(step-pop @a :rule scope :premises (@h))", Done(25)),
+    ])?;
+    if first.is_some() {
+        return Ok(first);
+    }
+    for i in 0..10_000_u16 {
+        let text = closing(i);
+        let wrong = run.wrong(&[(b"(assume-push @h (at 0))", Done(25)), (&text, Done(25))])?;
+        if wrong.is_some() {
+            return Ok(Some(i as usize));
+        }
+    }
+    Ok(None)
+}
+
+// The command that closes a scope, with a name of four digits.
+fn closing(i: u16) -> [u8; 43] {
+    let mut text = *b"(step-pop @0000 :rule scope :premises (@h))";
+    text[11] = digit(i / 1000);
+    text[12] = digit(i / 100);
+    text[13] = digit(i / 10);
+    text[14] = digit(i);
+    text
+}
+
+fn digit(i: u16) -> u8 {
+    b'0' + (i % 10) as u8
 }

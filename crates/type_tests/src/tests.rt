@@ -1,3 +1,4 @@
+mod keeping;
 mod settling;
 mod typing;
 mod world;

@@ -274,6 +274,7 @@ impl World {
     }
 
     fn reference_meaning(&mut self, s: &Sexp<'_>, in_assert: bool) -> Result<Outcome, ElabRefused> {
+        self.sig.laws();
         let locals = parameters(self.alloc, &mut self.table)?;
         let mut names = Names::new(self.alloc);
         let id = reference_term(

@@ -34,9 +34,9 @@ impl Machine {
         table: &mut Table,
         types: &Types,
         key: CallKey,
-        left: usize,
+        left: u32,
     ) -> Result<Now, AllocError>
-        requires key { All (λ i. i < length table.old.trees) key.args.items }
+        requires key { All (λ i. i < length table.old.trees) key.args }
         requires calling { Calling sig.now table.old types.now self.old (read_call table.old.trees key) }
         ensures told { IfOk result (λ n. told_in sig.now table.new self.new n
             ≡ told_call sig.now table.old self.old (read_call table.old.trees key) left) }
@@ -60,10 +60,10 @@ impl Machine {
         table: &Table,
         types: &Types,
         key: CallKey,
-        left: usize,
+        left: u32,
     ) -> Result<Option<usize>, AllocError>
         requires left { 0 < left }
-        requires key { All (λ i. i < length table.now.trees) key.args.items }
+        requires key { All (λ i. i < length table.now.trees) key.args }
         requires calling { Calling sig.now table.now types.now self.old (read_call table.now.trees key) }
         ensures place { IfOk result (λ r. IfSome r (λ p. p < length self.new.calls.entries)) }
         ensures calling { IfOk result (λ r. IfSome r (λ p. Calling sig.now table.now types.now self.new (called_at table.now self.new p))) }
@@ -92,7 +92,7 @@ impl Machine {
         table: &mut Table,
         types: &Types,
         place: usize,
-        left: usize,
+        left: u32,
     ) -> Result<Now, AllocError>
         requires left { 0 < left }
         requires place { place < length self.old.calls.entries }
@@ -110,7 +110,7 @@ impl Machine {
     }
 
     // What is known of a call that was begun, where so many calls may open.
-    fn known_call(&self, place: usize, left: usize) -> Option<Now>
+    fn known_call(&self, place: usize, left: u32) -> Option<Now>
         requires { place < length self.now.calls.entries }
         ensures { (S : spec.Signature) (most : ℕ) (ts : List Tree) →
             Remembers S most ts self.now.calls.entries self.now.terms.entries self.now.locals.entries →
@@ -128,7 +128,7 @@ impl Machine {
         table: &mut Table,
         types: &Types,
         place: usize,
-        left: usize,
+        left: u32,
     ) -> Result<Now, AllocError>
         requires place { place < length self.old.calls.entries }
         requires calling { Calling sig.now table.old types.now self.old (called_at table.old self.old place) }
@@ -155,7 +155,7 @@ impl Machine {
         place: usize,
     ) -> Result<Option<Id>, AllocError>
         requires place { place < length self.old.calls.entries }
-        requires keys { All (λ c. All (λ i. i < length table.now.trees) c.0.args.items) self.old.calls.entries }
+        requires keys { All (λ c. All (λ i. i < length table.now.trees) c.0.args) self.old.calls.entries }
         requires below { IsBelow (length table.now.trees) sig.now }
         ensures found { IfOk result (λ o. Finds table.now self.new.subst o
             (chosen_case (signature table.now.trees sig.now) (called_at table.now self.old place))) }
@@ -182,7 +182,7 @@ impl Machine {
         table: &mut Table,
         types: &Types,
         place: usize,
-        left: usize,
+        left: u32,
         body: Id,
     ) -> Result<Now, AllocError>
         requires place { place < length self.old.calls.entries }
@@ -207,7 +207,7 @@ impl Machine {
         table: &mut Table,
         types: &Types,
         place: usize,
-        left: usize,
+        left: u32,
         body: Id,
     ) -> Result<Now, AllocError>
         requires place { place < length self.old.calls.entries }
@@ -232,7 +232,7 @@ impl Machine {
         table: &Table,
         types: &Types,
         place: usize,
-        left: usize,
+        left: u32,
         body: Id,
     ) -> Result<Now, AllocError>
         requires place { place < length self.old.calls.entries }
@@ -261,7 +261,7 @@ impl Machine {
         table: &Table,
         types: &Types,
         place: usize,
-        left: usize,
+        left: u32,
         made: Result<Id, TermRefused>,
     ) -> Result<Now, AllocError>
         requires place { place < length self.old.calls.entries }

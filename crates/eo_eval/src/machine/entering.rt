@@ -26,7 +26,7 @@ impl Machine {
         types: &mut Types,
         id: Id,
         code: OpCode,
-        left: usize,
+        left: u32,
     ) -> Result<Now, AllocError>
         requires ready { Ready sig.now table.old types.old self.old (next.Enter id left) }
         requires operator { Op code (arguments_of (tree_in table.old id)) ≡ tree_in table.old id }
@@ -50,7 +50,7 @@ impl Machine {
         types: &mut Types,
         id: Id,
         op: OpName,
-        left: usize,
+        left: u32,
     ) -> Result<Now, AllocError>
         requires ready { Ready sig.now table.old types.old self.old (next.Enter id left) }
         requires operator { Op (code.Builtin op) (arguments_of (tree_in table.old id)) ≡ tree_in table.old id }

@@ -11,13 +11,13 @@ ghost use Rattle.eo_eval.specs.Machine.{is_call, parts_of};
 ghost use Rattle.eo_eval.specs.Ready.{Ready, Gathering, IsNextPart, told_in, told_rest};
 ghost use Rattle.eo_eval.specs.Scopes.{entered, IsValueSlot};
 
-use crate::calls::CallKey;
+use crate::calls::{Args, CallKey};
 use crate::machine::Machine;
 use crate::machine::results::{ended, program_of};
 use crate::operators::made;
 use crate::stack::{Frame, Now};
 use eo_sig::Signature;
-use eo_term::{Id, Node, Table};
+use eo_term::{Id, Node, Table, arguments_law};
 use eo_type::Types;
 use std::alloc::AllocError;
 
@@ -32,8 +32,8 @@ impl Machine {
         types: &mut Types,
         id: Id,
         base: usize,
-        deepest: usize,
-        left: usize,
+        deepest: u32,
+        left: u32,
     ) -> Result<Now, AllocError>
         requires gathering { Gathering sig.now table.old types.old self.old id base deepest }
         ensures told { IfOk result (λ n. told_in sig.now table.new self.new n ≡ told_rest sig.now table.old self.old id base left) }
@@ -69,7 +69,7 @@ impl Machine {
         types: &Types,
         id: Id,
         base: usize,
-        deepest: usize,
+        deepest: u32,
     ) -> Result<Option<Id>, AllocError>
         requires gathering { Gathering sig.now table.now types.now self.old id base deepest }
         ensures gathering { IfOk result (λ o. Gathering sig.now table.now types.now self.new id base deepest) }
@@ -106,7 +106,7 @@ impl Machine {
         types: &Types,
         id: Id,
         base: usize,
-        deepest: usize,
+        deepest: u32,
         parts: &[Id],
     ) -> Result<Option<Id>, AllocError>
         requires gathering { Gathering sig.now table.now types.now self.old id base deepest }
@@ -117,6 +117,7 @@ impl Machine {
             ≡ told_rest sig.now table.now self.old id base left) }
         ensures next { IfOk result (IsNextPart table.now self.new id base) }
     {
+        arguments_law();
         let first = self.stack.values.len() - base;
         for i in first..parts.len() {
             match self.ready(table, parts[i]) {
@@ -157,8 +158,8 @@ impl Machine {
         program: usize,
         id: Id,
         base: usize,
-        deepest: usize,
-        left: usize,
+        deepest: u32,
+        left: u32,
     ) -> Result<Now, AllocError>
         requires program { Op (code.Prog program) (arguments_of (tree_in table.old id)) ≡ tree_in table.old id }
         requires all { length (drop base self.old.stack.values.items) ≡ count_of (parts_of (tree_in table.old id)) }
@@ -167,7 +168,7 @@ impl Machine {
         ensures ready { IfOk result (λ n. Ready sig.now table.new types.now self.new n) }
         ensures grows { GrowsUnder sig.now table.old table.new }
     {
-        let args = self.stack.values.as_slice()[base..].to_vec(self.alloc)?;
+        let args = Args::new(self.alloc, &self.stack.values.as_slice()[base..])?;
         self.stack.cut(base);
         self.stack.wait(Frame::Handed { id, deepest })?;
         self.call(sig, table, types, CallKey { program, args }, left)
@@ -181,8 +182,8 @@ impl Machine {
         types: &mut Types,
         id: Id,
         base: usize,
-        deepest: usize,
-        left: usize,
+        deepest: u32,
+        left: u32,
     ) -> Result<Now, AllocError>
         requires kind { is_call (tree_in table.old id) ≡ false }
         requires all { length (drop base self.old.stack.values.items) ≡ count_of (parts_of (tree_in table.old id)) }

@@ -38,7 +38,7 @@ impl Machine {
     }
 
     // What is remembered of a term, where so many calls may open.
-    pub(crate) fn recalled(&self, table: &Table, id: Id, left: usize) -> Option<Now>
+    pub(crate) fn recalled(&self, table: &Table, id: Id, left: u32) -> Option<Now>
         requires { id < length table.now.trees }
         ensures { (S : spec.Signature) (most : ℕ) → let ts = table.now.trees in
             Remembers S most ts self.now.calls.entries self.now.terms.entries self.now.locals.entries →
@@ -101,7 +101,7 @@ impl Machine {
         table: &Table,
         id: Id,
         outcome: &Outcome,
-        deepest: usize,
+        deepest: u32,
     ) -> Result<(), AllocError>
         requires { id < length table.now.trees }
         ensures frames { self.new.stack.frames.items ≡ self.old.stack.frames.items }
@@ -175,7 +175,7 @@ impl Machine {
 }
 
 // What is remembered, where so many calls may open.
-pub(crate) fn used(known: Known, left: usize) -> Option<Now>
+pub(crate) fn used(known: Known, left: u32) -> Option<Now>
     ensures { (ts : List Tree) (b : Begun) (F : Family) → IsKnown ts b F known → IfSome result (λ n. Recalls ts b F left n) }
 {
     match known {

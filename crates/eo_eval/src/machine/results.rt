@@ -111,8 +111,8 @@ impl Machine {
         types: &mut Types,
         id: Id,
         base: usize,
-        before: usize,
-        left: usize,
+        before: u32,
+        left: u32,
         now: &Now,
     ) -> Result<Now, AllocError>
         requires result { IsResult now.now }
@@ -147,7 +147,7 @@ impl Machine {
         table: &Table,
         types: &Types,
         id: Id,
-        left: usize,
+        left: u32,
         now: &Now,
     ) -> Result<Now, AllocError>
         requires result { IsResult now.now }
@@ -197,7 +197,7 @@ impl Machine {
         table: &Table,
         types: &Types,
         id: Id,
-        left: usize,
+        left: u32,
         now: &Now,
     ) -> Result<Now, AllocError>
         requires result { IsResult now.now }
@@ -241,7 +241,7 @@ impl Machine {
         table: &Table,
         types: &Types,
         id: Id,
-        left: usize,
+        left: u32,
         now: &Now,
     ) -> Result<Now, AllocError>
         requires result { IsResult now.now }
@@ -291,8 +291,8 @@ impl Machine {
         types: &Types,
         id: Id,
         first: Id,
-        before: usize,
-        left: usize,
+        before: u32,
+        left: u32,
         now: &Now,
     ) -> Result<Now, AllocError>
         requires result { IsResult now.now }
@@ -388,7 +388,7 @@ impl Machine {
         now: &Now,
         other: Frame,
         part: Id,
-        left: usize,
+        left: u32,
     ) -> Result<Now, AllocError>
         requires before { HasNoValues frame.now }
         requires after { HasNoValues other }
@@ -412,7 +412,7 @@ impl Machine {
         id: Id,
         frame: Frame,
         part: Id,
-        left: usize,
+        left: u32,
     ) -> Result<Now, AllocError>
         requires frame { HasNoValues frame }
         requires ready { Ready sig.now table.now types.now self.old (next.Enter id left) }
@@ -427,7 +427,7 @@ impl Machine {
 }
 
 // What is done next after a node has ended so.
-pub(crate) fn ended(outcome: &Outcome, deepest: usize) -> Now
+pub(crate) fn ended(outcome: &Outcome, deepest: u32) -> Now
     ensures { result ≡ now_of outcome.now deepest }
 {
     match *outcome {

@@ -6,7 +6,7 @@ ghost use Rattle.eo_lists.specs.Outcomes.{IsListOperator};
 
 use crate::list_op;
 use eo_base::Name;
-use eo_sig::{Attribute, ConstDecl, Params, Signature};
+use eo_sig::{Attribute, ConstDecl, Params, Signature, growth_law};
 use eo_term::{BOOL, FALSE, Id, Ids, Node, OpName, Table, TermRefused};
 use std::alloc::Global;
 use std::marker::Model;
@@ -198,6 +198,7 @@ fn first_table(alloc: Global) -> Result<Table, Fail>
 fn first_signature(alloc: Global) -> Result<Signature, Fail>
     ensures { IfOk result (λ s. (n : ℕ) → 4 ≤ n → IsBelow n s) }
 {
+    growth_law();
     Ok(Signature::new(alloc)?)
 }
 

@@ -2,6 +2,7 @@
 ghost use Rattle.std.specs.Prelude.{◌≡◌, ℕ, ◌<◌, ◌≤◌, [], ◌∷◌, length, take, All, IfOk, OnOk, OnErr};
 ghost use Rattle.eo_term.specs.Terms.{tree_at, IsMark};
 ghost use Rattle.eo_term.specs.Carry.{Carried};
+ghost use Rattle.eo_term.specs.Growth.{GoesBack};
 
 use super::Table;
 use crate::carry::{kept_entries, move_ids, needed_entries, new_places, put_entries};
@@ -9,12 +10,14 @@ use crate::{Id, Mark};
 use std::alloc::AllocError;
 
 impl Table {
-    /// Drops the terms and the texts that were made after the mark. Older ones stay as they are.
+    /// Drops the terms and the texts that were made after the mark. Older ones stay as they are: a
+    /// call that is refused gives back what it made, and leaves the table as it was.
     pub fn release(&mut self, mark: Mark)
         requires { IsMark self.old mark }
         ensures trees { self.new.trees ≡ take mark.0 self.old.trees }
         ensures texts { self.new.texts ≡ take mark.1 self.old.texts }
         ensures marks { (m : ℕ × ℕ) → m.0 ≤ mark.0 → m.1 ≤ mark.1 → IsMark self.old m → IsMark self.new m }
+        ensures back { GoesBack self.old mark self.new }
     {
         self.nodes.cut(mark.terms);
         self.texts.truncate(mark.texts);

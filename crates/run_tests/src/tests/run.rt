@@ -12,7 +12,8 @@ const TEXT: usize = 1_000;
 /// What a session answers.
 #[derive(Clone, Copy, Debug, PartialEq, Eq)]
 pub(super) enum Answer {
-    Done,
+    /// It is accepted, and so many terms are alive then.
+    Done(usize),
     Fault(FaultName),
     Ended,
 }
@@ -75,7 +76,7 @@ pub(super) fn tell<T, F: FnOnce(&mut Run) -> Result<T, Fail>>(
 // What a session answers to the command of a text.
 fn told(session: &mut Session, text: &Text) -> Result<Answer, Fail> {
     match session.command(&text.sexp(), Origin::Proof(0)) {
-        Ok(_) => Ok(Answer::Done),
+        Ok(_) => Ok(Answer::Done(session.live())),
         Err(Refused::Fault(name)) => Ok(Answer::Fault(name)),
         Err(Refused::Ended) => Ok(Answer::Ended),
         Err(Refused::Memory(e)) => Err(e.into()),

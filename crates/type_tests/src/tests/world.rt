@@ -7,7 +7,7 @@ ghost use Rattle.eo_type.specs.Known.{Fit};
 
 use eo_base::Name;
 use eo_sig::{Attribute, ConstDecl, LiteralClass, Params, SigRefused, Signature, growth_law};
-use eo_term::{Id, Node, OpCode, OpName, TYPE, Table, TermRefused};
+use eo_term::{BOOL, Id, Node, OpCode, OpName, TYPE, Table, TermRefused};
 use eo_type::{TypeRefused, Types, settle};
 use std::alloc::Global;
 use std::marker::Model;
@@ -165,6 +165,20 @@ impl World {
         Ok(types.type_of(&self.sig, &mut self.table, id))
     }
 
+    /// Whether the type of a term is the same when it is asked for again, and nothing is made for it.
+    pub(super) fn is_kept(&mut self, id: Id) -> Result<bool, Fail> {
+        let id = live(&self.table, id)?;
+        let mut types = Types::new(self.alloc)?;
+        is_kept(&mut types, &self.sig, &mut self.table, id)
+    }
+
+    /// Whether a variable of type `Bool`, and then a function type that is made with its number once
+    /// the variable is given back, have their types.
+    pub(super) fn have_types_in_turn(&mut self) -> Result<bool, Fail> {
+        let mut types = Types::new(self.alloc)?;
+        have_types_in_turn(&mut types, &self.sig, &mut self.table)
+    }
+
     /// The term to which a term is settled, if there is one.
     pub(super) fn settled(&mut self, id: Id) -> Result<Option<Id>, Fail> {
         let id = live(&self.table, id)?;
@@ -259,4 +273,52 @@ fn have_types(
         }
     }
     Ok(true)
+}
+
+// Whether the type of a term is the same when it is asked for again, and nothing is made for it.
+fn is_kept(types: &mut Types, sig: &Signature, table: &mut Table, id: Id) -> Result<bool, Fail>
+    requires live { id < length table.old.trees }
+    requires fits { Fit sig.now table.old types.old }
+    ensures more { length table.old.trees ≤ length table.new.trees }
+{
+    let first = types.type_of(sig, table, id)?;
+    let terms = table.len();
+    let again = types.type_of(sig, table, id)?;
+    Ok(first.is_some() && again == first && table.len() == terms)
+}
+
+// Whether a variable of type `Bool`, and then a function type with its number, have their types.
+fn have_types_in_turn(types: &mut Types, sig: &Signature, table: &mut Table) -> Result<bool, Fail>
+    requires { Fit sig.now table.old types.old }
+    ensures more { length table.old.trees ≤ length table.new.trees }
+{
+    let name = table.text(&[120])?;
+    let ty = live(table, BOOL)?;
+    let (first, of_first) = typed_for_now(types, sig, table, Node::Var { name, ty })?;
+    let (second, of_second) = typed_for_now(types, sig, table, Node::Arr { from: ty, to: ty })?;
+    Ok(first == second && of_first == Some(BOOL) && of_second == Some(TYPE))
+}
+
+// The number and the type of the term with this root, which is given back.
+fn typed_for_now(
+    types: &mut Types,
+    sig: &Signature,
+    table: &mut Table,
+    node: Node,
+) -> Result<(Id, Option<Id>), Fail>
+    requires plain { IsPlain node }
+    requires parts { PartsBelow (length table.old.trees) node }
+    requires texts { TextsBelow (length table.old.texts) node }
+    requires proper { IsProper node }
+    requires fits { Fit sig.now table.old types.old }
+    ensures fits { OnOk result (Fit sig.now table.new types.new) }
+    ensures more { length table.old.trees ≤ length table.new.trees }
+{
+    types.laws();
+    let mark = table.mark();
+    let id = table.intern(node)?;
+    let ty = types.type_of(sig, table, id)?;
+    table.release(mark);
+    types.forget(mark);
+    Ok((id, ty))
 }

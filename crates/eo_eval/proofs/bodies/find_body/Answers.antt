@@ -1,26 +1,21 @@
-use Rattle.std.proofs.Common.{◌≡◌, ◌∙◌, length, sym, ap, subst, arith, All}
+use Rattle.std.proofs.Common.{length, sym, ap, subst, arith, All}
 use Rattle.std.specs.Option.{option_and_then}
-use Rattle.std.proofs.lemmas.List.{length-map}
 use Rattle.std.proofs.lemmas.Option.{slice_get_past}
 use Rattle.eo_term.specs.Growth.{trees_in}
-use Rattle.eo_sig.specs.Reading.{CaseBelow, signature, read_program, programs_of}
+use Rattle.eo_sig.specs.Reading.{CaseBelow, signature}
 use Rattle.eo_sig.specs.Signature as sig
-use Rattle.eo_sig.proofs.Readings.{programs_read}
 use Rattle.eo_eval.specs.Bodies.{first_case}
 use Rattle.eo_eval.proofs.bodies.find_body.Goals as goal
 
 pub returns-then-program-programs : goal.returns-then-program-programs
 returns-then-program-programs c =
     let t = c.args.table.now in
-    let past = slice_get_past (sig.programs (signature t.trees c.args.sig.now)) c.args.program (omega (arith, c.programs.ensures t.trees, c.if-program-programs.true)) in
+    let past = slice_get_past (sig.programs (signature t.trees c.args.sig.now)) c.args.program (omega (arith, c.programs.ensures.value t.trees, c.if-program-programs.true)) in
     record { found = ap (option_and_then (λ (p : sig.Program). first_case p.cases (trees_in t c.args.args.now))) past }
 
 pub program-requires : goal.program-requires
 program-requires c =
-    let ts = c.args.table.now.trees in
-    let k = c.args.sig.now in
-    let same : length (sig.programs (signature ts k)) ≡ length (programs_of k) = ap length (programs_read ts k.entries) ∙ length-map (programs_of k) (read_program ts) in
-    omega (arith, same, c.programs.ensures ts, c.if-program-programs.false)
+    omega (arith, c.programs.ensures.count, c.if-program-programs.false)
 
 pub first_body-requires-clause-cases : goal.first_body-requires-clause-cases
 first_body-requires-clause-cases c =

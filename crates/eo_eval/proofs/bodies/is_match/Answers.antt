@@ -2,7 +2,6 @@ use Rattle.std.proofs.Common.{sym, subst}
 use Rattle.eo_term.specs.Growth.{trees_in}
 use Rattle.eo_pattern.specs.Matching.{empty, Matches}
 use Rattle.eo_pattern.specs.Slots.{held}
-use Rattle.eo_type.proofs.Assigned.{no_matching}
 use Rattle.eo_eval.proofs.bodies.is_match.Goals as goal
 
 pub returns-clause-yes : goal.returns-clause-yes
@@ -18,4 +17,4 @@ returns-clause-no c = λ n.
     let t = c.args.table.now in
     let ps = trees_in t c.args.patterns.now in
     let us = trees_in t c.args.args.now in
-    no_matching empty ps us (λ ρ. c.matching_law.ensures.sound empty ρ ps us) (λ ρ m. c.match_terms.ensures.no n ρ (subst (λ σ. Matches σ ps us ρ) (sym c.in_ok-make_room.ensures.held) m))
+    c.matching_law.ensures.none empty ps us (λ ρ m. c.match_terms.ensures.no n ρ (subst (λ σ. Matches σ ps us ρ) (sym c.in_ok-make_room.ensures.held) m))

@@ -1,9 +1,9 @@
 use Rattle.std.proofs.Common.{◌<◌, ◌-◌, length, map, sym, ◌∙◌, arith}
+use Rattle.eo_base.proofs.Elements.{all_at}
 use Rattle.eo_term.specs.Tree.{Tree, is_tall}
 use Rattle.eo_term.specs.Terms.{tree_at}
 use Rattle.eo_lists.specs.Lists.{link, spell}
-use Rattle.eo_term.proofs.Building.{taller, tall_fault}
-use Rattle.eo_lists.proofs.Building.{grows_on, all_at, spell_step, spell_step_tall}
+use Rattle.eo_lists.proofs.Building.{grows_on, spell_step, spell_step_tall}
 use Rattle.eo_lists.proofs.build.build.Goals as goal
 
 pub returns-in_err-made-clause-gives : goal.returns-in_err-made-clause-gives
@@ -17,9 +17,9 @@ returns-in_err-made-clause-gives c =
     let same = v.grows.now.tree in
     let us = c.loop-left.table.trees in
     let whole : Tree = spell f (tree_at ts c.args.end) (map (tree_at ts) c.args.items.now) in
-    tall_fault _ _ _ _ c.from_residual.ensures.1
-    (taller c.in_err-made.field-0.0 _ (is_tall whole) (λ h. spell_step_tall f (tree_at ts c.args.end) ts c.args.items.now i c.loop-left.left a (tree_at c.loop-left.table.trees c.loop-left.made) (omega (arith, c.loop-left-test.true)) v.within c.index-items-left.is v.tree
-    ((λ k. is_tall (link (sym (same c.args.fun c.requires.fun) k) (sym (same a live) k) (tree_at c.loop-left.table.trees c.loop-left.made))) ∙ h)) c.in_err-made.ensures.gives)
+    c.builds_law.ensures.term _ _ whole _ _ c.from_residual.ensures.1
+    (λ h. spell_step_tall f (tree_at ts c.args.end) ts c.args.items.now i c.loop-left.left a (tree_at c.loop-left.table.trees c.loop-left.made) (omega (arith, c.loop-left-test.true)) v.within c.index-items-left.is v.tree
+    ((λ k. is_tall (link (sym (same c.args.fun c.requires.fun) k) (sym (same a live) k) (tree_at c.loop-left.table.trees c.loop-left.made))) ∙ h)) c.in_err-made.ensures.gives
 
 pub returns-in_err-made-clause-grows : goal.returns-in_err-made-clause-grows
 returns-in_err-made-clause-grows c = grows_on _ _ _ c.loop-left.invariant.grows c.put_before.ensures.grows

@@ -1,10 +1,10 @@
 use Rattle.std.proofs.Common.{◌<◌, length, map, fold, sym, ◌∙◌, arith}
+use Rattle.eo_base.proofs.Elements.{all_at}
 use Rattle.eo_term.specs.Tree.{Tree, is_tall}
 use Rattle.eo_term.specs.Terms.{tree_at}
 use Rattle.eo_lists.specs.Lists.{link}
 use Rattle.eo_lists.specs.Parts.{onto}
-use Rattle.eo_term.proofs.Building.{taller, tall_fault}
-use Rattle.eo_lists.proofs.Building.{grows_on, all_at, onto_step, onto_step_tall}
+use Rattle.eo_lists.proofs.Building.{grows_on, onto_step, onto_step_tall}
 use Rattle.eo_lists.proofs.build.build_reversed.Goals as goal
 
 pub returns-in_err-made-clause-gives : goal.returns-in_err-made-clause-gives
@@ -17,9 +17,9 @@ returns-in_err-made-clause-gives c =
     let now : Tree = tree_at c.loop-item.table.trees c.loop-item.made in
     let us = c.loop-item.table.trees in
     let whole : Tree = fold (onto f) (tree_at ts c.args.end) (map (tree_at ts) c.args.items.now) in
-    tall_fault _ _ _ _ c.from_residual.ensures.1
-    (taller c.in_err-made.field-0.0 _ (is_tall whole) (λ h. onto_step_tall f ts c.args.items.now c.loop-item.item-index a now (link f (tree_at ts a) now) whole (omega arith) c.item-item.is v.tree (λ k. link f (tree_at ts a) now)
-    ((λ k. is_tall (link (sym (v.grows.now.tree c.args.fun c.requires.fun) k) (sym (v.grows.now.tree a live) k) now)) ∙ h)) c.in_err-made.ensures.gives)
+    c.builds_law.ensures.term _ _ whole _ _ c.from_residual.ensures.1
+    (λ h. onto_step_tall f ts c.args.items.now c.loop-item.item-index a now (link f (tree_at ts a) now) whole (omega arith) c.item-item.is v.tree (λ k. link f (tree_at ts a) now)
+    ((λ k. is_tall (link (sym (v.grows.now.tree c.args.fun c.requires.fun) k) (sym (v.grows.now.tree a live) k) now)) ∙ h)) c.in_err-made.ensures.gives
 
 pub returns-in_err-made-clause-grows : goal.returns-in_err-made-clause-grows
 returns-in_err-made-clause-grows c = grows_on _ _ _ c.loop-item.invariant.grows c.put_before.ensures.grows

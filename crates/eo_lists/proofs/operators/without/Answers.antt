@@ -4,7 +4,6 @@ use Rattle.eo_term.specs.Terms.{tree_at}
 use Rattle.eo_term.specs.Tree.{Tree, is_tall}
 use Rattle.eo_lists.specs.Lists.{spell}
 use Rattle.eo_term.specs.Builds.{Builds, TallWhere}
-use Rattle.eo_term.proofs.Building.{taller, tall_fault}
 use Rattle.eo_lists.proofs.Building.{second_tall, spell_append, front_grown}
 use Rattle.eo_lists.proofs.operators.without.Goals as goal
 
@@ -20,9 +19,9 @@ returns-in_err-rest-clause-gives c =
     let cut : take (length c.args.items.now - (c.args.place + 1)) after ≡ back =
     take_all (length c.args.items.now - (c.args.place + 1)) after (omega (arith, length-drop (c.args.place + 1) c.args.items.now)) ∙ ap (λ (j : ℕ). drop j c.args.items.now) next in
     let whole : Tree = spell f n (map (tree_at ts) (front ++ back)) in
-    tall_fault _ _ _ _ c.from_residual.ensures.1
-    (taller c.in_err-rest.field-0.0 _ (is_tall whole) (λ h. ap (λ us. is_tall (spell f n us)) (map-append (tree_at ts) front back) ∙ second_tall f n (map (tree_at ts) front) (map (tree_at ts) back) h)
-    (subst (λ is. TallWhere c.in_err-rest.field-0.0 (is_tall (spell f n (map (tree_at ts) is)))) cut c.in_err-rest.ensures.gives))
+    c.builds_law.ensures.term _ _ whole _ _ c.from_residual.ensures.1
+    (λ h. ap (λ us. is_tall (spell f n us)) (map-append (tree_at ts) front back) ∙ second_tall f n (map (tree_at ts) front) (map (tree_at ts) back) h)
+    (subst (λ is. TallWhere c.in_err-rest.field-0.0 (is_tall (spell f n (map (tree_at ts) is)))) cut c.in_err-rest.ensures.gives)
 
 pub returns-clause-gives : goal.returns-clause-gives
 returns-clause-gives c =

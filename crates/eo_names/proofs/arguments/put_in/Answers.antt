@@ -1,9 +1,9 @@
 use Rattle.std.proofs.Common.{◌<◌, length, ap, subst, ◌∙◌, arith}
 use Rattle.std.specs.Prelude.{option_map}
+use Rattle.eo_base.proofs.Elements.{all_at}
 use Rattle.eo_pattern.specs.Matching.{put}
 use Rattle.eo_pattern.specs.Slots.{held}
 use Rattle.eo_term.specs.Terms.{tree_at}
-use Rattle.eo_names.proofs.FoldLemmas.{all_at}
 use Rattle.eo_names.proofs.UsageLemmas.{none_held, assigned, all_held}
 use Rattle.eo_term.specs.Builds.{Builds}
 use Rattle.eo_names.proofs.Giving.{builds_put}

@@ -1,14 +1,15 @@
 use Rattle.std.proofs.Common.{◌≡◌, length, ap, sym, subst, ◌∙◌, arith, add-one, rules}
+use Rattle.std.proofs.lemmas.Result.{err_from_is_err_and}
 use Rattle.eo_names.specs.Names.{read_pairs, BindingsBelow}
 use Rattle.eo_names.proofs.BinderLemmas.{turned, one_turned, all_turned, one_tall, length-with_term, with_term_below, length_pairs}
 use Rattle.eo_names.proofs.BindingLemmas.{pairs_grown, bindings_more}
-use Rattle.eo_term.proofs.Building.{taller, tall_fault}
 use Rattle.eo_names.proofs.binders.make_variables.Goals as goal
 
 pub returns-in_err-id-clause-binds : goal.returns-in_err-id-clause-binds
 returns-in_err-id-clause-binds c =
-    tall_fault _ _ _ _ c.from_residual.ensures.1
-    (taller c.in_err-id.field-0.0 _ _ (λ h. one_tall c.loop-i.table.trees c.get-ty.result.0.now c.get-ty.result.1 c.loop-i.i c.loop-i.names (read_pairs c.args.table.now.trees c.args.names.now) c.get-ty.ensures c.loop-i.invariant.names (h)) c.in_err-id.ensures.gives)
+    let e = err_from_is_err_and c.from_residual.result c.from_residual.ensures.1 in
+    rw (e.1, e.2)
+    (c.builds_law.ensures.taller c.in_err-id.field-0.0 _ _ (λ h. one_tall c.loop-i.table.trees c.get-ty.result.0.now c.get-ty.result.1 c.loop-i.i c.loop-i.names (read_pairs c.args.table.now.trees c.args.names.now) c.get-ty.ensures c.loop-i.invariant.names (h)) c.in_err-id.ensures.gives)
 
 pub loop-i-preserved : goal.loop-i-preserved
 loop-i-preserved c =

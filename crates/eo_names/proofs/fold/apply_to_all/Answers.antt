@@ -1,9 +1,9 @@
 use Rattle.std.proofs.Common.{◌<◌, length, map, ap, sym, ◌∙◌, arith, rules}
+use Rattle.eo_base.proofs.Elements.{all_at}
 use Rattle.eo_term.specs.Tree.{Tree, App, is_tall}
 use Rattle.eo_term.specs.Terms.{tree_at}
 use Rattle.eo_names.specs.Folding.{applied}
-use Rattle.eo_names.proofs.FoldLemmas.{tall_first, left_turn, left_tall, all_at}
-use Rattle.eo_term.proofs.Building.{taller, tall_fault}
+use Rattle.eo_names.proofs.FoldLemmas.{tall_first, left_turn, left_tall}
 use Rattle.eo_names.proofs.fold.apply_to_all.Goals as goal
 
 pub apply-requires-clause-a : goal.apply-requires-clause-a
@@ -17,9 +17,9 @@ returns-in_err-made-clause-gives c =
     let v = c.loop-a.invariant in
     let live : c.a-item.result < length ts = all_at (λ j. j < length ts) c.args.args.now c.loop-a.a-index c.a-item.result c.requires.args (omega arith) c.a-item.is in
     let now : Tree = tree_at c.loop-a.table.trees c.loop-a.made in
-    tall_fault _ _ _ _ c.from_residual.ensures.1
-    (taller c.in_err-made.field-0.0 _ _ (λ h. left_tall App ts c.args.args.now tall_first c.loop-a.a-index c.a-item.result now (App now (tree_at ts c.a-item.result)) (applied (tree_at ts c.args.f) (map (tree_at ts) c.args.args.now)) (omega arith) c.a-item.is v.tree (λ k. App now (tree_at ts c.a-item.result))
-    (ap (λ u. is_tall (App now u)) (sym (v.grows.now.tree c.a-item.result live)) ∙ h)) c.in_err-made.ensures.gives)
+    c.builds_law.ensures.term _ _ _ _ _ c.from_residual.ensures.1
+    (λ h. left_tall App ts c.args.args.now tall_first c.loop-a.a-index c.a-item.result now (App now (tree_at ts c.a-item.result)) (applied (tree_at ts c.args.f) (map (tree_at ts) c.args.args.now)) (omega arith) c.a-item.is v.tree (λ k. App now (tree_at ts c.a-item.result))
+    (ap (λ u. is_tall (App now u)) (sym (v.grows.now.tree c.a-item.result live)) ∙ h)) c.in_err-made.ensures.gives
 
 pub loop-a-preserved : goal.loop-a-preserved
 loop-a-preserved c =

@@ -1,11 +1,10 @@
 use Rattle.std.proofs.Common.{◌≡◌, ◌+◌, ◌<◌, List, [], ◌∷◌, ◌++◌, length, map, All, drop, sym, subst, ◌∙◌, arith, rules}
+use Rattle.std.proofs.lemmas.Result.{err_from_is_err_and}
 use Rattle.eo_term.specs.Tree.{Tree, is_tall}
 use Rattle.eo_term.specs.Terms.{tree_at}
 use Rattle.eo_names.specs.Folding.{applied_to_two}
-use Rattle.eo_names.proofs.FoldLemmas.{all_at}
-use Rattle.eo_base.proofs.Elements.{push_below}
+use Rattle.eo_base.proofs.Elements.{push_below, all_at}
 use Rattle.eo_names.proofs.JoinLemmas.{push_grown, one_more, map_turn, map_tall}
-use Rattle.eo_term.proofs.Building.{taller, tall_fault}
 use Rattle.eo_names.proofs.joins.add_pairs.Goals as goal
 
 pub returns-in_err-pair-clause-adds : goal.returns-in_err-pair-clause-adds
@@ -14,8 +13,9 @@ returns-in_err-pair-clause-adds c =
     let v = c.loop-b.invariant in
     let b = c.b-item.result in
     let live : b < length ts = all_at (λ j. j < length ts) c.args.others.now c.loop-b.b-index b c.requires.others (omega arith) c.b-item.is in
-    tall_fault _ _ _ _ c.from_residual.ensures.1
-    (taller c.in_err-pair.field-0.0 _ _ (λ h. map_tall (applied_to_two (tree_at ts c.args.f) (tree_at ts c.args.a)) ts c.args.others.now c.loop-b.b-index b (omega arith) c.b-item.is
+    let e = err_from_is_err_and c.from_residual.result c.from_residual.ensures.1 in
+    rw (e.1, e.2)
+    (c.builds_law.ensures.taller c.in_err-pair.field-0.0 _ _ (λ h. map_tall (applied_to_two (tree_at ts c.args.f) (tree_at ts c.args.a)) ts c.args.others.now c.loop-b.b-index b (omega arith) c.b-item.is
     ((λ k. is_tall (applied_to_two (sym (v.grows.now.tree c.args.f c.requires.f) k) (sym (v.grows.now.tree c.args.a c.requires.a) k) (sym (v.grows.now.tree b live) k))) ∙ h)) c.in_err-pair.ensures.gives)
 
 pub loop-b-preserved : goal.loop-b-preserved

@@ -2,10 +2,8 @@ use Rattle.std.proofs.Common.{◌≡◌, ◌+◌, ◌-◌, ◌<◌, List, [], �
 use Rattle.eo_term.specs.Tree.{Tree, is_tall}
 use Rattle.eo_term.specs.Terms.{tree_at}
 use Rattle.eo_names.specs.Folding.{applied_to_two, links}
-use Rattle.eo_names.proofs.FoldLemmas.{all_at}
-use Rattle.eo_base.proofs.Elements.{push_below}
+use Rattle.eo_base.proofs.Elements.{push_below, all_at}
 use Rattle.eo_names.proofs.JoinLemmas.{push_grown, one_more, one_tall, all_made, link_at, no_link}
-use Rattle.eo_term.proofs.Building.{taller, tall_fault}
 use Rattle.eo_names.proofs.joins.neighbours.Goals as goal
 
 pub returns-in_err-link-clause-gives : goal.returns-in_err-link-clause-gives
@@ -21,10 +19,10 @@ returns-in_err-link-clause-gives c =
     let live_b : b < length ts = all_at (λ j. j < length ts) args i b c.requires.args (omega arith) c.index-args-i-in-loop-i.is in
     let now = map (tree_at c.loop-i.table.trees) c.loop-i.made in
     let t : Tree = applied_to_two f (tree_at ts a) (tree_at ts b) in
-    tall_fault _ _ _ _ c.from_residual.ensures.1
-    (taller c.in_err-link.field-0.0 _ _ (λ h. one_tall now t (links f (drop i (map (tree_at ts) args))) (links f (map (tree_at ts) args))
+    c.builds_law.ensures.terms _ _ _ _ _ c.from_residual.ensures.1
+    (λ h. one_tall now t (links f (drop i (map (tree_at ts) args))) (links f (map (tree_at ts) args))
     ((λ k. now ++ sym (link_at f ts args i a b c.loop-i.auto.i (omega arith) c.index-args-i.is c.index-args-i-in-loop-i.is) k) ∙ v.trees)
-    ((λ k. is_tall (applied_to_two (sym (v.grows.now.tree c.args.f c.requires.f) k) (sym (v.grows.now.tree a live_a) k) (sym (v.grows.now.tree b live_b) k))) ∙ h)) c.in_err-link.ensures.gives)
+    ((λ k. is_tall (applied_to_two (sym (v.grows.now.tree c.args.f c.requires.f) k) (sym (v.grows.now.tree a live_a) k) (sym (v.grows.now.tree b live_b) k))) ∙ h)) c.in_err-link.ensures.gives
 
 pub loop-i-preserved : goal.loop-i-preserved
 loop-i-preserved c =

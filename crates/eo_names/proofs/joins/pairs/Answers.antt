@@ -1,12 +1,11 @@
 use Rattle.std.proofs.Common.{◌+◌, ◌-◌, ◌<◌, List, ◌++◌, length, map, drop, ap, sym, append_assoc, ◌∙◌, arith, rules}
 use Rattle.std.specs.List.{list_any}
 use Rattle.std.proofs.lemmas.List.Elements.{All-take, All-drop, All-weaker}
+use Rattle.eo_base.proofs.Elements.{all_at}
 use Rattle.eo_term.specs.Tree.{Tree, is_tall}
 use Rattle.eo_term.specs.Terms.{tree_at}
 use Rattle.eo_names.specs.Folding.{applied_to_two, all_pairs}
-use Rattle.eo_names.proofs.FoldLemmas.{all_at}
 use Rattle.eo_names.proofs.JoinLemmas.{pairs_grown, pairs_at, pairs_tall}
-use Rattle.eo_term.proofs.Building.{taller, tall_fault}
 use Rattle.eo_names.proofs.joins.pairs.Goals as goal
 
 pub returns-in_err-add_pairs-clause-gives : goal.returns-in_err-add_pairs-clause-gives
@@ -19,9 +18,9 @@ returns-in_err-add_pairs-clause-gives c =
     let f : Tree = tree_at ts c.args.f in
     let now = c.loop-i.table.trees in
     let live : a < length ts = all_at (λ j. j < length ts) args i a c.requires.args (omega arith) c.index-args-i.is in
-    tall_fault _ _ _ _ c.from_residual.ensures.1
-    (taller c.in_err-add_pairs.field-0.0 _ _ (λ h. pairs_tall f ts args i a (map (tree_at now) c.loop-i.made) (omega arith) c.index-args-i.is v.trees
-    (ap (list_any is_tall) (sym (pairs_grown (length ts) ts now v.grows.now.tree c.args.f a args (i + 1) c.requires.f live c.requires.args)) ∙ h)) c.in_err-add_pairs.ensures.adds)
+    c.builds_law.ensures.terms _ _ _ _ _ c.from_residual.ensures.1
+    (λ h. pairs_tall f ts args i a (map (tree_at now) c.loop-i.made) (omega arith) c.index-args-i.is v.trees
+    (ap (list_any is_tall) (sym (pairs_grown (length ts) ts now v.grows.now.tree c.args.f a args (i + 1) c.requires.f live c.requires.args)) ∙ h)) c.in_err-add_pairs.ensures.adds
 
 pub loop-i-preserved : goal.loop-i-preserved
 loop-i-preserved c =

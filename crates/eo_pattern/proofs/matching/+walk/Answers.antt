@@ -2,7 +2,6 @@ use Rattle.std.proofs.Common.{◌≡◌, ℕ, ◌<◌, ◌+◌, true, ◌∷◌,
 use Rattle.eo_term.specs.Tree.{Trees, to_list, occurs}
 use Rattle.eo_term.specs.Arguments.{arguments_of, from}
 use Rattle.eo_term.specs.Terms.{tree_at}
-use Rattle.eo_term.proofs.Arguments.{next, past}
 use Rattle.eo_pattern.specs.Slots.{held}
 use Rattle.eo_pattern.proofs.Steps.{still_matched, more_matched, matches_again, leads_refl, leads_step, leads_none, leads_end, argument_occurs, keeps_trans, leads_at}
 use Rattle.std.proofs.lemmas.Bool.Decides.{Decides-eqb}
@@ -41,8 +40,8 @@ match_args-returns-then-not-match_one-clause-no t c = λ _ ρ m.
     let ts = c.args.table.now.trees in
     let ps : Trees = arguments_of (tree_at ts c.args.pattern) in
     let us : Trees = arguments_of (tree_at ts c.args.term) in
-    let p : to_list (from c.loop-i.i ps) ≡ tree_at ts c.arg.result ∷ to_list (from (c.loop-i.i + 1) ps) = ap to_list (next ps c.loop-i.i (omega (arith, c.requires.pairs.count))) ∙ ap (λ z. z ∷ to_list (from (c.loop-i.i + 1) ps)) (sym c.arg.ensures.tree) in
-    let u : to_list (from c.loop-i.i us) ≡ tree_at ts c.arg-in-loop-i.result ∷ to_list (from (c.loop-i.i + 1) us) = ap to_list (next us c.loop-i.i (omega (arith, c.requires.pairs.same))) ∙ ap (λ z. z ∷ to_list (from (c.loop-i.i + 1) us)) (sym c.arg-in-loop-i.ensures.tree) in
+    let p : to_list (from c.loop-i.i ps) ≡ tree_at ts c.arg.result ∷ to_list (from (c.loop-i.i + 1) ps) = ap to_list (c.arguments_law.ensures.next ps c.loop-i.i (omega (arith, c.requires.pairs.count))) ∙ ap (λ z. z ∷ to_list (from (c.loop-i.i + 1) ps)) (sym c.arg.ensures.tree) in
+    let u : to_list (from c.loop-i.i us) ≡ tree_at ts c.arg-in-loop-i.result ∷ to_list (from (c.loop-i.i + 1) us) = ap to_list (c.arguments_law.ensures.next us c.loop-i.i (omega (arith, c.requires.pairs.same))) ∙ ap (λ z. z ∷ to_list (from (c.loop-i.i + 1) us)) (sym c.arg-in-loop-i.ensures.tree) in
     leads_none _ _ _ _ _ _ _ _ (leads_at _ _ _ _ _ _ _ _ p u c.loop-i.invariant.leads) (c.match_one.ensures.no c.if-not-match_one.true) ρ m
 
 pub match_args-loop-i-preserved : goal.match_args-loop-i-preserved
@@ -50,8 +49,8 @@ match_args-loop-i-preserved t c =
     let ts = c.args.table.now.trees in
     let ps : Trees = arguments_of (tree_at ts c.args.pattern) in
     let us : Trees = arguments_of (tree_at ts c.args.term) in
-    let p : to_list (from c.loop-i.i ps) ≡ tree_at ts c.arg.result ∷ to_list (from (c.loop-i.i + 1) ps) = ap to_list (next ps c.loop-i.i (omega (arith, c.requires.pairs.count))) ∙ ap (λ z. z ∷ to_list (from (c.loop-i.i + 1) ps)) (sym c.arg.ensures.tree) in
-    let u : to_list (from c.loop-i.i us) ≡ tree_at ts c.arg-in-loop-i.result ∷ to_list (from (c.loop-i.i + 1) us) = ap to_list (next us c.loop-i.i (omega (arith, c.requires.pairs.same))) ∙ ap (λ z. z ∷ to_list (from (c.loop-i.i + 1) us)) (sym c.arg-in-loop-i.ensures.tree) in
+    let p : to_list (from c.loop-i.i ps) ≡ tree_at ts c.arg.result ∷ to_list (from (c.loop-i.i + 1) ps) = ap to_list (c.arguments_law.ensures.next ps c.loop-i.i (omega (arith, c.requires.pairs.count))) ∙ ap (λ z. z ∷ to_list (from (c.loop-i.i + 1) ps)) (sym c.arg.ensures.tree) in
+    let u : to_list (from c.loop-i.i us) ≡ tree_at ts c.arg-in-loop-i.result ∷ to_list (from (c.loop-i.i + 1) us) = ap to_list (c.arguments_law.ensures.next us c.loop-i.i (omega (arith, c.requires.pairs.same))) ∙ ap (λ z. z ∷ to_list (from (c.loop-i.i + 1) us)) (sym c.arg-in-loop-i.ensures.tree) in
     record {
       leads = leads_step _ _ _ _ _ _ _ _ (leads_at _ _ _ _ _ _ _ _ p u c.loop-i.invariant.leads) _ (c.match_one.ensures.yes c.if-not-match_one.false);
       matched = c.match_one.ensures.matched c.if-not-match_one.false;
@@ -63,7 +62,7 @@ match_args-returns-clause-yes t c = λ _.
     let ts = c.args.table.now.trees in
     let ps : Trees = arguments_of (tree_at ts c.args.pattern) in
     let us : Trees = arguments_of (tree_at ts c.args.term) in
-    leads_end _ _ _ _ (leads_at _ _ _ _ _ _ _ _ (ap to_list (past ps c.loop-i.i (omega (arith, c.requires.pairs.count)))) (ap to_list (past us c.loop-i.i (omega (arith, c.requires.pairs.same)))) c.loop-i.invariant.leads)
+    leads_end _ _ _ _ (leads_at _ _ _ _ _ _ _ _ (ap to_list (c.arguments_law.ensures.past ps c.loop-i.i (omega (arith, c.requires.pairs.count)))) (ap to_list (c.arguments_law.ensures.past us c.loop-i.i (omega (arith, c.requires.pairs.same)))) c.loop-i.invariant.leads)
 
 pub match_roots-match_par-requires-clause-room : goal.match_roots-match_par-requires-clause-room
 match_roots-match_par-requires-clause-room t c =

@@ -3,7 +3,6 @@ use Rattle.eo_term.specs.declared.OpCode.{OpCode}
 use Rattle.eo_term.specs.Tree.{Tree, Trees, Op, to_list, occurs}
 use Rattle.eo_term.specs.Arguments.{arguments_of}
 use Rattle.eo_term.specs.Terms.{tree_at}
-use Rattle.eo_term.proofs.Exact.{code_exact, code_same}
 use Rattle.eo_pattern.specs.Slots.{Leads}
 use Rattle.eo_pattern.proofs.Steps.{closed_equal, closed_differ, op_leads, op_same, args_occur}
 use Rattle.eo_pattern.proofs.matching.split_roots.Goals as goal
@@ -23,7 +22,7 @@ returns-then-count-n c =
     let ps : Trees = arguments_of (tree_at ts c.args.pattern) in
     let us : Trees = arguments_of (tree_at ts c.args.term) in
     let p : Op c.in-Op.code ps ≡ tree_at ts c.args.pattern = c.in-Op.ensures.tree in
-    let same : c.in-Op.code ≡ c.in-Op-node.c = code_exact c.in-Op.code c.in-Op-node.c (sym c.eq.ensures ∙ c.if-eq.true) in
+    let same : c.in-Op.code ≡ c.in-Op-node.c = (c.codes_law.ensures c.in-Op.code c.in-Op-node.c).0 (sym c.eq.ensures ∙ c.if-eq.true) in
     let u : Op c.in-Op.code us ≡ tree_at ts c.args.term = ap (λ (d : OpCode). Op d us) same ∙ c.in-Op-node.ensures.tree in
     record {
       count = c.in-Op.ensures.count;
@@ -40,5 +39,5 @@ returns-else-eq c = λ σ τ m.
     let both = op_same σ τ (tree_at ts c.args.pattern) (tree_at ts c.args.term) c.in-Op.code c.in-Op-node.c ps us c.in-Op.ensures.tree c.in-Op-node.ensures.tree m in
     elim c.else-eq.branch [
       | else-eq-via-then-eq+else-count-n w ↦ w.if-count-n.false (sym c.in-Op.ensures.count ∙ both.1 ∙ c.in-Op-node.ensures.count)
-      | else-eq-via-else-eq w ↦ true≢false (sym (c.eq.ensures ∙ code_same c.in-Op.code c.in-Op-node.c both.0) ∙ w.if-eq.false)
+      | else-eq-via-else-eq w ↦ true≢false (sym (c.eq.ensures ∙ (c.codes_law.ensures c.in-Op.code c.in-Op-node.c).1 both.0) ∙ w.if-eq.false)
     ]

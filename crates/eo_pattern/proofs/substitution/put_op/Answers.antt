@@ -4,7 +4,6 @@ use Rattle.std.proofs.lemmas.Result.{err_from_is_err_and}
 use Rattle.eo_term.specs.Tree.{Trees, Op, is_tall}
 use Rattle.eo_term.specs.Terms.{tree_at, trees_at}
 use Rattle.eo_term.specs.Arguments.{arguments_of, count_of}
-use Rattle.eo_term.proofs.Heights.{tall_argument}
 use Rattle.eo_pattern.specs.Matching.{Assignment, put, put_all}
 use Rattle.eo_pattern.specs.Slots.{held}
 use Rattle.eo_pattern.proofs.Steps.{args_put, count_put, argument_put}
@@ -21,7 +20,7 @@ returns-in_default-clause-step c =
       untold = search rules;
       tall = λ h.
           ap (λ u. is_tall (put σ u)) (sym c.requires.operator.tree)
-          ∙ tall_argument c.args.code (put_all σ ts) c.loop-i.i within (ap is_tall (argument_put σ ts c.loop-i.i (omega (arith, c.requires.operator.count)) ∙ ap (put σ) (sym c.arg-arg.ensures.tree)) ∙ h);
+          ∙ c.height_law.ensures c.args.code (put_all σ ts) c.loop-i.i within (ap is_tall (argument_put σ ts c.loop-i.i (omega (arith, c.requires.operator.count)) ∙ ap (put σ) (sym c.arg-arg.ensures.tree)) ∙ h);
     }
 
 pub intern_op-requires-clause-args : goal.intern_op-requires-clause-args

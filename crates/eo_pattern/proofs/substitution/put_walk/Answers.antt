@@ -1,16 +1,19 @@
-use Rattle.std.proofs.Common.{rules, ◌≡◌, ℕ, [], Some, nat_eq, if◌then◌else◌, sym, ap, ◌∙◌, subst, arith}
+use Rattle.std.proofs.Common.{rules, ◌≡◌, ℕ, ◌<◌, ◌++◌, ◌∷◌, [], All, length, Some, nat_eq, if◌then◌else◌, sym, ap, ◌∙◌, subst, arith}
+use Rattle.std.proofs.lemmas.List.Elements.{All-push}
 use Rattle.std.proofs.lemmas.Result.{err_from_is_err_and}
+use Rattle.eo_base.proofs.Elements.{all_first, all_last}
 use Rattle.eo_term.specs.Memo.{told, TellsOnly}
 use Rattle.eo_term.specs.Walk.{Begins, Finishes}
-use Rattle.eo_term.proofs.Walks.{IsBegun, begun_top, begun_last, begun_part, begun_rest, left_rest}
 use Rattle.eo_pattern.specs.Slots.{held, IsPut}
 use Rattle.eo_pattern.specs.Steps.{IsNext, IsStep}
-use Rattle.eo_pattern.proofs.Steps.{puts_grown, holds_grown, step_tall, step_part, step_made, step_kept}
+use Rattle.eo_pattern.proofs.Steps.{Overtops, puts_grown, holds_grown, step_tall, step_part, step_made, step_kept}
 use Rattle.eo_pattern.proofs.substitution.put_walk.Goals as goal
 
 pub put_node-requires-clause-live : goal.put_node-requires-clause-live
 put_node-requires-clause-live c =
-    omega (arith, (begun_top _ _ _ _ c.loop-made.invariant.begun).live, c.top.ensures, c.loop-made.invariant.grows.now.more_trees)
+    let i = c.loop-made.invariant in
+    let walks = c.walk_law.ensures (length c.args.table.now.trees) c.args.walk.now.top in
+    omega (arith, walks.live c.loop-made.walk i.begun, c.top.ensures, i.grows.now.more_trees)
 
 pub put_node-requires-clause-memo : goal.put_node-requires-clause-memo
 put_node-requires-clause-memo c =
@@ -21,47 +24,62 @@ pub returns-in_err-made-clause-tall : goal.returns-in_err-made-clause-tall
 returns-in_err-made-clause-tall c =
     let e = err_from_is_err_and c.from_residual.result c.from_residual.ensures.1 in
     let i = c.loop-made.invariant in
-    let at : IsBegun _ _ _ c.top.result = subst (IsBegun _ _ _) (sym c.top.ensures) (begun_top _ _ _ _ i.begun) in
-    rw (e.1, e.2) (λ h. step_tall c.args.subst.now c.args.table.now c.loop-made.table c.loop-made.table c.args.walk.now.top c.top.result c.requires.below i.grows.now at.leads at.live (c.in_err-made.ensures.tall h))
+    let walks = c.walk_law.ensures (length c.args.table.now.trees) c.args.walk.now.top in
+    let R : ℕ → Type 0 = Overtops (held c.args.table.now.trees c.args.subst.now) c.args.table.now.trees c.args.walk.now.top in
+    let leads = subst R (sym c.top.ensures) (all_last R c.loop-made.walk.waiting c.loop-made.walk.top i.leads) in
+    let live : c.top.result < length c.args.table.now.trees = subst (λ k. k < length c.args.table.now.trees) (sym c.top.ensures) (walks.live c.loop-made.walk i.begun) in
+    rw (e.1, e.2) (λ h. step_tall c.args.subst.now c.args.table.now c.loop-made.table c.loop-made.table c.args.walk.now.top c.top.result c.requires.below i.grows.now leads live (c.in_err-made.ensures.tall h))
 
 pub returns-then-not-branch-clause-made : goal.returns-then-not-branch-clause-made
 returns-then-not-branch-clause-made c =
     let i = c.loop-made.invariant in
-    let at : IsBegun _ _ _ c.top.result = subst (IsBegun _ _ _) (sym c.top.ensures) (begun_top _ _ _ _ i.begun) in
+    let walks = c.walk_law.ensures (length c.args.table.now.trees) c.args.walk.now.top in
+    let R : ℕ → Type 0 = Overtops (held c.args.table.now.trees c.args.subst.now) c.args.table.now.trees c.args.walk.now.top in
+    let leads = subst R (sym c.top.ensures) (all_last R c.loop-made.walk.waiting c.loop-made.walk.top i.leads) in
+    let live : c.top.result < length c.args.table.now.trees = subst (λ k. k < length c.args.table.now.trees) (sym c.top.ensures) (walks.live c.loop-made.walk i.begun) in
     let last : c.loop-made.walk.waiting ≡ [] = search rules in
     let made = subst (IsStep _ _ _ _ _) c.in-Made.is c.in_ok-made.ensures.step in
-    step_made c.args.subst.now c.args.table.now c.loop-made.table c.put_node.new.table c.args.walk.now.top c.top.result c.requires.below i.grows.now at.leads at.live c.in-Made.made (c.top.ensures ∙ begun_last _ _ _ _ last i.begun) made
+    step_made c.args.subst.now c.args.table.now c.loop-made.table c.put_node.new.table c.args.walk.now.top c.top.result c.requires.below i.grows.now leads live c.in-Made.made (c.top.ensures ∙ walks.last c.loop-made.walk i.begun last) made
 
 pub loop-made-smaller-else-not-branch : goal.loop-made-smaller-else-not-branch
 loop-made-smaller-else-not-branch c =
     let next : Finishes c.loop-made.walk c.in-Made.made c.finish.new.self = search rules in
-    left_rest _ _ _ c.loop-made.walk c.finish.new.self c.in-Made.made c.loop-made.invariant.begun next
+    ((c.walk_law.ensures (length c.args.table.now.trees) c.args.walk.now.top).rest c.loop-made.walk c.finish.new.self c.in-Made.made c.loop-made.invariant.begun next).less
 
 pub loop-made-preserved-else-not-branch : goal.loop-made-preserved-else-not-branch
 loop-made-preserved-else-not-branch c =
     let i = c.loop-made.invariant in
-    let at : IsBegun _ _ _ c.top.result = subst (IsBegun _ _ _) (sym c.top.ensures) (begun_top _ _ _ _ i.begun) in
+    let walks = c.walk_law.ensures (length c.args.table.now.trees) c.args.walk.now.top in
+    let R : ℕ → Type 0 = Overtops (held c.args.table.now.trees c.args.subst.now) c.args.table.now.trees c.args.walk.now.top in
+    let leads = subst R (sym c.top.ensures) (all_last R c.loop-made.walk.waiting c.loop-made.walk.top i.leads) in
+    let live : c.top.result < length c.args.table.now.trees = subst (λ k. k < length c.args.table.now.trees) (sym c.top.ensures) (walks.live c.loop-made.walk i.begun) in
     let next : Finishes c.loop-made.walk c.in-Made.made c.finish.new.self = search rules in
     let made = subst (IsStep _ _ _ _ _) c.in-Made.is c.in_ok-made.ensures.step in
     let now = c.finish.new.self.memo in
     let before = c.loop-made.walk.memo in
     let kept = subst (λ (k : ℕ). (j : ℕ) → told now j ≡ (if nat_eq k j then Some c.in-Made.made else told before j)) (sym c.top.ensures) next.memo in
     record {
-      begun = begun_rest _ _ _ c.loop-made.walk c.finish.new.self c.in-Made.made i.begun next;
-      memo = step_kept c.args.subst.now c.args.table.now c.loop-made.table c.put_node.new.table c.args.walk.now.top c.top.result c.requires.below i.grows.now at.leads at.live c.in-Made.made before now c.put_node.ensures.grows.now kept i.memo made;
+      begun = (walks.rest c.loop-made.walk c.finish.new.self c.in-Made.made i.begun next).goes;
+      leads = subst (All R) next.waiting (all_first R c.loop-made.walk.waiting (c.loop-made.walk.top ∷ []) i.leads);
+      memo = step_kept c.args.subst.now c.args.table.now c.loop-made.table c.put_node.new.table c.args.walk.now.top c.top.result c.requires.below i.grows.now leads live c.in-Made.made before now c.put_node.ensures.grows.now kept i.memo made;
       grows = search rules;
     }
 
 pub loop-made-preserved : goal.loop-made-preserved
 loop-made-preserved c =
     let i = c.loop-made.invariant in
-    let at : IsBegun _ _ _ c.top.result = subst (IsBegun _ _ _) (sym c.top.ensures) (begun_top _ _ _ _ i.begun) in
+    let walks = c.walk_law.ensures (length c.args.table.now.trees) c.args.walk.now.top in
+    let R : ℕ → Type 0 = Overtops (held c.args.table.now.trees c.args.subst.now) c.args.table.now.trees c.args.walk.now.top in
+    let leads = subst R (sym c.top.ensures) (all_last R c.loop-made.walk.waiting c.loop-made.walk.top i.leads) in
+    let live : c.top.result < length c.args.table.now.trees = subst (λ k. k < length c.args.table.now.trees) (sym c.top.ensures) (walks.live c.loop-made.walk i.begun) in
     let begins : Begins c.loop-made.walk c.in-Part.part c.begin.new.self = search rules in
     let next : IsNext (held c.loop-made.table.trees c.args.subst.now) c.loop-made.table.trees c.memo.result.now c.top.result c.in-Part.part = subst (IsStep _ _ _ _ _) c.in-Part.is c.in_ok-made.ensures.step in
     let new = c.put_node.new.table in
     let below = (holds_grown c.args.subst.now c.args.table.now c.loop-made.table c.requires.below i.grows.now).below in
     record {
-      begun = begun_part _ _ _ c.loop-made.walk c.begin.new.self c.in-Part.part i.begun begins (omega (arith, next.older, c.top.ensures)) (ap (λ m. told m c.in-Part.part) (sym c.memo.ensures) ∙ next.untold) (step_part c.args.subst.now c.args.table.now c.loop-made.table new c.args.walk.now.top c.top.result c.requires.below i.grows.now at.leads at.live c.memo.result.now c.in-Part.part next);
+      begun = (walks.part c.loop-made.walk c.begin.new.self c.in-Part.part i.begun begins (omega (arith, next.older, c.top.ensures)) (ap (λ m. told m c.in-Part.part) (sym c.memo.ensures) ∙ next.untold)).goes;
+      leads = subst (All R) (λ k. sym begins.waiting k ++ sym begins.top k ∷ [])
+          (All-push R (c.loop-made.walk.waiting ++ c.loop-made.walk.top ∷ []) c.in-Part.part i.leads (step_part c.args.subst.now c.args.table.now c.loop-made.table new c.args.walk.now.top c.top.result c.requires.below i.grows.now leads live c.memo.result.now c.in-Part.part next));
       memo = subst (TellsOnly (IsPut (held new.trees c.args.subst.now) new.trees)) (sym begins.memo) (puts_grown c.args.subst.now c.loop-made.table new c.loop-made.walk.memo below c.put_node.ensures.grows.now i.memo);
       grows = search rules;
     }

@@ -1,5 +1,4 @@
 use Rattle.eo_sig.specs.Reading.{read_rule}
-use Rattle.eo_term.proofs.Building.{taller, tall_fault}
 use Rattle.eo_pattern.specs.Matching.{put}
 use Rattle.eo_pattern.specs.Slots.{held}
 use Rattle.eo_rule.specs.Instance.{guarded_conclusion}
@@ -9,8 +8,8 @@ use Rattle.eo_rule.proofs.concluding.put_conclusion.Goals as goal
 pub returns-in_err-guarded-clause-gives : goal.returns-in_err-guarded-clause-gives
 returns-in_err-guarded-clause-gives c =
     let ts = c.args.table.now.trees in
-    tall_fault _ _ _ _ c.from_residual.ensures.1
-    (taller c.in_err-guarded.field-0.0 _ _ (put_tall (held ts c.args.subst.now) (guarded_conclusion (read_rule ts c.args.rule.now))) c.in_err-guarded.ensures.gives)
+    c.builds_law.ensures.term _ _ _ _ _ c.from_residual.ensures.1
+    (put_tall (held ts c.args.subst.now) (guarded_conclusion (read_rule ts c.args.rule.now))) c.in_err-guarded.ensures.gives
 
 pub returns-clause-gives : goal.returns-clause-gives
 returns-clause-gives c =

@@ -1,9 +1,8 @@
 use Rattle.std.proofs.Common.{◌≡◌, ℕ, ◌<◌, suc, ◌-◌, All, length, map, drop, sym, ap, ◌∙◌, subst, arith}
+use Rattle.eo_base.proofs.Elements.{all_at}
 use Rattle.eo_sig.specs.Reading.{read_pair}
 use Rattle.eo_term.specs.Terms.{tree_at}
 use Rattle.eo_term.specs.Tree.{Tree, is_tall}
-use Rattle.eo_term.proofs.Building.{taller, tall_fault}
-use Rattle.eo_lists.proofs.Building.{all_at, grows_on}
 use Rattle.eo_rule.specs.Instance.{under, required}
 use Rattle.eo_rule.proofs.Guarded.{drop_map, required_tall}
 use Rattle.eo_rule.proofs.requirements.guarded_conclusion.Goals as goal
@@ -27,13 +26,12 @@ returns-in_err-made-clause-gives c =
     let made : under (tree_at us q.0, tree_at us q.1) (tree_at us c.loop-left.made) ≡ required (drop i Q) t =
     (λ k. under (one k, two k) (v.tree k)) ∙ (λ k. under (read_pair ts q) (required (drop (next k) Q) t)) ∙ sym (ap (λ xs. required xs t) (drop_map (read_pair ts) rs i q in_range c.index-requirements-left.is)) in
     let whole : Tree = required (map (read_pair ts) c.args.rule.now.requirements) t in
-    tall_fault _ _ _ _ c.from_residual.ensures.1
-    (taller c.in_err-made.field-0.0 _ (is_tall whole)
+    c.builds_law.ensures.term _ _ whole _ _ c.from_residual.ensures.1
     (λ h. (λ k. is_tall (required (map (read_pair ts) (sym own k)) t)) ∙ required_tall Q t i ((λ k. is_tall (sym made k)) ∙ h))
-    c.in_err-made.ensures.gives)
+    c.in_err-made.ensures.gives
 
 pub returns-in_err-made-clause-grows : goal.returns-in_err-made-clause-grows
-returns-in_err-made-clause-grows c = grows_on _ _ _ c.loop-left.invariant.grows c.under.ensures.grows
+returns-in_err-made-clause-grows c = c.table_law.ensures.later _ _ _ c.loop-left.invariant.grows c.under.ensures.grows
 
 pub loop-left-preserved : goal.loop-left-preserved
 loop-left-preserved c =
@@ -56,6 +54,6 @@ loop-left-preserved c =
     record {
       within = omega (arith, v.within);
       live = c.in_ok-made.ensures.gives.live;
-      grows = grows_on _ _ _ v.grows c.under.ensures.grows;
+      grows = c.table_law.ensures.later _ _ _ v.grows c.under.ensures.grows;
       tree = c.in_ok-made.ensures.gives.tree ∙ made;
     }

@@ -1,13 +1,12 @@
 use Rattle.std.proofs.Common.{◌≡◌, ◌<◌, suc, ◌-◌, Ok, length, map, drop, get_or, sym, ◌∙◌, subst, arith}
+use Rattle.eo_base.proofs.Elements.{all_at}
 use Rattle.eo_base.specs.Answers.{Tells}
 use Rattle.eo_base.specs.Checks.{Checked}
-use Rattle.eo_term.proofs.Growing.{grows_refl}
 use Rattle.eo_term.specs.Terms.{tree_at}
 use Rattle.eo_sig.specs.declared.records.Param.{Param}
 use Rattle.eo_sig.specs.Reading.{read_parameter, signature}
 use Rattle.eo_pattern.specs.Matching.{Assignment}
 use Rattle.eo_pattern.specs.Slots.{held}
-use Rattle.eo_lists.proofs.Building.{all_at}
 use Rattle.eo_rule.specs.Answers.{told}
 use Rattle.eo_rule.specs.Uses.{check_type, check_types}
 use Rattle.eo_rule.proofs.Steps.{assignment_fails}
@@ -22,7 +21,7 @@ loop-left-init c =
       within = omega arith;
       below = c.requires.below;
       fits = c.requires.fit;
-      grows = c.laws.ensures t t c.requires.fit.below (grows_refl t);
+      grows = c.laws.ensures t t c.requires.fit.below (c.table_law.ensures.same t);
       checked = types-end (signature t.trees c.args.sig.now) (held t.trees c.args.subst.now) (map (read_parameter t.trees) c.args.params.now) (length c.args.params.now) (length_map (read_parameter t.trees) c.args.params.now);
     }
 
@@ -49,7 +48,7 @@ loop-left-preserved c =
       within = omega (arith, v.within);
       below = e.gives.live;
       fits = e.fits;
-      grows = c.laws.ensures t c.check_parameter.new.table c.requires.fit.below (record { now = e.grows.table.since t v.grows.table.now; since = λ u s. e.grows.table.since u (v.grows.table.since u s) });
+      grows = c.laws.ensures t c.check_parameter.new.table c.requires.fit.below (c.table_law.ensures.later t c.loop-left.table c.check_parameter.new.table v.grows.table e.grows.table);
       checked = step ∙ sym (λ k. check_type (v.grows.stays.signature k) τ (tree k) (τ i)) ∙ e.gives.is;
     }
 

@@ -1,6 +1,5 @@
 use Rattle.std.proofs.Common.{ap}
 use Rattle.eo_term.specs.Terms.{tree_at}
-use Rattle.eo_type.proofs.SettleSteps.{settled_typed}
 use Rattle.eo_type.specs.Types.{settled}
 use Rattle.eo_rule.specs.Answers.{of_type}
 use Rattle.eo_rule.specs.Uses.{typed_or}
@@ -25,4 +24,4 @@ returns-clause-gives c =
     let t = tree_at c.args.table.now.trees c.args.ty in
     let low = c.laws.ensures.low c.args.ty c.requires.live in
     let k = kind_some c.settle.new.table _ _ c.in-Some.found c.in-Some.is c.in_ok-found.ensures.answers in
-    record { live = k.0; is = ap typed_or (settled_typed t _ low k.1) }
+    record { live = k.0; is = ap typed_or (c.settled_law.ensures t _ low k.1) }

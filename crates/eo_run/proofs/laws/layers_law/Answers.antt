@@ -2,6 +2,7 @@ use Rattle.eo_run.proofs.laws.layers_law.Goals as goal
 
 pub returns : goal.returns
 returns c = record {
+  equals = c.equality_law.ensures.trees;
   rules = c.ordering_law.ensures.rules;
   macros = c.ordering_law.ensures.macros;
   functions = c.reference_law.ensures.functions;

@@ -1,4 +1,4 @@
-use Rattle.std.proofs.Common.{◌-◌, ℕ, List, [], true, false, length, take, drop, refl, Bool, sym, ap, subst, ◌∙◌, arith, length-take, append-nil}
+use Rattle.std.proofs.Common.{◌-◌, ℕ, List, [], false, length, take, drop, refl, Bool, sym, ap, subst, ◌∙◌, arith, length-take, append-nil, inl, inr}
 use Rattle.std.specs.Prelude.{Result, Ok, Err, Option, None, Some, IfErr}
 use Rattle.eo_base.specs.declared.FaultName.TheVariants.{IncludeDepth, FileAbsent, FileLong}
 use Rattle.eo_io.specs.Library.{Rest}
@@ -20,7 +20,7 @@ use Rattle.eo_run.specs.declared.reading.Asked.{Asked}
 use Rattle.eo_run.specs.declared.reading.Stop.{Stop}
 use Rattle.eo_run.proofs.Ending.{tail_of}
 use Rattle.eo_run.proofs.Exits.{at_exit}
-use Rattle.eo_run.proofs.Taking.{opens-later, taken-later, left-later, takes-later, open-later, ends-later, goes-on, goes-behind, leaves-behind, leaves-reference, finishes-here, stops-behind, stopped-here, extends-trans, stays-trans, reads-trans, stays-length, one-less, include-unfolded, refer-unfolded, refer-unbegun, unbegun-present, found-is, includes-again, includes-deep, includes-absent, includes-runs, includes-stops, refers-absent, refers-runs, refers-stops}
+use Rattle.eo_run.proofs.Taking.{opens-later, taken-later, left-later, takes-later, open-later, ends-later, goes-on, goes-behind, leaves-behind, leaves-reference, finishes-here, stops-behind, stopped-here, extends-trans, stays-trans, reads-trans, stays-length, one-less, include-unfolded, refer-unfolded, refer-unbegun, unbegun-present, includes-again, includes-deep, includes-absent, includes-runs, includes-stops, refers-absent, refers-runs, refers-stops}
 use Rattle.eo_run.proofs.Numbers.{numbered-later, denotes-here, placed-in, ready-runs, opens-done, opens-exit}
 use Rattle.eo_run.proofs.Pieces.{reads-nothing, reads-piece, has_room, front-is, piece-is, stops-open, left-open, long-open, ends-open, stays-read}
 use Rattle.eo_run.proofs.opening.+files.Goals as goal
@@ -251,14 +251,11 @@ open_next-returns-in-Done-clause-opens g t c =
     let s = c.args.source.now in
     let told = g.L.Library.told c.args.files.now in
     let p = progress_of c.args.run.now in
-    subst (λ (n : Next). Opens told s c.args.at n (Ok tt) p p c.args.paths.now) (sym c.in-Done.is) (opens-done told s c.args.at p c.args.paths.now tt (s.opens - 1) (one-less s.opens c.if-source-eq0.false))
-
-pub open_next-returns-in-Exit-clause-opens : goal.open_next-returns-in-Exit-clause-opens
-open_next-returns-in-Exit-clause-opens g t c =
-    let s = c.args.source.now in
-    let told = g.L.Library.told c.args.files.now in
-    let p = progress_of c.args.run.now in
-    subst (λ (n : Next). Opens told s c.args.at n (Ok tt) p p c.args.paths.now) (sym c.in-Exit.is) (opens-exit told s c.args.at p c.args.paths.now tt (s.opens - 1) (one-less s.opens c.if-source-eq0.false))
+    let left = one-less s.opens c.if-source-eq0.false in
+    elim c.in-Done.is [
+      | inl e ↦ subst (λ (n : Next). Opens told s c.args.at n (Ok tt) p p c.args.paths.now) (sym e) (opens-done told s c.args.at p c.args.paths.now tt (s.opens - 1) left)
+      | inr e ↦ subst (λ (n : Next). Opens told s c.args.at n (Ok tt) p p c.args.paths.now) (sym e) (opens-exit told s c.args.at p c.args.paths.now tt (s.opens - 1) left)
+    ]
 
 -- ---- a file that is included
 
@@ -267,7 +264,7 @@ include-returns-then-is_some-clause-includes g t c = λ name folds.
     let s = c.args.source.now in
     let file = c.args.file.now in
     includes-again (g.L.Library.told c.args.files.now) s (s.opens - 1) (omega (arith, c.requires.opens)) c.args.at name (progress_of c.args.run.now) c.args.paths.now file folds tt
-    (found-is c.args.run.now.included file c.find.result true c.find.ensures (sym c.is_some.ensures ∙ c.if-is_some.true))
+    (sym c.find.ensures.there ∙ sym c.is_some.ensures ∙ c.if-is_some.true)
 
 pub include-returns-then-source-eq1-clause-includes : goal.include-returns-then-source-eq1-clause-includes
 include-returns-then-source-eq1-clause-includes g t c = λ name folds.
@@ -277,7 +274,7 @@ include-returns-then-source-eq1-clause-includes g t c = λ name folds.
     let p = progress_of c.args.run.now in
     let paths = c.args.paths.now in
     let at = c.args.at in
-    let new = found-is c.args.run.now.included file c.find.result false c.find.ensures (sym c.is_some.ensures ∙ c.if-is_some.false) in
+    let new = sym c.find.ensures.there ∙ sym c.is_some.ensures ∙ c.if-is_some.false in
     subst (λ (v : Verdict). Opens told s at (next.Include name) (Err v) p p paths) (sym c.refused.ensures)
     (includes-deep told s (s.opens - 1) (omega (arith, c.requires.opens)) at name p paths file folds new (record { name = IncludeDepth; place = place_in s at }) p (omega (arith, c.if-source-eq1.true)) (denotes-here paths s IncludeDepth at c.requires.ready.numbered))
 
@@ -289,7 +286,7 @@ include-returns-in-Ok-Some-clause-includes g t c = λ name folds.
     let p = progress_of c.args.run.now in
     let last = progress_of c.check_file.new.run in
     let paths = c.check_file.new.paths in
-    let new = found-is c.args.run.now.included file c.find.result false c.find.ensures (sym c.is_some.ensures ∙ c.if-is_some.false) in
+    let new = sym c.find.ensures.there ∙ sym c.is_some.ensures ∙ c.if-is_some.false in
     let i : Source = record { path = c.args.file; from = c.in_file.result; wrapped = false; opens = s.opens - 1 } in
     let end = c.in-Ok-Some.field-0-0 in
     let runs : RunsFile told i (Ok (Some end)) (progress p.state c.add.new.self) last paths = subst (λ (o : Option Spot). RunsFile told i (Ok o) (progress p.state c.add.new.self) last paths) c.in-Ok-Some.field-0-is c.in-Ok-Some.ensures.runs in
@@ -305,7 +302,7 @@ include-returns-in-Ok-None-clause-includes g t c = λ name folds.
     let last = progress_of c.check_file.new.run in
     let paths = c.check_file.new.paths in
     let at = c.args.at in
-    let new = found-is c.args.run.now.included file c.find.result false c.find.ensures (sym c.is_some.ensures ∙ c.if-is_some.false) in
+    let new = sym c.find.ensures.there ∙ sym c.is_some.ensures ∙ c.if-is_some.false in
     let i : Source = record { path = c.args.file; from = c.in_file.result; wrapped = false; opens = s.opens - 1 } in
     let runs : RunsFile told i (Ok None) (progress p.state c.add.new.self) last paths = subst (λ (o : Option Spot). RunsFile told i (Ok o) (progress p.state c.add.new.self) last paths) c.in-Ok-None.field-0-is c.in-Ok-None.ensures.runs in
     let added : IsNumbered c.add-2.new.self s = numbered-later c.args.paths.now c.add-2.new.self (number_of s.from) s.path.now c.in-Ok-add.ensures.grows c.requires.ready.numbered in
@@ -334,7 +331,7 @@ include-returns-in-Err-clause-includes g t c = λ name folds.
     let p = progress_of c.args.run.now in
     let last = progress_of c.check_file.new.run in
     let paths = c.check_file.new.paths in
-    let new = found-is c.args.run.now.included file c.find.result false c.find.ensures (sym c.is_some.ensures ∙ c.if-is_some.false) in
+    let new = sym c.find.ensures.there ∙ sym c.is_some.ensures ∙ c.if-is_some.false in
     let i : Source = record { path = c.args.file; from = c.in_file.result; wrapped = false; opens = s.opens - 1 } in
     includes-stops told s (s.opens - 1) (omega (arith, c.requires.opens)) c.args.at name p paths file folds new (s.opens - 2) (omega (arith, c.requires.opens, c.if-source-eq1.false)) i refl c.in_file.ensures.same refl refl c.in-Err.stop last
     (subst (λ (ps : List (List ℕ)). RunsFile told i (Err c.in-Err.stop) (progress p.state ps) last paths) c.in-Ok.ensures.table c.in-Err.ensures.runs)

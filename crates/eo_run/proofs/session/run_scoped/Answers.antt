@@ -1,3 +1,4 @@
+use Rattle.std.proofs.Common.{sym, ◌∙◌}
 use Rattle.eo_shape.specs.Reading.{read_command}
 use Rattle.eo_run.specs.Held.{state_of}
 use Rattle.eo_run.specs.Numbered.{origin_of}
@@ -11,3 +12,6 @@ returns-then-not-may_stand-clause-does c =
 pub returns-clause-does : goal.returns-clause-does
 returns-clause-does c =
     does-placed (state_of c.args.held.now) (origin_of c.args.from) (read_command c.args.command.now) c.run_shape.result c.run_shape.new.held c.may_stand.result c.may_stand.ensures c.if-not-may_stand.false c.run_shape.ensures.does
+
+pub run_shape-requires-clause-stands : goal.run_shape-requires-clause-stands
+run_shape-requires-clause-stands c = sym c.may_stand.ensures ∙ c.if-not-may_stand.false

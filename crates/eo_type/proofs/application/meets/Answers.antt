@@ -2,7 +2,7 @@ use Rattle.std.proofs.Common.{◌≡◌, [], ◌∷◌, sym, ◌∙◌, subst}
 use Rattle.eo_term.specs.Terms.{tree_at}
 use Rattle.eo_pattern.specs.Matching.{empty, Matches}
 use Rattle.eo_pattern.specs.Slots.{held}
-use Rattle.eo_type.proofs.Assigned.{empty_below, empty_held, no_matching}
+use Rattle.eo_type.proofs.Assigned.{empty_below, empty_held}
 use Rattle.eo_type.proofs.application.meets.Goals as goal
 
 pub match_terms-requires-clause-below : goal.match_terms-requires-clause-below
@@ -18,4 +18,4 @@ pub returns-clause-no : goal.returns-clause-no
 returns-clause-no c = λ n.
     let ts = c.args.table.now.trees in
     let none : held ts c.reserve.new.self ≡ empty = c.reserve.ensures.held ts ∙ empty_held ts c.args.subst.now c.requires.empty in
-    no_matching empty _ _ (λ σ. c.matching_law.ensures.sound empty σ _ _) (λ ρ m. c.match_terms.ensures.no n ρ (subst (λ σ. Matches σ (tree_at ts c.args.pattern ∷ []) (tree_at ts c.args.ty ∷ []) ρ) (sym none) m))
+    c.matching_law.ensures.none empty _ _ (λ ρ m. c.match_terms.ensures.no n ρ (subst (λ σ. Matches σ (tree_at ts c.args.pattern ∷ []) (tree_at ts c.args.ty ∷ []) ρ) (sym none) m))

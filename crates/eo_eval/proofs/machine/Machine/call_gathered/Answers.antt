@@ -20,8 +20,8 @@ call-requires-clause-calling c =
     let h = c.requires.gathering in
     let fs = c.in_ok-wait.ensures.frames ∙ ap (λ gs. gs ++ frame.Handed c.args.id c.args.deepest ∷ []) c.cut.ensures.frames in
     let values = c.wait.ensures.values ∙ c.cut.ensures.values in
-    let all : c.in_ok-args.args.items ≡ drop c.args.base e.stack.values.items =
-    c.in_ok-args.ensures.items_if_clones_equal (λ x y e. e) ∙ values_from c.args.base e.stack.values.items c.as_slice.result.now c.as_slice.ensures.value in
+    let all : c.in_ok-args.args ≡ drop c.args.base e.stack.values.items =
+    c.in_ok-args.ensures ∙ values_from c.args.base e.stack.values.items c.as_slice.result.now c.as_slice.ensures.value in
     let call : List ℕ → Call = λ xs. record { program = c.args.program; arguments = map (tree_at t.trees) xs } in
     subst (λ xs. Calling k t typed later (call xs)) (sym all) (call_ready k t typed e c.args.id c.args.base c.args.deepest h c.requires.all c.args.program c.requires.program later fs values refl refl refl refl)
 
@@ -35,11 +35,11 @@ returns-clause-told c =
     let h = c.requires.gathering in
     let fs = c.in_ok-wait.ensures.frames ∙ ap (λ gs. gs ++ frame.Handed c.args.id c.args.deepest ∷ []) c.cut.ensures.frames in
     let values = c.wait.ensures.values ∙ c.cut.ensures.values in
-    let all : c.in_ok-args.args.items ≡ drop c.args.base e.stack.values.items =
-    c.in_ok-args.ensures.items_if_clones_equal (λ x y e. e) ∙ values_from c.args.base e.stack.values.items c.as_slice.result.now c.as_slice.ensures.value in
+    let all : c.in_ok-args.args ≡ drop c.args.base e.stack.values.items =
+    c.in_ok-args.ensures ∙ values_from c.args.base e.stack.values.items c.as_slice.result.now c.as_slice.ensures.value in
     let call : List ℕ → Call = λ xs. record { program = c.args.program; arguments = map (tree_at t.trees) xs } in
     let before : Ended Tree = told_rest k t e c.args.id c.args.base c.args.left in
-    let same : told_call k t later (call c.in_ok-args.args.items) c.args.left ≡ before =
+    let same : told_call k t later (call c.in_ok-args.args) c.args.left ≡ before =
     ap (λ xs. told_call k t later (call xs) c.args.left) all ∙ call_told k t typed e c.args.id c.args.base c.args.deepest h c.requires.all c.args.program c.requires.program later fs values refl refl c.args.left in
     let P : Ended Tree → code_now.Now → Type 0 = λ r n. told_in k c.call.new.table c.call.new.self n ≡ r in
-    IfOk-weaker c.call.result (P (told_call k t later (call c.in_ok-args.args.items) c.args.left)) (P before) (λ n g. g ∙ same) c.call.ensures.told
+    IfOk-weaker c.call.result (P (told_call k t later (call c.in_ok-args.args) c.args.left)) (P before) (λ n g. g ∙ same) c.call.ensures.told

@@ -1,7 +1,6 @@
 use Rattle.std.proofs.Common.{◌≡◌, ◌∙◌, arith, ap, sym, refl, length}
 use Rattle.eo_eval.proofs.Gathered.{gathering_more, more_told}
 use Rattle.eo_eval.proofs.Gathering.{more_at, next_is}
-use Rattle.eo_term.proofs.Sound.{length-trees_at}
 use Rattle.eo_term.specs.Arguments.{count_of}
 use Rattle.eo_term.specs.Terms.{tree_at}
 use Rattle.eo_eval.specs.Machine.{parts_of}
@@ -35,5 +34,5 @@ loop-i-preserved c =
 pub returns-clause-next : goal.returns-clause-next
 returns-clause-next c =
     let t = c.args.table.now in
-    let parts : count_of (parts_of (tree_at t.trees c.args.id)) ≡ length c.args.parts.now = sym (ap count_of c.requires.parts) ∙ length-trees_at t.trees c.args.parts.now in
+    let parts : count_of (parts_of (tree_at t.trees c.args.id)) ≡ length c.args.parts.now = sym (ap count_of c.requires.parts) ∙ c.arguments_law.ensures.count t.trees c.args.parts.now in
     omega (arith, c.loop-i.invariant.at, c.loop-i.invariant.gathering.count, parts, c.loop-i-test.false, c.len.ensures)

@@ -2,9 +2,7 @@ use Rattle.std.proofs.Common.{◌∙◌, ap, sym, refl}
 use Rattle.eo_eval.specs.Evaluation.{Ended}
 use Rattle.eo_term.specs.Tree.{Tree}
 use Rattle.eo_term.specs.Growth.{tree_in}
-use Rattle.eo_term.proofs.Growing.{grows_refl}
 use Rattle.eo_sig.specs.Reading.{signature}
-use Rattle.eo_sig.proofs.Growing.{grows_under}
 use Rattle.eo_eval.proofs.Pushed.{first_told, first_ready}
 use Rattle.eo_eval.proofs.Values.{told_value}
 use Rattle.eo_eval.proofs.machine.Machine.evaluate.Goals as goal
@@ -16,7 +14,7 @@ loop-init c =
       told = first_told c.args.sig.now c.args.table.now c.args.self.now c.args.id fresh.frames fresh.values fresh.scope fresh.calls;
       ready = first_ready c.args.sig.now c.args.table.now c.args.types.now c.args.self.now c.args.id fresh c.requires.usable c.requires.fit c.requires.live;
       same = refl;
-      grows = grows_under c.args.sig.now c.args.table.now c.args.table.now c.requires.fit.below (grows_refl c.args.table.now);
+      grows = c.laws.ensures c.args.table.now c.args.table.now c.requires.fit.below (c.table_law.ensures.same c.args.table.now);
     }
 
 pub returns-in-Some-clause-gives : goal.returns-in-Some-clause-gives

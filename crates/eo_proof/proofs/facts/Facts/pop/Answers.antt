@@ -2,9 +2,9 @@ use Rattle.std.proofs.Common.{◌≡◌, ◌∙◌, ◌<◌, ap, sym, subst, Lis
 use Rattle.std.proofs.lemmas.List.{reverse-append}
 use Rattle.std.proofs.lemmas.List.Elements.{All-take, All-head, All-tail}
 use Rattle.eo_proof.specs.declared.facts.Begun.{Begun}
-use Rattle.eo_proof.specs.Kept.{NamedId, kept_of, scopes, AreBelow}
+use Rattle.eo_proof.specs.Kept.{NamedId, kept_of, scopes, without_begun, AreBelow}
 use Rattle.eo_proof.specs.Scopes.{innermost_hypothesis, outside}
-use Rattle.eo_proof.proofs.Reading.{popped_is, hypothesis_is, no_hypothesis}
+use Rattle.eo_proof.proofs.Reading.{without_none, popped_is, hypothesis_is, no_hypothesis}
 use Rattle.eo_proof.proofs.facts.Facts.pop.Goals as goal
 use Rattle.eo_proof.proofs.facts.Facts.pop.Goals.{After-truncate}
 
@@ -14,6 +14,12 @@ returns-in_default-clause-pops c =
     let old_is : c.args.self.now ≡ record { facts = es; begun = [] } = sym c.self.view_is ∙ ap (kept_of es) c.in_default.ensures.none in
     let new_is = ap (kept_of es) c.in_default.ensures.same in
     (λ ts. (ap (λ k. innermost_hypothesis (scopes ts k)) old_is ∙ no_hypothesis ts es, ap (scopes ts) (new_is ∙ sym old_is)))
+
+pub returns-in_default-clause-kept : goal.returns-in_default-clause-kept
+returns-in_default-clause-kept c =
+    let es = c.self.inside.formulas.entries in
+    let old_is : c.args.self.now ≡ record { facts = es; begun = [] } = sym c.self.view_is ∙ ap (kept_of es) c.in_default.ensures.none in
+    ap (kept_of es) c.in_default.ensures.same ∙ without_none es ∙ ap without_begun (sym old_is)
 
 old_is : (c : After-truncate) → c.args.self.now ≡ record { facts = c.self.inside.formulas.entries; begun = c.in-Some.scope ∷ reverse c.take_last.new.begun.items }
 old_is c =
@@ -31,6 +37,10 @@ returns-clause-pops c =
       ap (λ k. innermost_hypothesis (scopes ts k)) (old_is c) ∙ hypothesis_is ts es scope bs,
       ap (scopes ts) new_is ∙ popped_is ts es scope bs ∙ ap (λ k. outside (scopes ts k)) (sym (old_is c)),
     ))
+
+pub returns-clause-kept : goal.returns-clause-kept
+returns-clause-kept c =
+    ap (λ (xs : List NamedId). kept_of xs c.take_last.new.begun.items) c.truncate.ensures.entries ∙ ap without_begun (sym (old_is c))
 
 pub returns-clause-below : goal.returns-clause-below
 returns-clause-below c =

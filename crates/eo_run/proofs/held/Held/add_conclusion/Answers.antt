@@ -8,15 +8,18 @@ pub returns-clause-whole : goal.returns-clause-whole
 returns-clause-whole c =
     let w = c.in_ok-add_fact.ensures.whole in
     record {
-      types = w.types;
-      lasts = w.lasts;
-      usable = w.usable;
-      signature = w.signature;
-      assertions = w.assertions;
-      facts = w.facts;
-      values = w.values;
-      marks = w.marks;
-      terms = w.terms;
+      held = record {
+        types = w.held.types;
+        lasts = w.held.lasts;
+        usable = w.held.usable;
+        signature = w.held.signature;
+        assertions = w.held.assertions;
+        facts = w.held.facts;
+        values = w.held.values;
+        marks = w.held.marks;
+        terms = w.held.terms;
+      };
+      live = record { exact = w.live.exact; marked = w.live.marked; scopes = w.live.scopes };
     }
 
 pub add_fact-requires-clause-free : goal.add_fact-requires-clause-free

@@ -1,28 +1,33 @@
-use Rattle.std.proofs.Common.{ℕ, length, sym, ap, ◌∙◌}
-use Rattle.std.specs.Prelude.{Ok}
-use Rattle.eo_sig.specs.Reading.{read_constant}
-use Rattle.eo_sig.specs.Signature.{IsConstant, constant_fault}
-use Rattle.eo_run.specs.Held.{state_of}
-use Rattle.eo_run.specs.State.{with_entry}
-use Rattle.eo_run.proofs.Adding.{fold_of, no_fault-fails, no_fault-passes, does-sig}
-use Rattle.eo_run.proofs.Holding.{state_entry, whole_entry}
+use Rattle.std.proofs.Common.{◌≡◌, true, ℕ, List, ◌∷◌, length, sym, subst, ap, ◌∙◌, Contains}
+use Rattle.eo_sig.specs.Reading.{Kept, constants_of, read_constant, IsFree}
+use Rattle.eo_sig.specs.Signature.{Constant}
+use Rattle.eo_term.specs.Tree.{Con}
+use Rattle.eo_run.specs.Held.{HoldsOnly, next_constant}
+use Rattle.eo_run.specs.Roots.{constant_trees}
+use Rattle.eo_run.specs.State.{State, is_in_scope}
+use Rattle.eo_run.specs.Step.{checked_constant}
+use Rattle.eo_run.proofs.Adding.{does-same}
 use Rattle.eo_run.proofs.held.Held.add_constant.Goals as goal
 
-pub returns-in_err-declare-clause-does : goal.returns-in_err-declare-clause-does
-returns-in_err-declare-clause-does c =
-    let d = read_constant c.args.self.now.table.trees c.args.d in
-    let st = state_of c.args.self.now in
-    does-sig ℕ _ (constant_fault d) c.from_residual.result c.in_err-declare.field-0.0 _ c.from_residual.ensures.1 c.in_err-declare.ensures.tells (no_fault-fails (constant_fault d) (λ _. Ok (with_entry st (IsConstant d))))
+pub put_constant-requires-clause-whole : goal.put_constant-requires-clause-whole
+put_constant-requires-clause-whole c = c.in_ok-d.ensures.leaves.whole
 
-pub returns-clause-whole : goal.returns-clause-whole
-returns-clause-whole c =
-    let h = c.args.self.now in
-    whole_entry h c.requires.whole c.declare.new.self (c.in_ok-declare.ensures.below (length h.table.trees) c.requires.whole.signature c.requires.below) (IsConstant (read_constant h.table.trees c.args.d)) (c.in_ok-declare.ensures.adds.adds h.table.trees) c.in_ok-declare.ensures.usable (fold_of (read_constant h.table.trees c.args.d) c.in_ok-declare.ensures.tells)
+pub put_constant-requires-clause-outside : goal.put_constant-requires-clause-outside
+put_constant-requires-clause-outside c = ap is_in_scope c.in_ok-d.ensures.leaves.same ∙ c.requires.outside
+
+pub put_constant-requires-clause-free : goal.put_constant-requires-clause-free
+put_constant-requires-clause-free c =
+    let name = ap (λ (d : Constant). d.name) c.in_ok-d.ensures.read in
+    subst (λ (k : Kept). IsFree k c.in_ok-d.d.name) (sym c.in_ok-d.ensures.leaves.signature) (subst (λ (n : List ℕ). IsFree c.args.self.now.signature n) (sym name) c.requires.free)
+
+pub put_constant-requires-clause-only : goal.put_constant-requires-clause-only
+put_constant-requires-clause-only c =
+    subst (λ (k : Kept). HoldsOnly (Con (length (constants_of k)) ∷ constant_trees (read_constant c.carry_constant.new.self.table.trees c.in_ok-d.d)) c.carry_constant.new.self) (sym c.in_ok-d.ensures.leaves.signature)
+    (subst (λ (d : Constant). HoldsOnly (next_constant c.args.self.now ∷ constant_trees d) c.carry_constant.new.self) (sym c.in_ok-d.ensures.read) c.in_ok-d.ensures.leaves.only)
+
+pub put_constant-requires-clause-itself : goal.put_constant-requires-clause-itself
+put_constant-requires-clause-itself c = subst (λ (k : Kept). Contains c.carry_constant.new.self.table.trees (Con (length (constants_of k)))) (sym c.in_ok-d.ensures.leaves.signature) c.in_ok-d.ensures.itself
 
 pub returns-clause-does : goal.returns-clause-does
 returns-clause-does c =
-    let h = c.args.self.now in
-    let d = read_constant h.table.trees c.args.d in
-    let below = c.in_ok-declare.ensures.below (length h.table.trees) c.requires.whole.signature c.requires.below in
-    no_fault-passes (constant_fault d) (λ _. Ok (with_entry (state_of h) (IsConstant d))) c.in_ok-declare.ensures.tells
-    ∙ ap Ok (sym (state_entry h c.requires.whole c.declare.new.self below (IsConstant d) (c.in_ok-declare.ensures.adds.adds h.table.trees)))
+    does-same _ _ c.put_constant.result c.put_constant.new.self (λ i. checked_constant (sym c.in_ok-d.ensures.leaves.same i) (sym c.in_ok-d.ensures.read i)) c.put_constant.ensures.does

@@ -1,26 +1,28 @@
-use Rattle.std.proofs.Common.{length, sym, subst, ap, ◌∙◌}
+use Rattle.std.proofs.Common.{sym, ap, ◌∙◌}
 use Rattle.std.specs.Prelude.{Ok}
-use Rattle.eo_proof.specs.Kept.{Kept}
-use Rattle.eo_run.specs.Held.{IsWhole}
-use Rattle.eo_run.proofs.Holding.{whole_fact, state_fact}
+use Rattle.eo_proof.specs.Scopes.{is_live}
+use Rattle.eo_run.specs.State.{State, with_fact}
+use Rattle.eo_run.proofs.Adding.{does-same}
+use Rattle.eo_run.proofs.Reclaiming.{one_tree, one_value, one_only}
 use Rattle.eo_run.proofs.held.Held.add_fact.Goals as goal
 
-pub add_new-requires : goal.add_new-requires
-add_new-requires c = (λ ts. c.laws.ensures.names ts c.args.self.now.table.trees c.args.name.now ∙ c.requires.free)
+pub carry_one-requires-clause-live : goal.carry_one-requires-clause-live
+carry_one-requires-clause-live c = c.requires.value.live
 
-pub returns-in_err-add_new-clause-whole : goal.returns-in_err-add_new-clause-whole
-returns-in_err-add_new-clause-whole c =
-    let h = c.args.self.now in
-    subst (λ (k : Kept). IsWhole (record h { facts = k })) (sym c.in_err-add_new.ensures.same) c.requires.whole
+pub put_fact-requires-clause-whole : goal.put_fact-requires-clause-whole
+put_fact-requires-clause-whole c = c.in_ok-formula.ensures.leaves.whole
 
-pub returns-clause-whole : goal.returns-clause-whole
-returns-clause-whole c =
-    let h = c.args.self.now in
-    let below = c.in_ok-add_new.ensures.below (length h.table.trees) c.requires.whole.facts c.requires.value.live in
-    whole_fact h c.requires.whole c.add_new.new.self below c.args.name.now c.args.formula c.requires.value.value (c.in_ok-add_new.ensures.adds h.table.trees)
+pub put_fact-requires-clause-value : goal.put_fact-requires-clause-value
+put_fact-requires-clause-value c = one_value c.args.self.now c.carry_one.new.self c.args.formula c.in_ok-formula.formula c.in_ok-formula.ensures c.requires.value
+
+pub put_fact-requires-clause-free : goal.put_fact-requires-clause-free
+put_fact-requires-clause-free c = ap (λ (s : State). is_live s.scopes c.args.name.now) c.in_ok-formula.ensures.leaves.same ∙ c.requires.free
+
+pub put_fact-requires-clause-only : goal.put_fact-requires-clause-only
+put_fact-requires-clause-only c = one_only c.args.self.now c.carry_one.new.self c.args.formula c.in_ok-formula.formula c.in_ok-formula.ensures
 
 pub returns-clause-does : goal.returns-clause-does
 returns-clause-does c =
-    let h = c.args.self.now in
-    let below = c.in_ok-add_new.ensures.below (length h.table.trees) c.requires.whole.facts c.requires.value.live in
-    ap Ok (sym (state_fact h c.requires.whole c.add_new.new.self below c.args.name.now c.args.formula c.requires.value.value (c.in_ok-add_new.ensures.adds h.table.trees)))
+    let k = c.in_ok-formula.ensures in
+    let tree = one_tree c.args.self.now c.carry_one.new.self c.args.formula c.in_ok-formula.formula k in
+    does-same _ _ c.put_fact.result c.put_fact.new.self (λ i. Ok (with_fact (sym k.leaves.same i) c.args.name.now (sym tree i))) c.put_fact.ensures.does

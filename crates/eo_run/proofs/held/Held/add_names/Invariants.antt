@@ -1,7 +1,7 @@
 use Rattle.std.proofs.Common.{◌≡◌, drop}
 use Rattle.eo_elab.specs.Worlds.{labels_in}
 use Rattle.eo_run.specs.Asserting.{MayBeNames}
-use Rattle.eo_run.specs.Held.{state_of, IsWhole}
+use Rattle.eo_run.specs.Held.{state_of, IsHeld}
 use Rattle.eo_run.specs.Step.{with_labels}
 use Rattle.eo_run.proofs.held.Held.add_names.Given as goal
 
@@ -9,7 +9,7 @@ use Rattle.eo_run.proofs.held.Held.add_names.Given as goal
 abbrev pub invariant-loop-i : goal.invariant-loop-i
 invariant-loop-i l =
     record {
-      whole : IsWhole l.self;
+      whole : IsHeld l.self;
       table : l.self.table ≡ l.fn.self.table;
       left : with_labels (state_of l.self) (drop l.i (labels_in l.fn.self.table l.names)) ≡ with_labels (state_of l.fn.self) (labels_in l.fn.self.table l.names);
       may : MayBeNames (state_of l.self) (drop l.i (labels_in l.fn.self.table l.names));

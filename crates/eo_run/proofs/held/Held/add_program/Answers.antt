@@ -1,28 +1,29 @@
-use Rattle.std.proofs.Common.{ℕ, length, sym, ap, ◌∙◌}
-use Rattle.std.specs.Prelude.{Ok}
-use Rattle.eo_sig.specs.Reading.{read_program}
-use Rattle.eo_sig.specs.Signature.{IsProgram, program_fault}
-use Rattle.eo_run.specs.Held.{state_of}
-use Rattle.eo_run.specs.State.{with_entry}
-use Rattle.eo_run.proofs.Adding.{no_fault-fails, no_fault-passes, does-sig}
-use Rattle.eo_run.proofs.Holding.{state_entry, whole_entry}
+use Rattle.std.proofs.Common.{◌≡◌, true, ℕ, List, ◌∷◌, length, sym, subst, ap, ◌∙◌, Contains}
+use Rattle.eo_sig.specs.Reading.{Kept, read_program, IsFree}
+use Rattle.eo_sig.specs.Signature.{Program}
+use Rattle.eo_term.specs.Tree.{Tree}
+use Rattle.eo_run.specs.Held.{HoldsOnly, next_constant}
+use Rattle.eo_run.specs.Roots.{program_trees}
+use Rattle.eo_run.specs.State.{State, is_in_scope}
+use Rattle.eo_run.specs.Step.{checked_program}
+use Rattle.eo_run.proofs.Adding.{does-same}
 use Rattle.eo_run.proofs.held.Held.add_program.Goals as goal
 
-pub returns-in_err-add_program-clause-does : goal.returns-in_err-add_program-clause-does
-returns-in_err-add_program-clause-does c =
-    let d = read_program c.args.self.now.table.trees c.args.d in
-    let st = state_of c.args.self.now in
-    does-sig ℕ _ (program_fault d) c.from_residual.result c.in_err-add_program.field-0.0 _ c.from_residual.ensures.1 c.in_err-add_program.ensures.tells (no_fault-fails (program_fault d) (λ _. Ok (with_entry st (IsProgram d))))
+pub put_program-requires-clause-whole : goal.put_program-requires-clause-whole
+put_program-requires-clause-whole c = c.in_ok-d.ensures.leaves.whole
 
-pub returns-clause-whole : goal.returns-clause-whole
-returns-clause-whole c =
-    let h = c.args.self.now in
-    whole_entry h c.requires.whole c.add_program.new.self (c.in_ok-add_program.ensures.below (length h.table.trees) c.requires.whole.signature c.requires.below) (IsProgram (read_program h.table.trees c.args.d)) (c.in_ok-add_program.ensures.adds.adds h.table.trees) (c.in_ok-add_program.ensures.usable h.table.trees) tt
+pub put_program-requires-clause-outside : goal.put_program-requires-clause-outside
+put_program-requires-clause-outside c = ap is_in_scope c.in_ok-d.ensures.leaves.same ∙ c.requires.outside
+
+pub put_program-requires-clause-free : goal.put_program-requires-clause-free
+put_program-requires-clause-free c =
+    let name = ap (λ (d : Program). d.name) c.in_ok-d.ensures.read in
+    subst (λ (k : Kept). IsFree k c.in_ok-d.d.name) (sym c.in_ok-d.ensures.leaves.signature) (subst (λ (n : List ℕ). IsFree c.args.self.now.signature n) (sym name) c.requires.free)
+
+pub put_program-requires-clause-only : goal.put_program-requires-clause-only
+put_program-requires-clause-only c =
+    subst (λ (d : Program). HoldsOnly (program_trees d) c.carry_program.new.self) (sym c.in_ok-d.ensures.read) c.in_ok-d.ensures.leaves.only
 
 pub returns-clause-does : goal.returns-clause-does
 returns-clause-does c =
-    let h = c.args.self.now in
-    let d = read_program h.table.trees c.args.d in
-    let below = c.in_ok-add_program.ensures.below (length h.table.trees) c.requires.whole.signature c.requires.below in
-    no_fault-passes (program_fault d) (λ _. Ok (with_entry (state_of h) (IsProgram d))) c.in_ok-add_program.ensures.tells
-    ∙ ap Ok (sym (state_entry h c.requires.whole c.add_program.new.self below (IsProgram d) (c.in_ok-add_program.ensures.adds.adds h.table.trees)))
+    does-same _ _ c.put_program.result c.put_program.new.self (λ i. checked_program (sym c.in_ok-d.ensures.leaves.same i) (sym c.in_ok-d.ensures.read i)) c.put_program.ensures.does

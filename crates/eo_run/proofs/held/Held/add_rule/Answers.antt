@@ -1,34 +1,29 @@
-use Rattle.std.proofs.Common.{ℕ, length, sym, ap, ◌∙◌}
-use Rattle.std.specs.Prelude.{Ok}
-use Rattle.eo_sig.specs.Reading.{read_rule, signature}
-use Rattle.eo_sig.specs.Signature.{IsRule, rule_fault}
-use Rattle.eo_run.specs.Held.{state_of}
-use Rattle.eo_run.specs.State.{with_entry}
-use Rattle.eo_run.proofs.Adding.{no_fault-fails, no_fault-passes, does-sig}
-use Rattle.eo_run.proofs.Holding.{state_entry, whole_entry}
+use Rattle.std.proofs.Common.{◌≡◌, true, ℕ, List, ◌∷◌, length, sym, subst, ap, ◌∙◌, Contains}
+use Rattle.eo_sig.specs.Reading.{Kept, read_rule, IsFreeRule}
+use Rattle.eo_sig.specs.Signature.{Rule}
+use Rattle.eo_term.specs.Tree.{Tree}
+use Rattle.eo_run.specs.Held.{HoldsOnly, next_constant}
+use Rattle.eo_run.specs.Roots.{rule_trees}
+use Rattle.eo_run.specs.State.{State, is_in_scope}
+use Rattle.eo_run.specs.Step.{checked_rule}
+use Rattle.eo_run.proofs.Adding.{does-same}
 use Rattle.eo_run.proofs.held.Held.add_rule.Goals as goal
 
-pub returns-in_err-add_rule-clause-does : goal.returns-in_err-add_rule-clause-does
-returns-in_err-add_rule-clause-does c =
-    let ts = c.args.self.now.table.trees in
-    let d = read_rule ts c.args.d in
-    let st = state_of c.args.self.now in
-    let fault = rule_fault (signature ts c.args.self.now.signature) d in
-    does-sig ℕ _ fault c.from_residual.result c.in_err-add_rule.field-0.0 _ c.from_residual.ensures.1 c.in_err-add_rule.ensures.tells (no_fault-fails fault (λ _. Ok (with_entry st (IsRule d))))
+pub put_rule-requires-clause-whole : goal.put_rule-requires-clause-whole
+put_rule-requires-clause-whole c = c.in_ok-d.ensures.leaves.whole
 
-pub returns-clause-whole : goal.returns-clause-whole
-returns-clause-whole c =
-    let h = c.args.self.now in
-    let told = c.in_ok-add_rule.ensures in
-    let ts = h.table.trees in
-    whole_entry h c.requires.whole c.add_rule.new.self (told.below (length ts) c.requires.whole.signature c.requires.below) (IsRule (read_rule ts c.args.d)) (told.adds.adds ts) (told.usable ts c.requires.ordered) tt
+pub put_rule-requires-clause-outside : goal.put_rule-requires-clause-outside
+put_rule-requires-clause-outside c = ap is_in_scope c.in_ok-d.ensures.leaves.same ∙ c.requires.outside
+
+pub put_rule-requires-clause-free : goal.put_rule-requires-clause-free
+put_rule-requires-clause-free c =
+    let name = ap (λ (d : Rule). d.name) c.in_ok-d.ensures.read in
+    subst (λ (k : Kept). IsFreeRule k c.in_ok-d.d.name) (sym c.in_ok-d.ensures.leaves.signature) (subst (λ (n : List ℕ). IsFreeRule c.args.self.now.signature n) (sym name) c.requires.free)
+
+pub put_rule-requires-clause-only : goal.put_rule-requires-clause-only
+put_rule-requires-clause-only c =
+    subst (λ (d : Rule). HoldsOnly (rule_trees d) c.carry_rule.new.self) (sym c.in_ok-d.ensures.read) c.in_ok-d.ensures.leaves.only
 
 pub returns-clause-does : goal.returns-clause-does
 returns-clause-does c =
-    let h = c.args.self.now in
-    let told = c.in_ok-add_rule.ensures in
-    let ts = h.table.trees in
-    let d = read_rule ts c.args.d in
-    let below = told.below (length ts) c.requires.whole.signature c.requires.below in
-    no_fault-passes (rule_fault (signature ts h.signature) d) (λ _. Ok (with_entry (state_of h) (IsRule d))) told.tells
-    ∙ ap Ok (sym (state_entry h c.requires.whole c.add_rule.new.self below (IsRule d) (told.adds.adds ts)))
+    does-same _ _ c.put_rule.result c.put_rule.new.self (λ i. checked_rule (sym c.in_ok-d.ensures.leaves.same i) (sym c.in_ok-d.ensures.read i)) c.put_rule.ensures.does

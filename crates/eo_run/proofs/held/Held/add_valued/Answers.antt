@@ -5,7 +5,7 @@ use Rattle.eo_sig.specs.Reading.{read_constant, read_parameter}
 use Rattle.eo_term.specs.Terms.{tree_at}
 use Rattle.eo_elab.specs.Declarations.{is_free_or_reference}
 use Rattle.eo_run.specs.Held.{state_of}
-use Rattle.eo_run.specs.State.{State, context}
+use Rattle.eo_run.specs.State.{State, context, is_in_scope}
 use Rattle.eo_run.specs.Step.{added_constant, typed_constant}
 use Rattle.eo_run.specs.Stepping.{Does}
 use Rattle.eo_run.specs.declared.refused.Refused.{Refused}
@@ -46,3 +46,6 @@ returns-clause-does c =
     does-same _ _ c.add_or_repeat.result c.add_or_repeat.new.self
     (typed-added (state_of h) d v c.in_ok-ty.ensures.gives.is ∙ sym (λ i. added_constant (kept i) (same i)))
     c.add_or_repeat.ensures.does
+
+pub add_or_repeat-requires-clause-outside : goal.add_or_repeat-requires-clause-outside
+add_or_repeat-requires-clause-outside c = ap is_in_scope c.in_ok-ty.ensures.keeps.same ∙ c.requires.outside

@@ -1,12 +1,13 @@
-use Rattle.std.proofs.Common.{◌≡◌, Ok, sym, ap, subst, ◌∙◌}
+use Rattle.std.proofs.Common.{◌≡◌, ◌<◌, ◌∷◌, Ok, length, sym, ap, ◌∙◌, arith}
+use Rattle.std.proofs.lemmas.List.Elements.{All-weaker}
 use Rattle.std.specs.Prelude.{Result}
-use Rattle.eo_base.proofs.ChecksLemmas.{ok_injective}
+use Rattle.std.proofs.Math.Path.{transport}
 use Rattle.eo_elab.specs.Worlds.{labels_in}
 use Rattle.eo_term.specs.Growth.{tree_in}
-use Rattle.eo_term.specs.Terms.{Terms}
 use Rattle.eo_run.specs.Asserting.{asserted_as, MayBeNames}
-use Rattle.eo_run.specs.Held.{state_of}
-use Rattle.eo_run.specs.State.{State, with_assertion}
+use Rattle.eo_names.specs.Names.{Binding}
+use Rattle.eo_run.specs.Held.{state_of, label_trees, HoldsOnly}
+use Rattle.eo_run.specs.State.{is_in_scope, with_assertion}
 use Rattle.eo_run.specs.Step.{with_labels}
 use Rattle.eo_run.specs.Stepping.{Does}
 use Rattle.eo_run.specs.declared.refused.Refused.{Refused}
@@ -26,18 +27,29 @@ returns-in_err-value-clause-does c =
     at_exit (λ (r : Result (Unit {0}) Refused). Does r (asserted_as st t labels) c.formula_of.new.self) c.from_residual.result x c.from_residual.ensures.1
     (refuses_on _ _ x c.in_err-value.ensures.gives (asserted-fault st t labels))
 
-pub add_names-requires-clause-new : goal.add_names-requires-clause-new
-add_names-requires-clause-new c =
+pub carry_named-requires-clause-below : goal.carry_named-requires-clause-below
+carry_named-requires-clause-below c =
     let h = c.args.self.now in
-    let st = state_of h in
-    let names = c.args.names.now in
     let mid = c.formula_of.new.self in
-    let new = c.add_assertion.new.self in
-    let v = tree_in mid.table c.in_ok-value.value in
-    let keeps = c.in_ok-value.ensures.keeps in
-    let labels = ap (λ (t : Terms). labels_in t names) c.in_ok-add_assertion.ensures.table ∙ labels_later h.table mid.table keeps.grows names c.requires.below in
-    let state = ap (λ (z : State). with_assertion z v) (sym keeps.same) ∙ ok_injective _ _ c.in_ok-add_assertion.ensures.does in
-    subst (λ (z : State). MayBeNames z (labels_in new.table names)) state (subst (MayBeNames (with_assertion st v)) (sym labels) (asserted_names st v (labels_in h.table names) c.requires.new))
+    All-weaker (λ (b : Binding). b.1 < length h.table.trees) (λ (b : Binding). b.1 < length mid.table.trees) (λ b l. omega (arith, l, c.in_ok-value.ensures.keeps.grows.now.more_trees)) c.args.names.now c.requires.below
+
+pub put_asserted-requires-clause-outside : goal.put_asserted-requires-clause-outside
+put_asserted-requires-clause-outside c = ap is_in_scope (c.in_ok-carried.ensures.leaves.same ∙ c.in_ok-value.ensures.keeps.same) ∙ c.requires.outside
+
+pub put_asserted-requires-clause-new : goal.put_asserted-requires-clause-new
+put_asserted-requires-clause-new c =
+    let h = c.args.self.now in
+    let mid = c.formula_of.new.self in
+    let names = c.args.names.now in
+    let told = c.in_ok-carried.ensures in
+    let same = told.leaves.same ∙ c.in_ok-value.ensures.keeps.same in
+    let labels = told.names ∙ labels_later h.table mid.table c.in_ok-value.ensures.keeps.grows names c.requires.below in
+    transport (λ i. MayBeNames (with_assertion (sym same i) (sym told.value.tree i)) (sym labels i)) (asserted_names (state_of h) (tree_in mid.table c.in_ok-value.value) (labels_in h.table names) c.requires.new)
+
+pub put_asserted-requires-clause-only : goal.put_asserted-requires-clause-only
+put_asserted-requires-clause-only c =
+    let told = c.in_ok-carried.ensures in
+    transport (λ i. HoldsOnly (sym told.value.tree i ∷ label_trees (sym told.names i)) c.carry_named.new.self) told.leaves.only
 
 pub returns-clause-does : goal.returns-clause-does
 returns-clause-does c =
@@ -47,9 +59,9 @@ returns-clause-does c =
     let mid = c.formula_of.new.self in
     let t = tree_in h.table c.args.id in
     let v = tree_in mid.table c.in_ok-value.value in
-    let keeps = c.in_ok-value.ensures.keeps in
-    let labels = ap (λ (t : Terms). labels_in t names) c.in_ok-add_assertion.ensures.table ∙ labels_later h.table mid.table keeps.grows names c.requires.below in
-    let state = ap (λ (z : State). with_assertion z v) (sym keeps.same) ∙ ok_injective _ _ c.in_ok-add_assertion.ensures.does in
-    does-same _ _ c.add_names.result c.add_names.new.self
-    (asserted-is st t (labels_in h.table names) v c.in_ok-value.ensures.gives.is ∙ (λ i. Ok (with_labels (state i) (sym labels i))))
-    c.add_names.ensures.does
+    let told = c.in_ok-carried.ensures in
+    let same = told.leaves.same ∙ c.in_ok-value.ensures.keeps.same in
+    let labels = told.names ∙ labels_later h.table mid.table c.in_ok-value.ensures.keeps.grows names c.requires.below in
+    does-same _ _ c.put_asserted.result c.put_asserted.new.self
+    (asserted-is st t (labels_in h.table names) v c.in_ok-value.ensures.gives.is ∙ (λ i. Ok (with_labels (with_assertion (sym same i) (sym told.value.tree i)) (sym labels i))))
+    c.put_asserted.ensures.does

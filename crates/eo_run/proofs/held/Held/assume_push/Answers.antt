@@ -1,6 +1,5 @@
-use Rattle.std.proofs.Common.{◌≡◌, true, not, arith, sym, ap, ◌∙◌}
+use Rattle.std.proofs.Common.{◌≡◌, true, not, sym, ap, ◌∙◌}
 use Rattle.std.specs.Prelude.{Ok, Result, nat_lt}
-use Rattle.std.proofs.lemmas.Bool.Decides.{nat_tests}
 use Rattle.eo_sig.specs.Signature.{is_reserved}
 use Rattle.eo_term.specs.Terms.{tree_at}
 use Rattle.eo_proof.specs.Scopes.{depth, is_live, scope_limit}

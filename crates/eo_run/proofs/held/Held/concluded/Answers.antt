@@ -1,4 +1,4 @@
-use Rattle.std.proofs.Common.{◌≡◌, ℕ, ap, sym, ◌∙◌, Option, option_map}
+use Rattle.std.proofs.Common.{sym, ◌∙◌, option_map}
 use Rattle.eo_shape.specs.Reading.{read_step}
 use Rattle.eo_term.specs.Growth.{tree_in}
 use Rattle.eo_run.specs.Held.{state_of}

@@ -1,12 +1,12 @@
-use Rattle.std.proofs.Common.{◌≡◌, ℕ, ap, sym, ◌∙◌, Option, option_map, subst, length, ◌<◌}
-use Rattle.std.specs.Prelude.{Ok, Result}
+use Rattle.std.proofs.Common.{ap, sym, ◌∙◌, option_map, subst, length, ◌<◌}
+use Rattle.std.specs.Prelude.{Result}
 use Rattle.eo_rule.specs.Reading.{read_use}
 use Rattle.eo_shape.specs.Reading.{read_step}
 use Rattle.eo_sig.specs.Reading.{Kept, rules_of}
 use Rattle.eo_term.specs.Growth.{tree_in}
 use Rattle.eo_run.specs.Held.{state_of}
 use Rattle.eo_run.specs.State.{State}
-use Rattle.eo_run.specs.Step.{Concluded, concluded_by}
+use Rattle.eo_run.specs.Step.{concluded_by}
 use Rattle.eo_run.specs.Using.{GivesConcluded, concluded_from}
 use Rattle.eo_run.specs.declared.refused.Refused.{Refused}
 use Rattle.eo_run.specs.declared.steps.Conclusion.{Conclusion}

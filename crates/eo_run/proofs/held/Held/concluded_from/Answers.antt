@@ -6,7 +6,6 @@ use Rattle.eo_sig.specs.Signature.{rule_at}
 use Rattle.eo_term.specs.Growth.{tree_in}
 use Rattle.eo_run.specs.Held.{state_of}
 use Rattle.eo_run.specs.Stepping.{of_rule}
-use Rattle.eo_run.specs.Step.{Concluded}
 use Rattle.eo_run.specs.Using.{GivesConcluded, concluded_from}
 use Rattle.eo_run.specs.declared.refused.Refused.{Refused}
 use Rattle.eo_run.specs.declared.steps.Conclusion.{Conclusion}

@@ -9,15 +9,18 @@ returns-clause-keeps c =
     let k = keeps_types c.args.self.now c.requires.whole c.conclude-formula.new.table made.grows.stays made.grows.table c.conclude-formula.new.types made.fits.types c.laws.ensures in
     record {
       whole = record {
-        types = k.whole.types;
-        lasts = k.whole.lasts;
-        usable = k.whole.usable;
-        signature = k.whole.signature;
-        assertions = k.whole.assertions;
-        facts = k.whole.facts;
-        values = k.whole.values;
-        marks = k.whole.marks;
-        terms = k.whole.terms;
+        held = record {
+          types = k.whole.held.types;
+          lasts = k.whole.held.lasts;
+          usable = k.whole.held.usable;
+          signature = k.whole.held.signature;
+          assertions = k.whole.held.assertions;
+          facts = k.whole.held.facts;
+          values = k.whole.held.values;
+          marks = k.whole.held.marks;
+          terms = k.whole.held.terms;
+        };
+        live = record { exact = k.whole.live.exact; marked = k.whole.live.marked; scopes = k.whole.live.scopes };
       };
       same = k.same;
       signature = k.signature;

@@ -8,9 +8,6 @@ use Rattle.eo_sig.specs.Reading.{read_macro}
 use Rattle.eo_elab.specs.Declaring.{MayBeMacro}
 use Rattle.eo_run.proofs.held.Held.define.Goals as goal
 
-pub returns-in_err-d-clause-whole : goal.returns-in_err-d-clause-whole
-returns-in_err-d-clause-whole c = (keeps_table c.args.self.now c.requires c.defined.new.table c.in_err-d.ensures.grows.stays c.in_err-d.ensures.grows.table).whole
-
 pub returns-in_err-d-clause-does : goal.returns-in_err-d-clause-does
 returns-in_err-d-clause-does c =
     declared-refused _ added_macro (state_of c.args.self.now) c.from_residual.result _ c.in_err-d.field-0.0 c.from_residual.ensures.1 c.in_err-d.ensures.gives
@@ -25,7 +22,7 @@ add_macro-requires-clause-may c =
 
 pub add_macro-requires-clause-bound : goal.add_macro-requires-clause-bound
 add_macro-requires-clause-bound c =
-    c.ordering_law.ensures.macros _ _ _ _ (read_macro c.defined.new.table.trees c.in_ok-d.d) c.requires.terms c.in_ok-d.ensures.gives.is
+    c.ordering_law.ensures.macros _ _ _ _ (read_macro c.defined.new.table.trees c.in_ok-d.d) c.requires.held.terms c.in_ok-d.ensures.gives.is
 
 pub returns-clause-does : goal.returns-clause-does
 returns-clause-does c =

@@ -1,49 +1,31 @@
-use Rattle.std.proofs.Common.{◌≡◌, ℕ, List, ◌∷◌, length, sym, subst, ap, ◌∙◌}
-use Rattle.std.specs.Prelude.{Ok, Result}
-use Rattle.eo_term.specs.Terms.{tree_at}
-use Rattle.eo_proof.specs.Kept.{Kept, scopes}
-use Rattle.eo_run.specs.Held.{state_of, IsWhole}
-use Rattle.eo_run.specs.State.{with_scope}
-use Rattle.eo_run.specs.Stepping.{of_fact, Does}
-use Rattle.eo_run.specs.declared.refused.Refused.{Refused}
-use Rattle.eo_run.proofs.Exits.{at_exit}
-use Rattle.eo_run.proofs.Holding.{whole_scope, whole_begun, state_begun}
-use Rattle.eo_run.proofs.Sessions.{refuses_pushed}
+use Rattle.std.proofs.Common.{◌<◌, sym, ap, subst, ◌∙◌}
+use Rattle.std.specs.Prelude.{Ok}
+use Rattle.eo_proof.specs.Scopes.{depth, is_live, scope_limit}
+use Rattle.eo_run.specs.State.{State, with_scope}
+use Rattle.eo_run.proofs.Adding.{does-same}
+use Rattle.eo_run.proofs.Reclaiming.{one_tree, one_value, one_only}
 use Rattle.eo_run.proofs.held.Held.open_scope.Goals as goal
 
-pub returns-in_err-push-clause-whole : goal.returns-in_err-push-clause-whole
-returns-in_err-push-clause-whole c =
-    let h = c.args.self.now in
-    subst (λ (k : Kept). IsWhole (record h { facts = k })) (sym c.in_err-push.ensures.same) c.requires.whole
+pub carry_one-requires-clause-live : goal.carry_one-requires-clause-live
+carry_one-requires-clause-live c = c.requires.value.live
 
-pub returns-in_err-push-clause-does : goal.returns-in_err-push-clause-does
-returns-in_err-push-clause-does c =
-    let h = c.args.self.now in
-    let ts = h.table.trees in
-    let name = c.args.name.now in
-    let v = tree_at ts c.args.hypothesis in
-    let x = c.in_err-push.field-0.0 in
-    let m = Ok (with_scope (state_of h) name v) in
-    at_exit (λ (r : Result (Unit {0}) Refused). Does r m (record h { facts = c.push.new.self })) c.from_residual.result (of_fact x) c.from_residual.ensures.1
-    (refuses_pushed m x (scopes ts h.facts) (scopes ts c.push.new.self) name v c.requires.few c.requires.free (c.in_err-push.ensures.pushes ts))
+pub put_scope-requires-clause-whole : goal.put_scope-requires-clause-whole
+put_scope-requires-clause-whole c = c.in_ok-hypothesis.ensures.leaves.whole
 
-pub returns-in_err-add-clause-whole : goal.returns-in_err-add-clause-whole
-returns-in_err-add-clause-whole c =
-    let h = c.args.self.now in
-    let below = c.in_ok-push.ensures.below (length h.table.trees) c.requires.whole.facts c.requires.value.live in
-    subst (λ (ms : List ℕ). IsWhole (record h { facts = c.push.new.self; marks = ms })) (sym c.in_err-add.ensures.err)
-    (whole_scope h c.requires.whole c.push.new.self below c.args.name.now c.args.hypothesis c.requires.value.value (c.in_ok-push.ensures.pushes h.table.trees).2)
+pub put_scope-requires-clause-value : goal.put_scope-requires-clause-value
+put_scope-requires-clause-value c = one_value c.args.self.now c.carry_one.new.self c.args.hypothesis c.in_ok-hypothesis.hypothesis c.in_ok-hypothesis.ensures c.requires.value
 
-pub returns-clause-whole : goal.returns-clause-whole
-returns-clause-whole c =
-    let h = c.args.self.now in
-    let below = c.in_ok-push.ensures.below (length h.table.trees) c.requires.whole.facts c.requires.value.live in
-    let marked : c.add.new.self ≡ length h.signature.macros ∷ h.marks = c.in_ok-add.ensures.added ∙ ap (λ n. n ∷ h.marks) c.mark-mark.ensures in
-    whole_begun h c.requires.whole c.push.new.self below c.args.name.now c.args.hypothesis c.requires.value.value (c.in_ok-push.ensures.pushes h.table.trees).2 c.add.new.self marked
+pub put_scope-requires-clause-few : goal.put_scope-requires-clause-few
+put_scope-requires-clause-few c = subst (λ (s : State). depth s.scopes < scope_limit) (sym c.in_ok-hypothesis.ensures.leaves.same) c.requires.few
+
+pub put_scope-requires-clause-free : goal.put_scope-requires-clause-free
+put_scope-requires-clause-free c = ap (λ (s : State). is_live s.scopes c.args.name.now) c.in_ok-hypothesis.ensures.leaves.same ∙ c.requires.free
+
+pub put_scope-requires-clause-only : goal.put_scope-requires-clause-only
+put_scope-requires-clause-only c = one_only c.args.self.now c.carry_one.new.self c.args.hypothesis c.in_ok-hypothesis.hypothesis c.in_ok-hypothesis.ensures
 
 pub returns-clause-does : goal.returns-clause-does
 returns-clause-does c =
-    let h = c.args.self.now in
-    let below = c.in_ok-push.ensures.below (length h.table.trees) c.requires.whole.facts c.requires.value.live in
-    let marked : c.add.new.self ≡ length h.signature.macros ∷ h.marks = c.in_ok-add.ensures.added ∙ ap (λ n. n ∷ h.marks) c.mark-mark.ensures in
-    ap Ok (sym (state_begun h c.requires.whole c.push.new.self below c.args.name.now c.args.hypothesis c.requires.value.value (c.in_ok-push.ensures.pushes h.table.trees).2 c.add.new.self marked))
+    let k = c.in_ok-hypothesis.ensures in
+    let tree = one_tree c.args.self.now c.carry_one.new.self c.args.hypothesis c.in_ok-hypothesis.hypothesis k in
+    does-same _ _ c.put_scope.result c.put_scope.new.self (λ i. Ok (with_scope (sym k.leaves.same i) c.args.name.now (sym tree i))) c.put_scope.ensures.does

@@ -1,4 +1,4 @@
-use Rattle.std.proofs.Common.{◌≡◌, ℕ, ap, ◌∙◌, Option}
+use Rattle.std.proofs.Common.{ℕ, ap, ◌∙◌, Option}
 use Rattle.std.specs.Prelude.{Result}
 use Rattle.eo_run.specs.Held.{state_of}
 use Rattle.eo_run.specs.Step.{optional_value}

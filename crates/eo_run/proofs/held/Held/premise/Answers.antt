@@ -9,14 +9,14 @@ pub returns-in-Ok-clause-gives : goal.returns-in-Ok-clause-gives
 returns-in-Ok-clause-gives c =
     let h = c.args.self.now in
     record {
-      live = c.in-Ok.ensures.below (length h.table.trees) c.requires.facts;
+      live = c.in-Ok.ensures.below (length h.table.trees) c.requires.held.facts;
       is = premise-some (fact_named (state_of h).scopes c.args.name.now) _ (c.in-Ok.ensures.finds h.table.trees);
     }
 
 pub returns-in-Ok-clause-value : goal.returns-in-Ok-clause-value
 returns-in-Ok-clause-value c =
     let h = c.args.self.now in
-    fact_value (state_of h).scopes c.args.name.now _ c.requires.values (c.in-Ok.ensures.finds h.table.trees)
+    fact_value (state_of h).scopes c.args.name.now _ c.requires.held.values (c.in-Ok.ensures.finds h.table.trees)
 
 pub returns-in-Err-clause-gives : goal.returns-in-Err-clause-gives
 returns-in-Err-clause-gives c =

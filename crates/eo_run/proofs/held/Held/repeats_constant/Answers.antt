@@ -6,7 +6,7 @@ use Rattle.eo_run.proofs.held.Held.repeats_constant.Goals.{then-is_plain, else-i
 use Rattle.eo_run.proofs.held.Held.repeats_constant.Goals as goal
 
 pub is_same-requires-clause-first : goal.is_same-requires-clause-first
-is_same-requires-clause-first c = c.constant-old.ensures.live (length c.args.self.now.table.trees) c.requires.whole.signature
+is_same-requires-clause-first c = c.constant-old.ensures.live (length c.args.self.now.table.trees) c.requires.whole.held.signature
 
 pub returns-then-old : goal.returns-then-old
 returns-then-old c =

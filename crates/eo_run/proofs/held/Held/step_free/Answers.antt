@@ -1,4 +1,4 @@
-use Rattle.std.proofs.Common.{◌≡◌, true, ap, sym, subst, ◌∙◌}
+use Rattle.std.proofs.Common.{ap, sym, ◌∙◌}
 use Rattle.std.specs.Prelude.{Ok, Result}
 use Rattle.eo_shape.specs.Reading.{read_step}
 use Rattle.eo_run.specs.Held.{state_of}

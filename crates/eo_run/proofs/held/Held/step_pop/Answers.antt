@@ -1,6 +1,5 @@
-use Rattle.std.proofs.Common.{◌≡◌, ℕ, ◌<◌, length, Some, None, Option, option_map, ap, sym, subst, ◌∙◌}
+use Rattle.std.proofs.Common.{ℕ, ◌<◌, length, Option, option_map, ap, sym, subst, ◌∙◌}
 use Rattle.std.specs.Prelude.{IfSome}
-use Rattle.eo_proof.specs.Scopes.{innermost_hypothesis}
 use Rattle.eo_shape.specs.Reading.{read_step}
 use Rattle.eo_term.specs.Growth.{tree_in}
 use Rattle.eo_run.specs.Held.{state_of}
@@ -22,7 +21,7 @@ returns-then-not-is_free_outside-clause-does c =
 pub step_outside-requires-clause-live : goal.step_outside-requires-clause-live
 step_outside-requires-clause-live c =
     let n = length c.args.self.now.table.trees in
-    subst (λ (o : Option ℕ). IfSome o (λ i. i < n)) c.in-Some.is (c.hypothesis.ensures.below n c.requires.facts)
+    subst (λ (o : Option ℕ). IfSome o (λ i. i < n)) c.in-Some.is (c.hypothesis.ensures.below n c.requires.held.facts)
 
 pub step_outside-requires-clause-assumed : goal.step_outside-requires-clause-assumed
 step_outside-requires-clause-assumed c =

@@ -1,4 +1,4 @@
-use Rattle.std.proofs.Common.{◌≡◌, ℕ, ap, sym, ◌∙◌, Option, option_map}
+use Rattle.std.proofs.Common.{◌≡◌, ap, sym, ◌∙◌, option_map}
 use Rattle.std.specs.Prelude.{Ok, Result}
 use Rattle.eo_rule.specs.Uses.{Use}
 use Rattle.eo_rule.specs.declared.RuleUse.{RuleUse}

@@ -27,3 +27,6 @@ returns-in-Err-clause-steps c =
     let s = c.args.s.now in
     steps-refused c.in-Err.e _ _ c.args.self.now _ (ap (λ (x : Standing). x.ended) same ∙ c.if-self.false) refl c.in-Err.ensures.does
     (λ name h. ap (λ (x : Standing). step x.state from s) same ∙ step-fault (state_of c.self.inside.held) from s name h)
+
+pub run_command-requires : goal.run_command-requires
+run_command-requires c = (c.self.invariant c.if-self.false).whole

@@ -32,3 +32,6 @@ returns c =
           ∙ end-correct (state_of c.self.inside.held) (sym c.is_in_scope.ensures ∙ c.if-is_in_scope.false) c.if-not-self.false (sym c.refutes.ensures ∙ c.if-not-refutes.false),
       ap (λ (s : Standing). s.state.sorry) same ∙ c.if-self.false,
     )
+
+pub refutes-requires : goal.refutes-requires
+refutes-requires c = (c.self.invariant (ap (λ (s : Standing). s.ended) c.self.view_is ∙ c.requires)).whole

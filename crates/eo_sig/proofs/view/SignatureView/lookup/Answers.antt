@@ -1,10 +1,10 @@
-use Rattle.std.proofs.Common.{◌≡◌, [], Some, None, length, ap, sym, subst, ◌∙◌}
+use Rattle.std.proofs.Common.{◌≡◌, Some, None, length, ap, sym, subst, ◌∙◌}
 use Rattle.std.specs.Prelude.{option_map, IfSome}
 use Rattle.std.specs.Option.{option_or, option_copied}
 use Rattle.eo_sig.specs.Parts.{lookup_in}
 use Rattle.eo_sig.specs.Reading.{Kept, read_named, programs_of, IsWithin}
 use Rattle.eo_sig.specs.Views.{own_entry}
-use Rattle.eo_sig.proofs.Views.{own_lookup, programs_count, within_before, within_own}
+use Rattle.eo_sig.proofs.Views.{own_lookup, within_before, within_own}
 use Rattle.eo_sig.proofs.view.SignatureView.lookup.Goals as goal
 
 pub returns-in-Some-clause-named : goal.returns-in-Some-clause-named
@@ -27,7 +27,7 @@ returns-in-None-clause-named c = λ ts.
     let o = option_copied c.self.inside.own in
     let w = c.args.name.now in
     let n = c.programs.result in
-    let count : length (programs_of k) ≡ n = sym (c.programs.ensures ts ∙ programs_count ts k) in
+    let count : length (programs_of k) ≡ n = sym c.programs.ensures.count in
     let own : lookup_in ts k w ≡ None = sym (c.lookup.ensures.named ts) ∙ ap (option_map read_named) c.in-None.is in
     sym (ap (λ (k : Kept). lookup_in ts k w) (sym c.self.view_is) ∙ own_lookup ts k w o n count ∙ ap (λ x. option_or x (option_map read_named (own_entry o n w))) own ∙ ap (option_map read_named) (sym c.own_named.ensures))
 
@@ -35,6 +35,6 @@ pub returns-in-None-clause-within : goal.returns-in-None-clause-within
 returns-in-None-clause-within c =
     let k = c.self.inside.sig.now in
     let o = option_copied c.self.inside.own in
-    let count : length (programs_of k) ≡ c.programs.result = sym (c.programs.ensures [] ∙ programs_count [] k) in
+    let count : length (programs_of k) ≡ c.programs.result = sym c.programs.ensures.count in
     subst (λ r. IfSome r (λ e. IsWithin c.args.self.now e)) (sym c.own_named.ensures)
     (subst (λ (k : Kept). IfSome (own_entry o c.programs.result c.args.name.now) (λ e. IsWithin k e)) c.self.view_is (within_own k o c.programs.result c.args.name.now count))

@@ -1,16 +1,16 @@
-use Rattle.std.proofs.Common.{◌≡◌, ◌<◌, [], Some, length, slice_get, ap, sym, subst, ◌∙◌, arith}
+use Rattle.std.proofs.Common.{◌≡◌, ◌<◌, Some, length, slice_get, ap, sym, subst, ◌∙◌, arith}
 use Rattle.std.specs.Option.{option_copied}
 use Rattle.eo_sig.specs.Reading.{Kept, programs_of}
 use Rattle.eo_sig.specs.Views.{with_own}
 use Rattle.eo_sig.proofs.Readings.{program_read, program_below}
-use Rattle.eo_sig.proofs.Views.{own_here, own_before, own_less, programs_count}
+use Rattle.eo_sig.proofs.Views.{own_here, own_before, own_less}
 use Rattle.eo_sig.proofs.view.SignatureView.program.Goals as goal
 
 pub returns-then-n-programs-clause-kept : goal.returns-then-n-programs-clause-kept
 returns-then-n-programs-clause-kept c =
     let k = c.self.inside.sig.now in
     let same : c.args.self.now ≡ with_own k (Some c.in-Some.program.now) = sym c.self.view_is ∙ ap (λ o. with_own k (option_copied o)) c.in-Some.is in
-    let count = c.programs.ensures [] ∙ programs_count [] k in
+    let count = c.programs.ensures.count in
     ap (λ (k : Kept). slice_get (programs_of k) c.args.n) same ∙ own_here k c.in-Some.program.now c.args.n (omega (arith, c.if-n-programs.true, count))
 
 pub returns-then-n-programs-clause-value : goal.returns-then-n-programs-clause-value
@@ -23,7 +23,7 @@ pub program-requires : goal.program-requires
 program-requires c =
     let k = c.self.inside.sig.now in
     let same : c.args.self.now ≡ with_own k (Some c.in-Some.program.now) = sym c.self.view_is ∙ ap (λ o. with_own k (option_copied o)) c.in-Some.is in
-    let count = c.programs.ensures [] ∙ programs_count [] k in
+    let count = c.programs.ensures.count in
     own_less k c.in-Some.program.now c.args.n (subst (λ (k : Kept). c.args.n < length (programs_of k)) same c.requires) (λ e. omega (arith, e, c.if-n-programs.false, count))
 
 pub returns-else-n-programs-clause-kept : goal.returns-else-n-programs-clause-kept
