@@ -9,7 +9,8 @@ ghost use Rattle.eo_pattern.specs.Matching.{Assignment, Matches, empty, matching
 pub fn matching_law()
     ensures sound { (before σ : Assignment) (ps ts : List Tree) → matching before ps ts ≡ Some σ → Matches before ps ts σ }
     ensures complete { (before σ : Assignment) (ps ts : List Tree) → Matches before ps ts σ → matching before ps ts ≡ Some σ }
-    ensures none { (before : Assignment) (ps ts : List Tree) → ((σ : Assignment) → Matches before ps ts σ → ⊥) → matching before ps ts ≡ None }
+    ensures none { (before : Assignment) (ps ts : List Tree) → ((σ : Assignment) → Matches before ps ts σ → ⊥) →
+        matching before ps ts ≡ None }
 {}
 
 /// A law: what is put in for parameters changes nothing where there are none, or nothing stands for
