@@ -107,9 +107,9 @@ impl Hash for Args {
     ghost use Rattle.std.specs.Cmp.Lexicographic.{bytes_decides};
     ghost use Rattle.std.proofs.Common.{ap};
 
-    ghost hash_input = { fed.slice fed.usize };
+    ghost hash_input = { fed.slice fed.u32 };
 
-    ghost respects_eq = { λ x y h. ap (fed.slice fed.usize) ((bytes_decides x y).0 h) };
+    ghost respects_eq = { λ x y h. ap (fed.slice fed.u32) ((bytes_decides x y).0 h) };
 
     fn hash<H: Hasher>(&self, state: &mut H) {
         self.as_slice().hash(state);

@@ -1,7 +1,8 @@
 -- Roots by their keys.
-use Rattle.std.proofs.Common.{◌≡◌, ℕ, suc, pos, ◌<◌, ◌≤◌, List, [], ◌∷◌, ◌++◌, length, get_or, map, take, position, slice_get, Option, Some, None, IfSome, inl, inr, refl, sym, ap, ◌∙◌, subst, arith, length-append}
+use Rattle.std.proofs.Common.{◌≡◌, ℕ, ℤ, All, suc, pos, ◌<◌, ◌≤◌, List, [], ◌∷◌, ◌++◌, length, get_or, map, take, position, slice_get, Option, Some, None, IfSome, inl, inr, refl, sym, ap, ◌∙◌, subst, arith, length-append}
 use Rattle.std.specs.Map.{keys_of, lookup}
 use Rattle.std.proofs.lemmas.List.{get_or-take, length-map, length-take-le, map-append, take-map}
+use Rattle.std.proofs.lemmas.List.Elements.{All-take}
 use Rattle.std.proofs.lemmas.Option.{slice_get-get_or, get_or_from_slice_get}
 use Rattle.eo_term.specs.declared.OpCode.{OpCode}
 use Rattle.eo_term.specs.declared.node.Node.{Node}
@@ -12,8 +13,9 @@ use Rattle.eo_term.specs.declared.node.Key.{Key}
 use Rattle.eo_term.specs.declared.node.Key.TheVariants as key
 use Rattle.eo_term.specs.declared.node.Info.{Info}
 use Rattle.eo_term.specs.declared.nodes.Nodes.{Nodes}
+use Rattle.eo_term.specs.SmallNumbers.{IsSmall}
 use Rattle.eo_term.specs.Terms.{AreApart}
-use Rattle.eo_term.specs.Keys.{literal_node, literal_at, list_at, root_of, UsesOnly, literals_of, lists_of, list_items, ages_of, entries_of, IsOld, IsNumbered, IsKeyed, IsKept, IsKeyOf, IsMore, IsNew, HasRootAt, IsCut, Root}
+use Rattle.eo_term.specs.Keys.{literal_node, literal_at, list_at, root_of, UsesOnly, IsWide, literals_of, lists_of, list_items, ages_of, entries_of, IsOld, IsNumbered, IsKeyed, IsKept, IsKeyOf, IsMore, IsNew, HasRootAt, IsCut, Root}
 use Rattle.eo_term.specs.contracts.node.KeyPartialEq.TheImpl as key_eq
 use Rattle.eo_term.proofs.Apart.{one_place}
 use Rattle.eo_term.proofs.Exact.{key_exact, key_same}
@@ -22,6 +24,7 @@ use Rattle.eo_term.proofs.Numbers.{slice_get_at_map, slice_get_of_map, found_ent
 
 pub uses_weaker : (P Q R S : ℕ → Type 0) → ((l : ℕ) → P l → R l) → ((l : ℕ) → Q l → S l) → (k : Key) → UsesOnly P Q k → UsesOnly R S k
 uses_weaker P Q R S f g (key.Con k) h = tt
+uses_weaker P Q R S f g (key.Num z) h = h
 uses_weaker P Q R S f g (key.Literal l) h = f l h
 uses_weaker P Q R S f g (key.Str s) h = tt
 uses_weaker P Q R S f g (key.Par i) h = tt
@@ -30,11 +33,12 @@ uses_weaker P Q R S f g (key.App a b) h = tt
 uses_weaker P Q R S f g (key.Arr a b) h = tt
 uses_weaker P Q R S f g (key.Qar i a b) h = tt
 uses_weaker P Q R S f g (key.Builtin o n l) h = g l h
-uses_weaker P Q R S f g (key.Prog p n l) h = g l h
+uses_weaker P Q R S f g (key.Prog n p l) h = g l h
 
 -- a key stands for the same root where its literal and its arguments are the same
 pub root_same : (ls ms : List Literal) (as' bs : List (List ℕ)) (k : Key) → UsesOnly (λ l. literal_at ms l ≡ literal_at ls l) (λ l. list_at bs l ≡ list_at as' l) k → root_of ms bs k ≡ root_of ls as' k
 root_same ls ms as' bs (key.Con k) h = refl
+root_same ls ms as' bs (key.Num z) h = refl
 root_same ls ms as' bs (key.Literal l) h = λ i. record { node = literal_node (h i); args = [] }
 root_same ls ms as' bs (key.Str s) h = refl
 root_same ls ms as' bs (key.Par i) h = refl
@@ -43,7 +47,7 @@ root_same ls ms as' bs (key.App a b) h = refl
 root_same ls ms as' bs (key.Arr a b) h = refl
 root_same ls ms as' bs (key.Qar i a b) h = refl
 root_same ls ms as' bs (key.Builtin o n l) h = λ i. record { node = node.Op (OpCode.Builtin o) n; args = h i }
-root_same ls ms as' bs (key.Prog p n l) h = λ i. record { node = node.Op (OpCode.Prog p) n; args = h i }
+root_same ls ms as' bs (key.Prog n p l) h = λ i. record { node = node.Op (OpCode.Prog p) n; args = h i }
 
 literal_one : (a b : Literal) → literal_node a ≡ literal_node b → a ≡ b
 literal_one (literal.Num a) (literal.Num b) e = ap literal.Num cc
@@ -63,7 +67,14 @@ literal_is : (a : Literal) → is_literal_node (literal_node a)
 literal_is (literal.Num z) = tt
 literal_is (literal.Bits w v) = tt
 
-module _ (ls : List Literal) (as' : List (List ℕ)) (la : AreApart ls) (aa : AreApart as') where
+-- a small number is no literal that no key holds itself
+not_wide : {A : Type 0} (l : Literal) (z : ℤ) → IsWide l → literal_node l ≡ node.Num z → IsSmall z → A
+not_wide (literal.Num y) z w e s =
+    let same : y ≡ z = cc in
+    absurd (w (subst IsSmall (sym same) s))
+not_wide (literal.Bits v b) z w e s = absurd cc
+
+module _ (ls : List Literal) (as' : List (List ℕ)) (la : AreApart ls) (aa : AreApart as') (wide : All IsWide ls) where
   abbrev Live : Key → Type 0
   Live k = UsesOnly (λ l. l < length ls) (λ l. l < length as') k
 
@@ -72,6 +83,7 @@ module _ (ls : List Literal) (as' : List (List ℕ)) (la : AreApart ls) (aa : Ar
 
   same_key : (k l : Key) → Live k → Live l → (root_of ls as' k).node ≡ (root_of ls as' l).node → (root_of ls as' k).args ≡ (root_of ls as' l).args → k ≡ l
   same_key (key.Con a) (key.Con b) p q e f = ap key.Con cc
+  same_key (key.Num a) (key.Num b) p q e f = ap key.Num cc
   same_key (key.Literal a) (key.Literal b) p q e f =
       ap key.Literal (one_place ls (literal.Num (pos 0)) la a b p q (literal_one (literal_at ls a) (literal_at ls b) e))
   same_key (key.Str a) (key.Str b) p q e f = ap key.Str cc
@@ -103,6 +115,8 @@ module _ (ls : List Literal) (as' : List (List ℕ)) (la : AreApart ls) (aa : Ar
       let g : m ≡ n = cc in
       let l : a ≡ b = one_place as' [] aa a b p q f in
       λ i. key.Prog (h i) (g i) (l i)
+  same_key (key.Literal a) (key.Num z) p q e f = not_wide (literal_at ls a) z (wide a (literal.Num (pos 0)) p) e q
+  same_key (key.Num z) (key.Literal a) p q e f = not_wide (literal_at ls a) z (wide a (literal.Num (pos 0)) q) (sym e) p
   same_key (key.Literal a) (key.Con b) p q e f = other a (node.Con b) e (λ x. x)
   same_key (key.Literal a) (key.Str b) p q e f = other a (node.Str b) e (λ x. x)
   same_key (key.Literal a) (key.Par b) p q e f = other a (node.Par b) e (λ x. x)
@@ -111,7 +125,7 @@ module _ (ls : List Literal) (as' : List (List ℕ)) (la : AreApart ls) (aa : Ar
   same_key (key.Literal a) (key.Arr s b) p q e f = other a (node.Arr s b) e (λ x. x)
   same_key (key.Literal a) (key.Qar j s b) p q e f = other a (node.Qar j s b) e (λ x. x)
   same_key (key.Literal a) (key.Builtin o n b) p q e f = other a (node.Op (OpCode.Builtin o) n) e (λ x. x)
-  same_key (key.Literal a) (key.Prog o n b) p q e f = other a (node.Op (OpCode.Prog o) n) e (λ x. x)
+  same_key (key.Literal a) (key.Prog n o b) p q e f = other a (node.Op (OpCode.Prog o) n) e (λ x. x)
   same_key (key.Con b) (key.Literal a) p q e f = other a (node.Con b) (sym e) (λ x. x)
   same_key (key.Str b) (key.Literal a) p q e f = other a (node.Str b) (sym e) (λ x. x)
   same_key (key.Par b) (key.Literal a) p q e f = other a (node.Par b) (sym e) (λ x. x)
@@ -120,7 +134,7 @@ module _ (ls : List Literal) (as' : List (List ℕ)) (la : AreApart ls) (aa : Ar
   same_key (key.Arr s b) (key.Literal a) p q e f = other a (node.Arr s b) (sym e) (λ x. x)
   same_key (key.Qar j s b) (key.Literal a) p q e f = other a (node.Qar j s b) (sym e) (λ x. x)
   same_key (key.Builtin o n b) (key.Literal a) p q e f = other a (node.Op (OpCode.Builtin o) n) (sym e) (λ x. x)
-  same_key (key.Prog o n b) (key.Literal a) p q e f = other a (node.Op (OpCode.Prog o) n) (sym e) (λ x. x)
+  same_key (key.Prog n o b) (key.Literal a) p q e f = other a (node.Op (OpCode.Prog o) n) (sym e) (λ x. x)
   same_key k l p q e f = absurd cc
 
   -- keys that stand for one root are one key
@@ -149,6 +163,7 @@ module _ (m n : Nodes) (k : IsKept m) (g : IsMore m n) where
     keyed = λ i e p. keyed_more i e.0 (k.keyed i e (sym (ap (λ t. slice_get t.entries i) g.keys) ∙ p));
     literals = subst (λ t. IsNumbered (length t.entries) (literals_of n) (ages_of n.literals.entries)) (sym g.keys) g.literals.numbered;
     lists = subst (λ t. IsNumbered (length t.entries) (lists_of n) (ages_of n.lists.entries)) (sym g.keys) g.lists.numbered;
+    wide = g.wide;
   }
 
   pub entries_more : entries_of n ≡ entries_of m
@@ -173,7 +188,7 @@ module _ (n : Nodes) (h : IsKept n) where
     new_key none i e p q =
         let at = slice_get_of_map (λ (e : Key × Info). (roots e.0, e.1)) n.keys.entries i e p in
         let same : k ≡ at.0.0 =
-        one_key (literals_of n) (lists_of n) h.literals.apart h.lists.apart k at.0.0 own.live (live_key i at.0.0 (h.keyed i at.0 at.1)) (own.root ∙ sym (ap (λ (e : Root × Info). e.0) at.2 ∙ q)) in
+        one_key (literals_of n) (lists_of n) h.literals.apart h.lists.apart h.wide k at.0.0 own.live (live_key i at.0.0 (h.keyed i at.0 at.1)) (own.root ∙ sym (ap (λ (e : Root × Info). e.0) at.2 ∙ q)) in
         no_entry (key_eq.ghosts.eq k) n.keys.entries none i at.0 at.1 (key_same k at.0.0 same)
 
     pub found_root : (r : Option ℕ) → r ≡ position (key_eq.ghosts.eq k) (keys_of n.keys.entries) → IfSome r (λ i. HasRootAt (entries_of n) i d is)
@@ -198,6 +213,7 @@ module _ (m n : Nodes) (h : IsKept m) (keys : n.keys.entries ≡ m.keys.entries)
     keyed = λ i e p. uses_weaker _ _ _ _ (λ l. subst (λ t. IsOld (ages_of t.entries) i l) (sym ls)) (λ l. subst (λ t. IsOld (ages_of t.entries) i l) (sym as')) e.0 (h.keyed i e (sym (ap (λ es. slice_get es i) keys) ∙ p));
     literals = subst (λ l. IsNumbered (length n.keys.entries) (keys_of l.entries) (ages_of l.entries)) (sym ls) (subst (λ es. IsNumbered (length es) (literals_of m) (ages_of m.literals.entries)) (sym keys) h.literals);
     lists = subst (λ l. IsNumbered (length n.keys.entries) (list_items l.entries) (ages_of l.entries)) (sym as') (subst (λ es. IsNumbered (length es) (lists_of m) (ages_of m.lists.entries)) (sym keys) h.lists);
+    wide = subst (λ l. All IsWide (keys_of l.entries)) (sym ls) h.wide;
   }
 
   pub entries_same : entries_of n ≡ entries_of m
@@ -216,6 +232,7 @@ module _ (m n : Nodes) (h : IsKept m) (k : Key) (s : Info) (keyed : IsKeyed m (l
     ];
     literals = subst (λ l. IsNumbered (length n.keys.entries) (keys_of l.entries) (ages_of l.entries)) (sym ls) (numbered_later _ _ _ h.literals (length n.keys.entries) longer);
     lists = subst (λ l. IsNumbered (length n.keys.entries) (list_items l.entries) (ages_of l.entries)) (sym as') (numbered_later _ _ _ h.lists (length n.keys.entries) longer);
+    wide = subst (λ l. All IsWide (keys_of l.entries)) (sym ls) h.wide;
   }
     where
       moved : (i : ℕ) (e : Key) → IsKeyed m i e → IsKeyed n i e
@@ -257,6 +274,7 @@ module _ (m n : Nodes) (h : IsKept m) (t a b : ℕ) (within : t ≤ length m.key
         keyed_cut i e.0 q.0 (h.keyed i e q.1);
     literals = subst (λ c. IsNumbered c (literals_of n) (ages_of n.literals.entries)) count (subst (λ xs. IsNumbered t xs (ages_of n.literals.entries)) (sym literals) (subst (IsNumbered t (take a (literals_of m))) (sym literal_ages) (numbered_cut _ _ _ h.literals t a ca)));
     lists = subst (λ c. IsNumbered c (lists_of n) (ages_of n.lists.entries)) count (subst (λ xs. IsNumbered t xs (ages_of n.lists.entries)) (sym lists) (subst (IsNumbered t (take b (lists_of m))) (sym list_ages) (numbered_cut _ _ _ h.lists t b cb)));
+    wide = subst (All IsWide) (sym literals) (All-take IsWide a (literals_of m) h.wide);
   }
 
   root_cut : (i : ℕ) (e : Key) → i < t → IsKeyed m i e → root_of (literals_of n) (lists_of n) e ≡ root_of (literals_of m) (lists_of m) e

@@ -1,5 +1,5 @@
 -- How a table keeps the roots of its terms: each under a small key, in which a literal and a list of arguments have numbers of their own.
-use Rattle.std.specs.Prelude.{◌≡◌, ◌+◌, ℕ, suc, pos, Vec, ◌<◌, ◌≤◌, List, [], ◌∷◌, ◌++◌, ◌⊎◌, length, map, slice_get, slice_index_or, Some}
+use Rattle.std.specs.Prelude.{◌≡◌, ◌+◌, ℕ, suc, pos, Vec, ◌<◌, ◌≤◌, List, [], ◌∷◌, ◌++◌, ◌⊎◌, length, map, slice_get, slice_index_or, Some, All}
 use Rattle.std.specs.Map.{keys_of}
 use Rattle.std.specs.Global.{Global}
 use Rattle.indexmap.specs.IndexMap.{spare}
@@ -14,6 +14,7 @@ use Rattle.eo_term.specs.declared.node.Info.{Info}
 use Rattle.eo_term.specs.declared.nodes.Nodes.{Nodes}
 use Rattle.eo_term.specs.declared.nodes.Shape.{Shape}
 use Rattle.eo_term.specs.declared.nodes.Shape.TheVariants as shape
+use Rattle.eo_term.specs.SmallNumbers.{IsSmall}
 use Rattle.eo_term.specs.Terms.{AreApart}
 
 -- the root of a term: its node, with the arguments where it is an operator
@@ -40,6 +41,7 @@ list_at as' l = slice_index_or as' l []
 -- the root that a key stands for, among those literals and lists of arguments
 abbrev pub root_of : List Literal → List (List ℕ) → Key → Root
 root_of ls as' (key.Con k) = plain (node.Con k)
+root_of ls as' (key.Num z) = plain (node.Num z)
 root_of ls as' (key.Literal l) = plain (literal_node (literal_at ls l))
 root_of ls as' (key.Str s) = plain (node.Str s)
 root_of ls as' (key.Par i) = plain (node.Par i)
@@ -48,11 +50,12 @@ root_of ls as' (key.App f x) = plain (node.App f x)
 root_of ls as' (key.Arr a b) = plain (node.Arr a b)
 root_of ls as' (key.Qar i t b) = plain (node.Qar i t b)
 root_of ls as' (key.Builtin o n l) = record { node = node.Op (OpCode.Builtin o) n; args = list_at as' l }
-root_of ls as' (key.Prog p n l) = record { node = node.Op (OpCode.Prog p) n; args = list_at as' l }
+root_of ls as' (key.Prog n p l) = record { node = node.Op (OpCode.Prog p) n; args = list_at as' l }
 
--- P holds of the number of the key's literal, Q of that of its arguments
+-- a number that the key holds is small, P holds of the number of its literal, Q of that of its arguments
 abbrev pub UsesOnly : (ℕ → Type 0) → (ℕ → Type 0) → Key → Type 0
 UsesOnly P Q (key.Con k) = Unit {0}
+UsesOnly P Q (key.Num z) = IsSmall z
 UsesOnly P Q (key.Literal l) = P l
 UsesOnly P Q (key.Str s) = Unit {0}
 UsesOnly P Q (key.Par i) = Unit {0}
@@ -61,7 +64,12 @@ UsesOnly P Q (key.App f x) = Unit {0}
 UsesOnly P Q (key.Arr a b) = Unit {0}
 UsesOnly P Q (key.Qar i t b) = Unit {0}
 UsesOnly P Q (key.Builtin o n l) = Q l
-UsesOnly P Q (key.Prog p n l) = Q l
+UsesOnly P Q (key.Prog n p l) = Q l
+
+-- a literal that no key holds itself
+abbrev pub IsWide : Literal → Type 0
+IsWide (literal.Num z) = IsSmall z → ⊥
+IsWide (literal.Bits w v) = Unit {0}
 
 abbrev pub ages_of : {K : Type 0} → List (K × ℕ) → List ℕ
 ages_of es = map (λ e. e.1) es
@@ -98,6 +106,7 @@ pub record IsKept (n : Nodes) : Type 0 where
   pub keyed : (i : ℕ) (e : Key × Info) → slice_get n.keys.entries i ≡ Some e → IsKeyed n i e.0
   pub literals : IsNumbered (length n.keys.entries) (literals_of n) (ages_of n.literals.entries)
   pub lists : IsNumbered (length n.keys.entries) (lists_of n) (ages_of n.lists.entries)
+  pub wide : All IsWide (literals_of n)
 
 -- the entry at a place has that information
 abbrev pub IsAt : List (Root × Info) → ℕ → Info → Type 0
@@ -139,13 +148,13 @@ pub record IsKeyOf (n : Nodes) (d : Node) (is : List ℕ) (k : Key) : Type 0 whe
 -- what is to be numbered in the root
 abbrev pub IsShape : Node → Shape → Type 0
 IsShape d (shape.Known k) = UsesOnly (λ l. ⊥) (λ l. ⊥) k × ((ls : List Literal) (as' : List (List ℕ)) → root_of ls as' k ≡ plain d)
-IsShape d (shape.Literal l) = d ≡ literal_node l
+IsShape d (shape.Literal l) = (d ≡ literal_node l) × IsWide l
 IsShape d (shape.Applied c n) = d ≡ node.Op c n
 
 -- the key of an operator whose arguments have the number l
 abbrev pub applied : OpCode → ℕ → ℕ → Key
 applied (OpCode.Builtin o) n l = key.Builtin o n l
-applied (OpCode.Prog p) n l = key.Prog p n l
+applied (OpCode.Prog p) n l = key.Prog n p l
 
 -- x has the number l, and came when there were at most n terms
 pub record HasNumber {X : Type 0} (n : ℕ) (xs : List X) (ages : List ℕ) (x : X) (l : ℕ) : Type 0 where
@@ -179,3 +188,4 @@ pub record IsMore (m n : Nodes) : Type 0 where
   pub keys : n.keys ≡ m.keys
   pub literals : MoreLiterals (length m.keys.entries) m.literals.entries n.literals.entries
   pub lists : MoreLists (length m.keys.entries) m.lists.entries n.lists.entries
+  pub wide : All IsWide (literals_of n)

@@ -1,15 +1,17 @@
 //! The roots of terms, each under a small key.
 ghost use Rattle.std.specs.Prelude.{◌≡◌, ℕ, ◌+◌, ◌<◌, ◌≤◌, ◌^◌, [], ◌∷◌, ◌++◌, length, map, take};
-ghost use Rattle.std.specs.Prelude.{slice_get, Some, IsOk, IfOk, IfSome, IfNone, OnOk, OnErr};
+ghost use Rattle.std.specs.Prelude.{slice_get, Some, All, IsOk, IfOk, IfSome, IfNone, OnOk, OnErr};
 ghost use Rattle.std.specs.Map.{keys_of};
 ghost use Rattle.indexmap.specs.IndexMap.{spare};
 ghost use Rattle.eo_term.specs.Terms.{HasArguments};
 ghost use Rattle.eo_term.specs.Keys.{IsRoot, root_of, literal_node, literal_at, list_at, UsesOnly, literals_of};
 ghost use Rattle.eo_term.specs.Keys.{lists_of, list_items, ages_of, entries_of, IsKeyed, IsKept, IsMore, IsKeyOf, IsAt};
 ghost use Rattle.eo_term.specs.Keys.{IsNew, IsPut, HasRoom, IsNumbered, HasNumber, MoreLiterals, MoreLists, HasKeyRoom};
-ghost use Rattle.eo_term.specs.Keys.{IsAbsent, IsCut, IsShape, applied};
+ghost use Rattle.eo_term.specs.Keys.{IsAbsent, IsCut, IsShape, IsWide, applied};
+ghost use Rattle.eo_term.specs.declared.node.Node.TheVariants as node;
 
-use crate::node::{Info, Key, Literal};
+use crate::id::number_of;
+use crate::node::{Info, Key, Literal, SmallNumber};
 use crate::{Id, Node, OpCode};
 use indexmap::IndexMap;
 use std::alloc::{AllocError, Global};
@@ -20,8 +22,9 @@ type Literals = IndexMap<Literal, usize, BuildHasherDefault<DefaultHasher>>;
 
 /// The roots of terms and what is known of them, by their places. No root stands twice.
 ///
-/// A literal and a list of arguments stand once each, under numbers of their own, with how many
-/// terms there were when it came. So they are dropped from the end with the terms that use them.
+/// A small number stands in the key of its term. Any other literal and a list of arguments stand once
+/// each, under numbers of their own, with how many terms there were when it came. So they are dropped
+/// from the end with the terms that use them.
 #[derive(Drop)]
 pub(crate) struct Nodes {
     pub(crate) keys: IndexMap<Key, Info>,
@@ -50,6 +53,7 @@ impl Nodes {
     }
 
     // What is known of the term at a place.
+    #[inline(always)]
     pub(crate) fn info(&self, at: usize) -> Info
         requires { at < length (entries_of self.now) }
         ensures { IsAt (entries_of self.now) at result }
@@ -59,6 +63,7 @@ impl Nodes {
     }
 
     // The root of the term at a place, and what is known of it.
+    #[inline(always)]
     pub(crate) fn get(&self, at: usize) -> (Node, &[Id], Info)
         requires kept { IsKept self.now }
         requires live { at < length (entries_of self.now) }
@@ -69,14 +74,14 @@ impl Nodes {
         (node, args, *info)
     }
 
-    // The place of the term with that root, which is added at the end where it is not there.
+    // The number of the term with that root, which is added at the end where it is not there.
     pub(crate) fn intern(
         &mut self,
         alloc: Global,
         node: &Node,
         args: &[Id],
         info: Info,
-    ) -> Result<usize, AllocError>
+    ) -> Result<u32, AllocError>
         requires kept { IsKept self.old }
         requires args { HasArguments node.now args.now }
         ensures kept { IsKept self.new }
@@ -85,11 +90,11 @@ impl Nodes {
     {
         let key = self.key_of(alloc, node, args)?;
         match self.keys.get_index_of(&key) {
-            Some(at) => Ok(at),
+            Some(at) => number_of(at),
             None => {
-                let at = self.keys.len();
+                let number = number_of(self.keys.len())?;
                 self.keys.insert(key, info)?;
-                Ok(at)
+                Ok(number)
             }
         }
     }
@@ -181,12 +186,14 @@ impl Nodes {
     }
 
     // The root that a key stands for.
+    #[inline(always)]
     fn root(&self, key: &Key) -> (Node, &[Id])
         requires { UsesOnly (λ l. l < length (literals_of self.now)) (λ l. l < length (lists_of self.now)) key.now }
         ensures { IsRoot (root_of (literals_of self.now) (lists_of self.now) key.now) result.0 result.1.now }
     {
         match *key {
             Key::Con(k) => (Node::Con(k), &[]),
+            Key::Num(small) => (Node::Num(small.value as i128), &[]),
             Key::Literal(l) => (self.literal(l), &[]),
             Key::Str(text) => (Node::Str(text), &[]),
             Key::Par(i) => (Node::Par(i), &[]),
@@ -199,8 +206,8 @@ impl Nodes {
                 (Node::Op { code, count }, self.list(args))
             }
             Key::Prog {
-                program,
                 count,
+                program,
                 args,
             } => {
                 let code = OpCode::Prog(program);
@@ -209,6 +216,7 @@ impl Nodes {
         }
     }
 
+    #[inline]
     fn literal(&self, number: usize) -> Node
         requires { number < length (literals_of self.now) }
         ensures { result ≡ literal_node (literal_at (literals_of self.now) number) }
@@ -220,6 +228,7 @@ impl Nodes {
         }
     }
 
+    #[inline]
     fn list(&self, number: usize) -> &[Id]
         requires { number < length (lists_of self.now) }
         ensures { result.now ≡ list_at (lists_of self.now) number }
@@ -243,7 +252,7 @@ fn shape_of(node: &Node) -> Shape
 {
     match *node {
         Node::Con(k) => Shape::Known(Key::Con(k)),
-        Node::Num(z) => Shape::Literal(Literal::Num(z)),
+        Node::Num(z) => shape_of_number(z),
         Node::Bits { width, value } => Shape::Literal(Literal::Bits { width, value }),
         Node::Str(text) => Shape::Known(Key::Str(text)),
         Node::Par(i) => Shape::Known(Key::Par(i)),
@@ -255,6 +264,15 @@ fn shape_of(node: &Node) -> Shape
     }
 }
 
+fn shape_of_number(z: i128) -> Shape
+    ensures { IsShape (node.Num z) result }
+{
+    match i64::try_from(z) {
+        Ok(value) => Shape::Known(Key::Num(SmallNumber { value })),
+        Err(_) => Shape::Literal(Literal::Num(z)),
+    }
+}
+
 // The key of an operator whose arguments have that number.
 fn applied(code: OpCode, count: u8, args: usize) -> Key
     ensures { result ≡ applied code count args }
@@ -262,8 +280,8 @@ fn applied(code: OpCode, count: u8, args: usize) -> Key
     match code {
         OpCode::Builtin(name) => Key::Builtin { name, count, args },
         OpCode::Prog(program) => Key::Prog {
-            program,
             count,
+            program,
             args,
         },
     }
@@ -289,9 +307,12 @@ fn number_literal(
     literal: Literal,
     terms: usize,
 ) -> Result<usize, AllocError>
-    requires { IsNumbered terms (keys_of literals.old.entries) (ages_of literals.old.entries) }
+    requires numbered { IsNumbered terms (keys_of literals.old.entries) (ages_of literals.old.entries) }
+    requires wide { IsWide literal }
+    requires all_wide { All IsWide (keys_of literals.old.entries) }
     ensures number { IfOk result (HasNumber terms (keys_of literals.new.entries) (ages_of literals.new.entries) literal) }
     ensures more { MoreLiterals terms literals.old.entries literals.new.entries }
+    ensures wide { All IsWide (keys_of literals.new.entries) }
     ensures succeeds { 0 < spare literals.old → IsOk result }
     ensures room { spare literals.old ≤ spare literals.new + 1 }
 {

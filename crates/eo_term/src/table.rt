@@ -124,6 +124,7 @@ impl Table {
 
     /// The root of a term. Its parts are older terms; the arguments of an operator are told by
     /// [`Table::arg`].
+    #[inline]
     pub fn node(&self, id: Id) -> Node
         requires { id < length self.now.trees }
         ensures tree { tree_of self.now.trees self.now.texts result (arguments_of (tree_at self.now.trees id)) ≡ tree_at self.now.trees id }
@@ -137,6 +138,7 @@ impl Table {
     }
 
     /// The argument of an operator at a place, counted from 0. It is an older term.
+    #[inline]
     pub fn arg(&self, id: Id, i: usize) -> Id
         requires live { id < length self.now.trees }
         requires within { i < count_of (arguments_of (tree_at self.now.trees id)) }
@@ -148,6 +150,7 @@ impl Table {
     }
 
     /// The arguments of an operator, and none of any other term. They are older terms.
+    #[inline]
     pub fn args(&self, id: Id) -> &[Id]
         requires { id < length self.now.trees }
         ensures trees { trees_at self.now.trees result.now ≡ arguments_of (tree_at self.now.trees id) }
@@ -180,6 +183,7 @@ impl Table {
 
     /// The height of a term, from 1 to [`HEIGHT_LIMIT`]: that of a leaf is 1, that of any other
     /// term is 1 more than its tallest part's.
+    #[inline]
     pub fn height(&self, id: Id) -> u32
         requires { id < length self.now.trees }
         ensures height { result ≡ height (tree_at self.now.trees id) }
@@ -190,6 +194,7 @@ impl Table {
 
     /// Whether a term is a value: it has no parameter, no operator and no function type that binds
     /// one.
+    #[inline]
     pub fn is_value(&self, id: Id) -> bool
         requires { id < length self.now.trees }
         ensures value { result ≡ is_value (tree_at self.now.trees id) }
@@ -199,6 +204,7 @@ impl Table {
     }
 
     /// Whether a term has no parameter.
+    #[inline]
     pub fn is_closed(&self, id: Id) -> bool
         requires { id < length self.now.trees }
         ensures closed { result ≡ is_closed (tree_at self.now.trees id) }
@@ -323,22 +329,24 @@ impl Table {
     }
 
     // The root of a term.
+    #[inline(always)]
     fn root(&self, id: Id) -> (Node, &[Id])
         requires { id < length self.now.trees }
         ensures { HasRoot self.now id (record { node = result.0; args = result.1.now }) }
     {
-        let (node, args, _) = self.nodes.get(id.number);
+        let (node, args, _) = self.nodes.get(id.place());
         (node, args)
     }
 
     // What is known of a term.
+    #[inline(always)]
     fn info(&self, id: Id) -> Info
         requires { id < length self.now.trees }
         ensures tells { Tells (tree_at self.now.trees id) result }
         ensures small { result.height ≤ HEIGHT_LIMIT }
         ensures low { AreLow self.now.trees }
     {
-        self.nodes.info(id.number)
+        self.nodes.info(id.place())
     }
 
     // What is known of a term with this root.

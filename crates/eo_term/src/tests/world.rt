@@ -142,7 +142,7 @@ impl World {
 fn live(table: &Table, id: Id) -> Result<Id, Fail>
     ensures { IfOk result (λ i. i < length table.now.trees) }
 {
-    if id.number >= table.len() {
+    if id.place() >= table.len() {
         return Err(Fail::new("no term of the table"));
     }
     Ok(id)
@@ -163,10 +163,10 @@ fn is_fit(table: &Table, node: &Node) -> bool
         Node::Bits { .. } => false,
         Node::Str(text) => text.number < texts,
         Node::Par(i) => i < 64,
-        Node::Var { name, ty } => name.number < texts && ty.number < count,
-        Node::App { fun, arg } => fun.number < count && arg.number < count,
-        Node::Arr { from, to } => from.number < count && to.number < count,
-        Node::Qar { ty, to, .. } => ty.number < count && to.number < count,
+        Node::Var { name, ty } => name.number < texts && ty.place() < count,
+        Node::App { fun, arg } => fun.place() < count && arg.place() < count,
+        Node::Arr { from, to } => from.place() < count && to.place() < count,
+        Node::Qar { ty, to, .. } => ty.place() < count && to.place() < count,
         Node::Op { .. } => false,
     }
 }
@@ -184,7 +184,7 @@ fn are_live(table: &Table, ids: &[Id]) -> bool
     ensures { IsTrue result → All (λ i. i < length table.now.trees) ids.now }
 {
     let count = table.len();
-    ids.iter().all(|id| id.number < count)
+    ids.iter().all(|id| id.place() < count)
 }
 
 // An operator or a program over these arguments, if they are of the table.

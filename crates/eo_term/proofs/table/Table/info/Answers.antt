@@ -7,10 +7,10 @@ use Rattle.eo_term.proofs.table.Table.info.Goals as goal
 
 pub returns : goal.returns
 returns c =
-    let at = c.self.invariant.1.entries c.id.inside.number (c.info.ensures.0, c.info.result) c.info.ensures.1 in
+    let at = c.self.invariant.1.entries c.place.result (c.info.ensures.0, c.info.result) c.info.ensures.1 in
     let e =
-    subst (λ i. IsEntry c.args.self.now.trees c.args.self.now.texts i c.info.ensures.0 c.info.result) c.id.view_is
-    (subst (λ v. IsEntry v.trees v.texts c.id.inside.number c.info.ensures.0 c.info.result) c.self.view_is at) in
+    subst (λ i. IsEntry c.args.self.now.trees c.args.self.now.texts i c.info.ensures.0 c.info.result) c.place.ensures
+    (subst (λ v. IsEntry v.trees v.texts c.place.result c.info.ensures.0 c.info.result) c.self.view_is at) in
     record {
       tells = e.tells;
       small = e.low;
