@@ -204,7 +204,8 @@ pub(crate) fn plain_constant(
 ) -> Result<ConstDecl, ElabRefused>
     requires ty { ty < length table.now.trees }
     requires below { AttributeBelow (length table.now.trees) attribute }
-    ensures gives { (old : Terms) (k : Kept) → GivesConstant table.now result (plain_constant_in old k setting name.now table.now ty attribute) }
+    ensures gives { (old : Terms) (k : Kept) → GivesConstant table.now result
+        (plain_constant_in old k setting name.now table.now ty attribute) }
     ensures sound { IfOk result (λ d. constant_fault (read_constant table.now.trees d) ≡ None) }
     ensures name { IfOk result (λ d. d.name ≡ name.now) }
 {

@@ -3,7 +3,8 @@ ghost use Rattle.std.specs.Prelude.{◌≡◌, ◌≤◌, ◌<◌, ◌==◌, fal
 ghost use Rattle.std.specs.Prelude.{option_map, position, take, length};
 ghost use Rattle.eo_base.specs.Characters.{greatest_character};
 ghost use Rattle.eo_lit.specs.declared.StringRefused.TheVariants.{Bad};
-ghost use Rattle.eo_lit.specs.Literals.{string_value, string_bytes, without_doubles, character_at, character_of, escape, in_braces, braced, spelled};
+ghost use Rattle.eo_lit.specs.Literals.{string_value, string_bytes, without_doubles, character_at, character_of};
+ghost use Rattle.eo_lit.specs.Literals.{escape, in_braces, braced, spelled};
 
 use crate::StringRefused;
 use crate::hexadecimal::hexadecimal;

@@ -82,7 +82,8 @@ impl Types {
         requires live { id < length table.old.trees }
         requires fits { Fit sig.now table.old self.old }
         ensures answers { Answers table.new result (type_at sig.now table.old id) }
-        ensures known { (u : ℕ) → kept_type self.old id ≡ Some u → (result ≡ Ok (Some u)) × (table.new ≡ table.old) × (self.new ≡ self.old) }
+        ensures known { (u : ℕ) → kept_type self.old id ≡ Some u →
+            (result ≡ Ok (Some u)) × (table.new ≡ table.old) × (self.new ≡ self.old) }
         ensures kept { Remembers self.old id result self.new }
         ensures refused { OnErr result (table.new ≡ table.old) }
         ensures fits { Fit sig.now table.new self.new }
