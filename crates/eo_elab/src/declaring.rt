@@ -1,5 +1,5 @@
 //! What a declaring command declares.
-ghost use Rattle.std.specs.Prelude.{◌≡◌, true, ◌<◌, ◌≤◌, [], length, All, IfOk, OnOk};
+ghost use Rattle.std.specs.Prelude.{◌≡◌, true, ◌<◌, ◌≤◌, [], length, All, IfOk, OnOk, OnErr};
 ghost use Rattle.eo_base.specs.Limits.{parameters_limit};
 ghost use Rattle.eo_term.specs.Growth.{Grows};
 ghost use Rattle.eo_sig.specs.Growth.{GrowsUnder};
@@ -52,8 +52,8 @@ use std::alloc::Global;
 ///   with a terminator at the right.
 /// - `Memory`: want of memory.
 ///
-/// The terms that the signature holds are terms of the table. All of these stay; a refused call may
-/// leave new terms behind them.
+/// The terms that the signature holds are terms of the table. All of these stay; a refused call
+/// leaves the table as it was, and so do the calls for each kind of command.
 pub fn declaration(
     alloc: Global,
     s: &Sexp<'_>,
@@ -64,6 +64,7 @@ pub fn declaration(
     requires command { IsCommand s.now }
     ensures gives { GivesDeclaration table.new result (declared (context_in table.old sig.now) s.now) }
     ensures named { IfOk result (λ d. MayBeDeclared (context_in table.old sig.now) (read_declaration table.new.trees d)) }
+    ensures refused { OnErr result (table.new ≡ table.old) }
     ensures grows { GrowsUnder sig.now table.old table.new }
 {
     match command_of(s, false) {
@@ -82,6 +83,7 @@ fn declared_by(
     requires { IsBelow (length table.old.trees) sig.now }
     ensures gives { GivesDeclaration table.new result (or_bad (declaration (context_in table.old sig.now) (read_command command.now))) }
     ensures named { IfOk result (λ d. MayBeDeclared (context_in table.old sig.now) (read_declaration table.new.trees d)) }
+    ensures refused { OnErr result (table.new ≡ table.old) }
     ensures grows { GrowsUnder sig.now table.old table.new }
 {
     match command {
@@ -129,6 +131,7 @@ fn declared_constant(
     requires { IsBelow (length table.old.trees) sig.now }
     ensures gives { GivesDeclaration table.new result (declared_constant (context_in table.old sig.now) command.now) }
     ensures named { IfOk result (λ d. MayBeDeclared (context_in table.old sig.now) (read_declaration table.new.trees d)) }
+    ensures refused { OnErr result (table.new ≡ table.old) }
     ensures grows { GrowsUnder sig.now table.old table.new }
 {
     let d = constant_by(alloc, command, sig, table)?;
@@ -145,6 +148,7 @@ fn constant_by(
     requires { IsBelow (length table.old.trees) sig.now }
     ensures gives { GivesConstant table.new result (constant_of (context_in table.old sig.now) command.now) }
     ensures named { IfOk result (λ d. is_free_or_reference (context_in table.old sig.now) d.name ≡ true) }
+    ensures refused { OnErr result (table.new ≡ table.old) }
     ensures grows { GrowsUnder sig.now table.old table.new }
 {
     match command {
@@ -186,6 +190,33 @@ fn constant_by(
 /// - `BadPattern`: the type holds what no declared type may, or the terminator is no value.
 /// - `Memory`: want of memory.
 pub fn declared_const(
+    alloc: Global,
+    name: &[u8],
+    ty: &Sexp<'_>,
+    attribute: &AttributeShape<'_>,
+    setting: Setting,
+    sig: &Signature,
+    table: &mut Table,
+) -> Result<ConstDecl, ElabRefused>
+    requires { IsBelow (length table.old.trees) sig.now }
+    ensures gives { GivesConstant table.new result (const_by (context_at table.old sig.now setting) name.now ty.now attribute.now) }
+    ensures may { IfOk result (λ d. MayRepeat (context_in table.old sig.now) (read_constant table.new.trees d)) }
+    ensures refused { OnErr result (table.new ≡ table.old) }
+    ensures grows { GrowsUnder sig.now table.old table.new }
+{
+    sig.laws();
+    let mark = table.mark();
+    match constant(alloc, name, ty, attribute, setting, sig, table) {
+        Ok(d) => Ok(d),
+        Err(e) => {
+            table.release(mark);
+            Err(e)
+        }
+    }
+}
+
+// The same, but that a refused call leaves the terms that it made.
+fn constant(
     alloc: Global,
     name: &[u8],
     ty: &Sexp<'_>,
@@ -248,6 +279,33 @@ pub fn declared_fun(
     requires { IsBelow (length table.old.trees) sig.now }
     ensures gives { GivesConstant table.new result (declared_fun (context_at table.old sig.now setting) name.now inputs.now output.now) }
     ensures may { IfOk result (λ d. MayRepeat (context_in table.old sig.now) (read_constant table.new.trees d)) }
+    ensures refused { OnErr result (table.new ≡ table.old) }
+    ensures grows { GrowsUnder sig.now table.old table.new }
+{
+    sig.laws();
+    let mark = table.mark();
+    match function(alloc, name, inputs, output, setting, sig, table) {
+        Ok(d) => Ok(d),
+        Err(e) => {
+            table.release(mark);
+            Err(e)
+        }
+    }
+}
+
+// The same, but that a refused call leaves the terms that it made.
+fn function(
+    alloc: Global,
+    name: &[u8],
+    inputs: &Children<'_>,
+    output: &Sexp<'_>,
+    setting: Setting,
+    sig: &Signature,
+    table: &mut Table,
+) -> Result<ConstDecl, ElabRefused>
+    requires { IsBelow (length table.old.trees) sig.now }
+    ensures gives { GivesConstant table.new result (declared_fun (context_at table.old sig.now setting) name.now inputs.now output.now) }
+    ensures may { IfOk result (λ d. MayRepeat (context_in table.old sig.now) (read_constant table.new.trees d)) }
     ensures grows { GrowsUnder sig.now table.old table.new }
 {
     sig.laws();
@@ -297,6 +355,32 @@ pub fn declared_sort(
     requires { IsBelow (length table.old.trees) sig.now }
     ensures gives { GivesConstant table.new result (declared_sort (context_at table.old sig.now setting) name.now arity) }
     ensures may { IfOk result (λ d. MayRepeat (context_in table.old sig.now) (read_constant table.new.trees d)) }
+    ensures refused { OnErr result (table.new ≡ table.old) }
+    ensures grows { GrowsUnder sig.now table.old table.new }
+{
+    sig.laws();
+    let mark = table.mark();
+    match sort(alloc, name, arity, setting, sig, table) {
+        Ok(d) => Ok(d),
+        Err(e) => {
+            table.release(mark);
+            Err(e)
+        }
+    }
+}
+
+// The same, but that a refused call leaves the terms that it made.
+fn sort(
+    alloc: Global,
+    name: &[u8],
+    arity: u8,
+    setting: Setting,
+    sig: &Signature,
+    table: &mut Table,
+) -> Result<ConstDecl, ElabRefused>
+    requires { IsBelow (length table.old.trees) sig.now }
+    ensures gives { GivesConstant table.new result (declared_sort (context_at table.old sig.now setting) name.now arity) }
+    ensures may { IfOk result (λ d. MayRepeat (context_in table.old sig.now) (read_constant table.new.trees d)) }
     ensures grows { GrowsUnder sig.now table.old table.new }
 {
     sig.laws();
@@ -319,6 +403,34 @@ pub fn declared_sort(
 /// - a fault of the terminator or what joins (`UnknownSymbol`, where it is no constant).
 /// - `Memory`: want of memory.
 pub fn declared_parameterized(
+    alloc: Global,
+    name: &[u8],
+    params: &ParameterShapes<'_>,
+    ty: &Sexp<'_>,
+    attribute: &AttributeShape<'_>,
+    sig: &Signature,
+    table: &mut Table,
+) -> Result<ConstDecl, ElabRefused>
+    requires { IsBelow (length table.old.trees) sig.now }
+    ensures gives { GivesConstant table.new result (parameterized_in table.old sig.now name.now params.now ty.now attribute.now) }
+    ensures free { IfOk result (λ d. IsFree sig.now d.name) }
+    ensures named { IfOk result (λ d. is_free_or_reference (context_in table.old sig.now) d.name ≡ true) }
+    ensures refused { OnErr result (table.new ≡ table.old) }
+    ensures grows { GrowsUnder sig.now table.old table.new }
+{
+    sig.laws();
+    let mark = table.mark();
+    match parameterized(alloc, name, params, ty, attribute, sig, table) {
+        Ok(d) => Ok(d),
+        Err(e) => {
+            table.release(mark);
+            Err(e)
+        }
+    }
+}
+
+// The same, but that a refused call leaves the terms that it made.
+fn parameterized(
     alloc: Global,
     name: &[u8],
     params: &ParameterShapes<'_>,
@@ -389,6 +501,31 @@ pub fn declared_literals(
     requires { IsBelow (length table.old.trees) sig.now }
     ensures gives { GivesTree table.new result (declared_literals (context_in table.old sig.now) class ty.now) }
     ensures may { OnOk result (MayBeLiterals (context_in table.old sig.now) class) }
+    ensures refused { OnErr result (table.new ≡ table.old) }
+    ensures grows { GrowsUnder sig.now table.old table.new }
+{
+    sig.laws();
+    let mark = table.mark();
+    match literals(alloc, class, ty, sig, table) {
+        Ok(ty) => Ok(ty),
+        Err(e) => {
+            table.release(mark);
+            Err(e)
+        }
+    }
+}
+
+// The same, but that a refused call leaves the terms that it made.
+fn literals(
+    alloc: Global,
+    class: LiteralClass,
+    ty: &Sexp<'_>,
+    sig: &Signature,
+    table: &mut Table,
+) -> Result<Id, ElabRefused>
+    requires { IsBelow (length table.old.trees) sig.now }
+    ensures gives { GivesTree table.new result (declared_literals (context_in table.old sig.now) class ty.now) }
+    ensures may { OnOk result (MayBeLiterals (context_in table.old sig.now) class) }
     ensures grows { GrowsUnder sig.now table.old table.new }
 {
     sig.laws();
@@ -411,6 +548,32 @@ pub fn declared_literals(
 ///   has is `Redeclared`, and of the body.
 /// - `Memory`: want of memory.
 pub fn defined(
+    alloc: Global,
+    name: &[u8],
+    params: &ParameterShapes<'_>,
+    body: &Sexp<'_>,
+    sig: &Signature,
+    table: &mut Table,
+) -> Result<MacroDecl, ElabRefused>
+    requires { IsBelow (length table.old.trees) sig.now }
+    ensures gives { GivesMacro table.new result (defined (context_in table.old sig.now) name.now params.now body.now) }
+    ensures may { IfOk result (λ d. MayBeMacro (context_in table.old sig.now) (read_macro table.new.trees d)) }
+    ensures refused { OnErr result (table.new ≡ table.old) }
+    ensures grows { GrowsUnder sig.now table.old table.new }
+{
+    sig.laws();
+    let mark = table.mark();
+    match macro_of(alloc, name, params, body, sig, table) {
+        Ok(d) => Ok(d),
+        Err(e) => {
+            table.release(mark);
+            Err(e)
+        }
+    }
+}
+
+// The same, but that a refused call leaves the terms that it made.
+fn macro_of(
     alloc: Global,
     name: &[u8],
     params: &ParameterShapes<'_>,

@@ -1,5 +1,5 @@
 //! What a command that declares a program declares.
-ghost use Rattle.std.specs.Prelude.{◌≡◌, ◌<◌, ◌≤◌, [], length, true, IfOk};
+ghost use Rattle.std.specs.Prelude.{◌≡◌, ◌<◌, ◌≤◌, [], length, true, IfOk, OnErr};
 ghost use Rattle.eo_base.specs.Limits.{parameters_limit};
 ghost use Rattle.eo_term.specs.Growth.{Grows};
 ghost use Rattle.eo_shape.specs.Reading.{read_case as read_shape, read_program};
@@ -37,6 +37,31 @@ use std::alloc::Global;
 ///   fault of a term: of the patterns in order, and of the body.
 /// - `Memory`: want of memory.
 pub fn declared_program(
+    alloc: Global,
+    shape: &ProgramShape<'_>,
+    sig: &Signature,
+    table: &mut Table,
+) -> Result<ProgramDecl, ElabRefused>
+    requires { IsBelow (length table.old.trees) sig.now }
+    ensures gives { GivesProgram table.new result (program_in table.old sig.now (read_program shape.now)) }
+    ensures free { IfOk result (λ d. IsFree sig.now d.name) }
+    ensures named { IfOk result (λ d. is_free_name (context_in table.old sig.now) d.name ≡ true) }
+    ensures refused { OnErr result (table.new ≡ table.old) }
+    ensures grows { GrowsUnder sig.now table.old table.new }
+{
+    sig.laws();
+    let mark = table.mark();
+    match program(alloc, shape, sig, table) {
+        Ok(d) => Ok(d),
+        Err(e) => {
+            table.release(mark);
+            Err(e)
+        }
+    }
+}
+
+// The same, but that a refused call leaves the terms that it made.
+fn program(
     alloc: Global,
     shape: &ProgramShape<'_>,
     sig: &Signature,

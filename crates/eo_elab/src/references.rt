@@ -1,5 +1,5 @@
 //! What a declaring command of a reference file declares.
-ghost use Rattle.std.specs.Prelude.{◌≡◌, ◌<◌, ◌≤◌, length, IfOk};
+ghost use Rattle.std.specs.Prelude.{◌≡◌, ◌<◌, ◌≤◌, length, IfOk, OnErr};
 ghost use Rattle.eo_base.specs.Limits.{parameters_limit};
 ghost use Rattle.eo_sig.specs.Growth.{GrowsUnder};
 ghost use Rattle.eo_sig.specs.Reading.{read_macro, IsBelow};
@@ -28,8 +28,8 @@ use std::alloc::Global;
 /// A refusal is the first fault of the command, as the functions of these commands have it;
 /// `BadCommand`, where it declares nothing; or `Memory`: want of memory.
 ///
-/// The terms that the signature holds are terms of the table. All of these stay; a refused call may
-/// leave new terms behind them.
+/// The terms that the signature holds are terms of the table. All of these stay; a refused call
+/// leaves the table as it was, and so do the calls for each kind of command.
 pub fn reference_declaration(
     alloc: Global,
     command: &Command<'_>,
@@ -40,6 +40,7 @@ pub fn reference_declaration(
     ensures gives { GivesDeclaration table.new result
         (or_bad (reference_declaration (reference_context table.old sig.now) (read_command command.now))) }
     ensures may { IfOk result (λ d. MayBeReferred (context_in table.old sig.now) (read_declaration table.new.trees d)) }
+    ensures refused { OnErr result (table.new ≡ table.old) }
     ensures grows { GrowsUnder sig.now table.old table.new }
 {
     let setting = Setting::Reference;
@@ -104,6 +105,33 @@ pub fn defined_fun(
     ensures gives { GivesMacro table.new result
         (defined_fun (reference_context table.old sig.now) name.now params.now output.now body.now) }
     ensures may { IfOk result (λ d. MayBeMacro (context_in table.old sig.now) (read_macro table.new.trees d)) }
+    ensures refused { OnErr result (table.new ≡ table.old) }
+    ensures grows { GrowsUnder sig.now table.old table.new }
+{
+    sig.laws();
+    let mark = table.mark();
+    match function_macro(alloc, name, params, output, body, sig, table) {
+        Ok(d) => Ok(d),
+        Err(e) => {
+            table.release(mark);
+            Err(e)
+        }
+    }
+}
+
+// The same, but that a refused call leaves the terms that it made.
+fn function_macro(
+    alloc: Global,
+    name: &[u8],
+    params: &ParameterShapes<'_>,
+    output: &Sexp<'_>,
+    body: &Sexp<'_>,
+    sig: &Signature,
+    table: &mut Table,
+) -> Result<MacroDecl, ElabRefused>
+    requires { IsBelow (length table.old.trees) sig.now }
+    ensures gives { GivesMacro table.new result (defined_fun (reference_context table.old sig.now) name.now params.now output.now body.now) }
+    ensures may { IfOk result (λ d. MayBeMacro (context_in table.old sig.now) (read_macro table.new.trees d)) }
     ensures grows { GrowsUnder sig.now table.old table.new }
 {
     sig.laws();
@@ -156,6 +184,32 @@ fn typed_macro(
 /// - a fault of a term: of the type.
 /// - `Memory`: want of memory.
 pub fn defined_sort(
+    alloc: Global,
+    name: &[u8],
+    params: &Symbols<'_>,
+    ty: &Sexp<'_>,
+    sig: &Signature,
+    table: &mut Table,
+) -> Result<MacroDecl, ElabRefused>
+    requires { IsBelow (length table.old.trees) sig.now }
+    ensures gives { GivesMacro table.new result (defined_sort (reference_context table.old sig.now) name.now params.now ty.now) }
+    ensures may { IfOk result (λ d. MayBeMacro (context_in table.old sig.now) (read_macro table.new.trees d)) }
+    ensures refused { OnErr result (table.new ≡ table.old) }
+    ensures grows { GrowsUnder sig.now table.old table.new }
+{
+    sig.laws();
+    let mark = table.mark();
+    match sort_macro(alloc, name, params, ty, sig, table) {
+        Ok(d) => Ok(d),
+        Err(e) => {
+            table.release(mark);
+            Err(e)
+        }
+    }
+}
+
+// The same, but that a refused call leaves the terms that it made.
+fn sort_macro(
     alloc: Global,
     name: &[u8],
     params: &Symbols<'_>,

@@ -1,5 +1,5 @@
 //! What a command that declares a rule declares.
-ghost use Rattle.std.specs.Prelude.{◌≡◌, ◌<◌, List, length, All, IfOk};
+ghost use Rattle.std.specs.Prelude.{◌≡◌, ◌<◌, List, length, All, IfOk, OnErr};
 ghost use Rattle.eo_term.specs.Growth.{tree_in, Grows};
 ghost use Rattle.eo_term.specs.Tree.{Tree, Con};
 ghost use Rattle.eo_shape.specs.Reading.{read_pair, read_premises, read_rule as read_shape};
@@ -59,6 +59,30 @@ pub(crate) struct RuleParts {
 /// - `BadPattern`: the premises are joined by what is no constant with a terminator at the right.
 /// - `Memory`: want of memory.
 pub fn declared_rule(
+    alloc: Global,
+    shape: &RuleShape<'_>,
+    sig: &Signature,
+    table: &mut Table,
+) -> Result<RuleDecl, ElabRefused>
+    requires { IsBelow (length table.old.trees) sig.now }
+    ensures gives { GivesRule table.new result (rule_in table.old sig.now (read_shape shape.now)) }
+    ensures free { IfOk result (λ d. IsFreeRule sig.now d.name) }
+    ensures refused { OnErr result (table.new ≡ table.old) }
+    ensures grows { GrowsUnder sig.now table.old table.new }
+{
+    sig.laws();
+    let mark = table.mark();
+    match rule(alloc, shape, sig, table) {
+        Ok(d) => Ok(d),
+        Err(e) => {
+            table.release(mark);
+            Err(e)
+        }
+    }
+}
+
+// The same, but that a refused call leaves the terms that it made.
+fn rule(
     alloc: Global,
     shape: &RuleShape<'_>,
     sig: &Signature,

@@ -31,7 +31,7 @@ use std::alloc::Global;
 /// - `Memory`: want of memory.
 ///
 /// The terms that the signature and the names hold are terms of the table. All of these stay; a
-/// refused call may leave new terms behind them.
+/// refused call leaves the table as it was.
 pub fn term(
     alloc: Global,
     s: &Sexp<'_>,
@@ -41,10 +41,19 @@ pub fn term(
 ) -> Result<Id, ElabRefused>
     requires ready { IsReady (length table.old.trees) sig.now locals.now }
     ensures gives { GivesTree table.new result (meaning_in (world_of table.old sig.now locals.now) s.now) }
+    ensures refused { OnErr result (table.new ≡ table.old) }
     ensures grows { Grows table.old table.new }
     ensures keeps { Keeps sig.now locals.now table.old.trees table.new.trees }
 {
-    term_at(alloc, s, locals, Setting::Proof, sig, table)
+    names_law();
+    let mark = table.mark();
+    match term_at(alloc, s, locals, Setting::Proof, sig, table) {
+        Ok(id) => Ok(id),
+        Err(e) => {
+            table.release(mark);
+            Err(e)
+        }
+    }
 }
 
 /// The meaning of a term of a reference file, as a term of the table, by the rules that
@@ -60,7 +69,7 @@ pub fn term(
 /// - `Redeclared`: a name that a term gives itself, and that is taken, reserved or in `names`.
 ///
 /// The terms that the signature and the names hold are terms of the table. All of these stay; a
-/// refused call leaves `names` as it was, and may leave new terms behind the others.
+/// refused call leaves `names` and the table as they were.
 pub fn reference_term(
     alloc: Global,
     s: &Sexp<'_>,
@@ -73,11 +82,14 @@ pub fn reference_term(
     requires ready { IsReady (length table.old.trees) sig.now locals.now }
     requires names { BindingsBelow (length table.old.trees) names.old }
     ensures gives { GivesTerm table.new names.new result (reference_meaning table.old sig.now locals.now names.old in_assert s.now) }
-    ensures refused { OnErr result (names.new ≡ names.old) }
+    ensures refused { OnErr result (table.new ≡ table.old) }
+    ensures unnamed { OnErr result (names.new ≡ names.old) }
     ensures grows { Grows table.old table.new }
     ensures keeps { Keeps sig.now locals.now table.old.trees table.new.trees }
     ensures names { NamesGrow table.new names.old names.new }
 {
+    names_law();
+    let start = table.mark();
     let before = names.len();
     let setting = reference_setting(in_assert);
     match mean_at(
@@ -91,6 +103,7 @@ pub fn reference_term(
     ) {
         Ok(id) => Ok(id),
         Err(e) => {
+            table.release(start);
             names.truncate(before);
             Err(e)
         }

@@ -1,5 +1,5 @@
 //! The evaluator.
-ghost use Rattle.std.specs.Prelude.{◌<◌, length};
+ghost use Rattle.std.specs.Prelude.{◌≡◌, ◌<◌, length, OnErr};
 ghost use Rattle.eo_sig.specs.Growth.{GrowsUnder};
 ghost use Rattle.eo_sig.specs.Reading.{signature};
 ghost use Rattle.eo_sig.specs.Usable.{IsUsable};
@@ -84,7 +84,8 @@ impl Evaluator {
     /// begun. A call that was finished is not evaluated again in the same evaluation. A term that
     /// is a value is answered at once, without memory.
     ///
-    /// Want of memory is the only refusal. The terms that were there stay in either case.
+    /// Want of memory is the only refusal. It leaves the table as it was, and of the types those of
+    /// terms that are there. The terms that were there stay in either case.
     ///
     /// [`CALL_DEPTH`]: eo_base::limits::CALL_DEPTH
     /// [`CALLS`]: eo_base::limits::CALLS
@@ -99,14 +100,22 @@ impl Evaluator {
         requires usable { IsUsable (signature table.old.trees sig.now) }
         requires fit { Fit sig.now table.old types.old }
         ensures gives { GivesOutcome table.new result (outcome_of sig.now table.old id) }
+        ensures refused { OnErr result (table.new ≡ table.old) }
         ensures fits { Fit sig.now table.new types.new }
         ensures grows { GrowsUnder sig.now table.old table.new }
     {
         if table.is_value(id) {
             return Ok(Outcome::Value(id));
         }
+        let mark = table.mark();
         let result = self.machine.evaluate(sig, table, types, id);
         self.machine.clear();
-        result
+        match result {
+            Ok(outcome) => Ok(outcome),
+            Err(e) => {
+                types.undo(table, mark);
+                Err(e)
+            }
+        }
     }
 }

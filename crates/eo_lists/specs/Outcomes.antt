@@ -24,13 +24,16 @@ pub record IsTooTall (o : Option Tree) : Type 0 where
   pub value : o ≡ Some tree
   pub tall : is_tall tree ≡ true
 
--- A call answers this value of an operator, or that there is none, or refuses one that would be too tall.
--- There may be no memory left whatever the value is.
+-- The value is refused for this: it would be too tall. There may be no memory left whatever it is.
+abbrev pub IsRefusedFor : TermRefused → Option Tree → Type 0
+IsRefusedFor refused.Tall o = IsTooTall o
+IsRefusedFor (refused.Memory e) o = Unit {0}
+
+-- A call answers this value of an operator, or that there is none, or refuses it.
 abbrev pub GivesList : Terms → Result (Option ℕ) TermRefused → Option Tree → Type 0
 GivesList t (Ok (Some i)) o = IsValueOf t o i
 GivesList t (Ok None) o = o ≡ None
-GivesList t (Err refused.Tall) o = IsTooTall o
-GivesList t (Err (refused.Memory e)) o = Unit {0}
+GivesList t (Err e) o = IsRefusedFor e o
 
 -- the value of an operator of these arguments
 abbrev pub value_in : Kept → Terms → OpName → List ℕ → Option Tree

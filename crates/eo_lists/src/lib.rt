@@ -1,7 +1,7 @@
 //! The operators on lists: what a constant with a terminator spells, read and made.
 #![tactic(auto)]
 
-ghost use Rattle.std.specs.Prelude.{◌≡◌, ◌<◌, length, All};
+ghost use Rattle.std.specs.Prelude.{◌≡◌, ◌<◌, length, All, OnErr};
 ghost use Rattle.eo_term.specs.Terms.{arity};
 ghost use Rattle.eo_sig.specs.Growth.{GrowsUnder};
 ghost use Rattle.eo_sig.specs.Reading.{IsBelow};
@@ -27,9 +27,37 @@ use std::alloc::Global;
 /// first argument is no constant with a terminator, a list is wanted of a term that spells none, or
 /// `eo::list_nth` finds no item.
 ///
-/// `Tall`: the value would be too tall. `Memory`: want of memory. The spine of a list is walked
-/// once, and the cost is that of a look-up by hash for each item.
+/// `Tall`: the value would be too tall. `Memory`: want of memory. A refused call leaves the table as
+/// it was. The spine of a list is walked once, and the cost is that of a look-up by hash for each
+/// item.
 pub fn list_op(
+    alloc: Global,
+    sig: &Signature,
+    table: &mut Table,
+    op: OpName,
+    args: &[Id],
+) -> Result<Option<Id>, TermRefused>
+    requires list { IsListOperator op }
+    requires count { length args.now ≡ arity op }
+    requires args { All (λ i. i < length table.old.trees) args.now }
+    requires below { IsBelow (length table.old.trees) sig.now }
+    ensures gives { GivesList table.new result (value_in sig.now table.old op args.now) }
+    ensures refused { OnErr result (table.new ≡ table.old) }
+    ensures grows { GrowsUnder sig.now table.old table.new }
+{
+    sig.laws();
+    let mark = table.mark();
+    match value_of(alloc, sig, table, op, args) {
+        Ok(value) => Ok(value),
+        Err(e) => {
+            table.release(mark);
+            Err(e)
+        }
+    }
+}
+
+// The same, but that a refused call leaves the terms that it made.
+fn value_of(
     alloc: Global,
     sig: &Signature,
     table: &mut Table,

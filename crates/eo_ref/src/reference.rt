@@ -57,7 +57,7 @@ impl Reference {
     /// - `Elab(Memory)`: want of memory.
     ///
     /// The terms that the signature holds are terms of the table. All of these stay; a refused call
-    /// may leave new terms behind them.
+    /// leaves the table as it was.
     pub fn command(
         &self,
         s: &Sexp<'_>,
@@ -67,6 +67,7 @@ impl Reference {
         requires ready { IsBelow (length table.old.trees) sig.now }
         ensures gives { GivesNext table.new result (command_in table.old sig.now s.now) }
         ensures may { IfOk result (MayFollow (context_in table.old sig.now) table.new) }
+        ensures refused { OnErr result (table.new ≡ table.old) }
         ensures grows { GrowsUnder sig.now table.old table.new }
     {
         match command_of(s, true) {
@@ -86,6 +87,7 @@ impl Reference {
         requires ready { IsBelow (length table.old.trees) sig.now }
         ensures gives { GivesNext table.new result (next_in table.old sig.now (read_command command.now)) }
         ensures may { IfOk result (MayFollow (context_in table.old sig.now) table.new) }
+        ensures refused { OnErr result (table.new ≡ table.old) }
         ensures grows { GrowsUnder sig.now table.old table.new }
     {
         match command {
@@ -106,6 +108,7 @@ impl Reference {
         requires ready { IsBelow (length table.old.trees) sig.now }
         ensures gives { GivesNext table.new result (asserted_in table.old sig.now s.now) }
         ensures may { IfOk result (MayFollow (context_in table.old sig.now) table.new) }
+        ensures refused { OnErr result (table.new ≡ table.old) }
         ensures grows { GrowsUnder sig.now table.old table.new }
     {
         sig.laws();
@@ -125,6 +128,7 @@ impl Reference {
         requires ready { IsBelow (length table.old.trees) sig.now }
         ensures gives { GivesNext table.new result (declares_in table.old sig.now (read_command command.now)) }
         ensures may { IfOk result (MayFollow (context_in table.old sig.now) table.new) }
+        ensures refused { OnErr result (table.new ≡ table.old) }
         ensures grows { GrowsUnder sig.now table.old table.new }
     {
         let d = reference_declaration(self.alloc, command, sig, table)?;

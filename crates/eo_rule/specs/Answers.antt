@@ -64,8 +64,12 @@ pub record IsOnly (t : Terms) (Is : Tree → Type 0) (i : ℕ) : Type 0 where
   pub one : Is (tree_in t i)
   pub none_else : (formula : Tree) → Is formula → formula ≡ tree_in t i
 
+-- Where a fault is told, there is no formula of the kind.
+abbrev pub IsNoneAfter : RuleRefused → (Tree → Type 0) → Type 0
+IsNoneAfter (refused.Fault name) Is = (formula : Tree) → Is formula → ⊥
+IsNoneAfter (refused.Memory e) Is = Unit {0}
+
 -- A call answers the only formula of a kind, which is a value. Where it tells a fault, there is none.
 abbrev pub AnswersOnly : Terms → Result ℕ RuleRefused → (Tree → Type 0) → Type 0
 AnswersOnly t (Ok i) Is = IsOnly t Is i
-AnswersOnly t (Err (refused.Fault name)) Is = (formula : Tree) → Is formula → ⊥
-AnswersOnly t (Err (refused.Memory e)) Is = Unit {0}
+AnswersOnly t (Err e) Is = IsNoneAfter e Is

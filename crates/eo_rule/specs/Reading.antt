@@ -30,6 +30,11 @@ pub record UseBelow (n : ℕ) (u : RuleUse) : Type 0 where
 abbrev pub AreValuesIn : Terms → RuleUse → Type 0
 AreValuesIn t u = AreGiven (read_use t.trees u)
 
+-- What is given are terms of the table, and the assumption, the premises and the arguments are values.
+pub record IsUseOf (t : Terms) (u : RuleUse) : Type 0 where
+  pub live : UseBelow (length t.trees) u
+  pub values : AreValuesIn t u
+
 -- What rules are used by: a signature that has what their uses need, a table in which all its terms are, and types that are those of their terms.
 pub record Serves (k : Kept) (t : Terms) (known : List (ℕ × ℕ)) : Type 0 where
   pub usable : IsUsable (signature t.trees k)

@@ -1,11 +1,11 @@
 //! Uses of rules.
-ghost use Rattle.std.specs.Prelude.{◌<◌, length, IfOk};
+ghost use Rattle.std.specs.Prelude.{◌≡◌, ◌<◌, length, IfOk, OnErr};
 ghost use Rattle.eo_eval.specs.Outcomes.{IsValueOf};
 ghost use Rattle.eo_sig.specs.Growth.{GrowsUnder};
 ghost use Rattle.eo_sig.specs.Reading.{RuleBelow, read_rule, rules_of, signature};
 ghost use Rattle.eo_type.specs.Known.{Fit};
 ghost use Rattle.eo_rule.specs.Answers.{AnswersOnly, GivesTerm};
-ghost use Rattle.eo_rule.specs.Reading.{AreValuesIn, ConcludesIn, Serves, UseBelow, conclusion_in, read_use};
+ghost use Rattle.eo_rule.specs.Reading.{AreValuesIn, ConcludesIn, IsUseOf, Serves, UseBelow, conclusion_in, read_use};
 ghost use Rattle.eo_rule.specs.Uses.{kind_conclusion, rule_conclusion};
 
 use crate::checks::{check_formula, check_kind, check_stated};
@@ -39,8 +39,39 @@ use std::alloc::Global;
 ///
 /// `Memory`: want of memory. What is given are values, but that the stated formula may be any term.
 /// The formula that is answered is the only instance of the rule, and a value; after a fault there is
-/// no instance. What `subst` holds is let go first: it is lent so that its room serves many uses.
+/// no instance. A refused call leaves the table as it was, and of the types those of terms that are
+/// there. What `subst` holds is let go first: it is lent so that its room serves many uses.
 pub fn conclude(
+    alloc: Global,
+    sig: &Signature,
+    table: &mut Table,
+    types: &mut Types,
+    eval: &mut Evaluator,
+    subst: &mut Subst,
+    rule: usize,
+    given: &RuleUse,
+) -> Result<Id, RuleRefused>
+    requires rule { rule < length (rules_of sig.now) }
+    requires given { IsUseOf table.old given.now }
+    requires serves { Serves sig.now table.old types.old }
+    ensures gives { GivesTerm table.new result (conclusion_in sig.now table.old rule given.now) }
+    ensures instance { AnswersOnly table.new result (ConcludesIn sig.now table.old rule given.now) }
+    ensures refused { OnErr result (table.new ≡ table.old) }
+    ensures fits { Fit sig.now table.new types.new }
+    ensures grows { GrowsUnder sig.now table.old table.new }
+{
+    let mark = table.mark();
+    match concluded(alloc, sig, table, types, eval, subst, rule, given) {
+        Ok(formula) => Ok(formula),
+        Err(e) => {
+            types.undo(table, mark);
+            Err(e)
+        }
+    }
+}
+
+// The same, but that a refused call leaves the terms that it made.
+fn concluded(
     alloc: Global,
     sig: &Signature,
     table: &mut Table,

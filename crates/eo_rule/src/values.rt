@@ -1,5 +1,5 @@
 //! Types and values of terms, with their faults.
-ghost use Rattle.std.specs.Prelude.{◌<◌, length, IfOk};
+ghost use Rattle.std.specs.Prelude.{◌≡◌, ◌<◌, length, IfOk, OnErr};
 ghost use Rattle.eo_eval.specs.Faults.{value_or_fault};
 ghost use Rattle.eo_eval.specs.Outcomes.{outcome_of, IsValueOf, MayBeValue};
 ghost use Rattle.eo_pattern.specs.Matching.{put};
@@ -26,8 +26,33 @@ use std::alloc::Global;
 /// The type of a value, as the checks of rules and commands ask for it.
 ///
 /// `IllTyped`: it has none, or none that is a value. `NumberRange`, `TermHeight`: a number in it is
-/// out of range, or it is too tall. `Memory`: want of memory.
+/// out of range, or it is too tall. `Memory`: want of memory. A refused call leaves the table as it
+/// was, and of the types those of terms that are there.
 pub fn value_type(
+    sig: &Signature,
+    table: &mut Table,
+    types: &mut Types,
+    id: Id,
+) -> Result<Id, RuleRefused>
+    requires live { id < length table.old.trees }
+    requires fit { Fit sig.now table.old types.old }
+    ensures gives { GivesTerm table.new result (typed (signature table.old.trees sig.now) (tree_in table.old id)) }
+    ensures refused { OnErr result (table.new ≡ table.old) }
+    ensures fits { Fit sig.now table.new types.new }
+    ensures grows { GrowsUnder sig.now table.old table.new }
+{
+    let mark = table.mark();
+    match type_found(sig, table, types, id) {
+        Ok(ty) => Ok(ty),
+        Err(e) => {
+            types.undo(table, mark);
+            Err(e)
+        }
+    }
+}
+
+// The same, but that a refused call leaves the terms that it made.
+fn type_found(
     sig: &Signature,
     table: &mut Table,
     types: &mut Types,
@@ -88,8 +113,35 @@ fn settled_type(
 /// The value of a term, as the checks of rules and commands ask for it.
 ///
 /// `Stuck`, `NumberRange`, `TermHeight`, `EvalDepth`, `EvalCalls`: it has none, and its evaluation
-/// ends so. `Memory`: want of memory.
+/// ends so. `Memory`: want of memory. A refused call leaves the table as it was, and of the types
+/// those of terms that are there.
 pub fn value_of(
+    sig: &Signature,
+    table: &mut Table,
+    types: &mut Types,
+    eval: &mut Evaluator,
+    id: Id,
+) -> Result<Id, RuleRefused>
+    requires live { id < length table.old.trees }
+    requires serves { Serves sig.now table.old types.old }
+    ensures gives { GivesTerm table.new result (value_or_fault (outcome_of sig.now table.old id)) }
+    ensures value { IfOk result (IsValueOf table.new) }
+    ensures refused { OnErr result (table.new ≡ table.old) }
+    ensures fits { Fit sig.now table.new types.new }
+    ensures grows { GrowsUnder sig.now table.old table.new }
+{
+    let mark = table.mark();
+    match value_found(sig, table, types, eval, id) {
+        Ok(value) => Ok(value),
+        Err(e) => {
+            types.undo(table, mark);
+            Err(e)
+        }
+    }
+}
+
+// The same, but that a refused call leaves the terms that it made.
+fn value_found(
     sig: &Signature,
     table: &mut Table,
     types: &mut Types,

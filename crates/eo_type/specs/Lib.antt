@@ -4,3 +4,4 @@ pub mod Known
 pub mod Greatest
 pub mod Parts
 pub mod Steps
+pub mod Undoing

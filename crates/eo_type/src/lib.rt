@@ -11,6 +11,7 @@ mod operators;
 mod refused;
 mod settling;
 mod types;
+mod undoing;
 
 pub use laws::settled_law;
 pub use leaves::is_constant;

@@ -1,5 +1,5 @@
 //! Operators on terms that are values, most of all on literals.
-ghost use Rattle.std.specs.Prelude.{◌≡◌, ◌<◌, length, map, All, IfOk, IfErr, IfSome, option_map};
+ghost use Rattle.std.specs.Prelude.{◌≡◌, ◌<◌, length, map, All, IfOk, IfErr, OnErr, IfSome, option_map};
 ghost use Rattle.eo_term.specs.Tree.{Con};
 ghost use Rattle.eo_term.specs.Terms.{arity};
 ghost use Rattle.eo_term.specs.Growth.{tree_in, trees_in, Grows, Makes};
@@ -21,7 +21,8 @@ use std::alloc::{AllocError, Global};
 /// is stuck. An operator whose value that table does not give by its arguments alone, as
 /// `eo::typeof` or one on lists, is stuck here.
 ///
-/// `NumberRange`: the value is out of range. `Tall` never comes. `Memory`: want of memory.
+/// `NumberRange`: the value is out of range. `Tall` never comes. `Memory`: want of memory. A refused
+/// call leaves the table as it was.
 pub fn operator_value(
     alloc: Global,
     table: &mut Table,
@@ -31,9 +32,17 @@ pub fn operator_value(
     requires count { length args.now ≡ arity op }
     requires args { All (λ i. i < length table.old.trees) args.now }
     ensures answers { Answers table.new result (typed_answer (ops.tree_op_value op (trees_in table.old args.now))) }
+    ensures refused { OnErr result (table.new ≡ table.old) }
     ensures grows { Grows table.old table.new }
 {
-    answer(value_of(alloc, table, op, args))
+    let mark = table.mark();
+    match answer(value_of(alloc, table, op, args)) {
+        Ok(value) => Ok(value),
+        Err(e) => {
+            table.release(mark);
+            Err(e)
+        }
+    }
 }
 
 /// The value of an operator of the language on values, as the table of operators has it.

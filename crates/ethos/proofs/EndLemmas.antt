@@ -13,8 +13,8 @@ use Rattle.eo_run.specs.Check.{verdict as check_verdict, load_verdict}
 use Rattle.eo_run.specs.Judging.{AnswersJob, AnswersLoad}
 use Rattle.eo_run.specs.declared.Verdict.{Verdict}
 use Rattle.eo_run.specs.declared.Verdict.TheVariants as answer
-use Rattle.ethos.specs.Ends.{Ends, EndHasCause}
-use Rattle.ethos.specs.Program.{due, EndsAs}
+use Rattle.ethos.specs.Ends.{Ends, EndHasCause, EndsInFull}
+use Rattle.ethos.specs.Program.{due, EndsAs, Completes}
 use Rattle.ethos.specs.declared.words.Request.{Request}
 use Rattle.ethos.specs.declared.words.Request.TheVariants.{Check, Load}
 use Rattle.eo_run.specs.declared.CheckJob.{CheckJob}
@@ -152,3 +152,17 @@ pub no_reading_ends : (told : Option Files) (s : Status) (w x : Option (List ℕ
 unfolding due
 no_reading_ends None s w x h = tt
 no_reading_ends (Some files) s w x h = h
+
+in_full : (s : Status) (due : Due) (w x : Option (List ℕ)) (l m k n : ℕ) → Ends s due w x → EndHasCause s l m k n → (Rose l m → ⊥) → (Rose k n → ⊥) → EndsInFull s due w x
+in_full status.Ok due w x l m k n e c f g = e
+in_full status.Incomplete due w x l m k n e c f g = e
+in_full status.Refused due w x l m k n e c f g = e
+in_full status.Usage due w x l m k n e c f g = e
+in_full status.OutOfMemory due w x l m k n e c f g = e
+in_full status.ReadFault due w x l m k n e c f g = absurd (f c)
+in_full status.WriteFault due w x l m k n e c f g = absurd (g c)
+
+-- what is due is written where nothing of the outside failed
+pub completes : (told : Option Files) (s : Status) (reading : Option Request) (w x : Option (List ℕ)) (l m k n : ℕ) → EndsAs told s reading w x → EndHasCause s l m k n → (Rose l m → ⊥) → Completes told s reading w x k n
+completes None s reading w x l m k n e c f g = tt
+completes (Some files) s reading w x l m k n e c f g = in_full s (due files reading) w x l m k n e c f g

@@ -1,5 +1,6 @@
 -- What is due for the words, and what a run proves.
 use Rattle.std.specs.Prelude.{◌≡◌, ℕ, List, Option, Some, None, IfSome}
+use Rattle.eo_base.specs.Causes.{Rose}
 use Rattle.eo_base.specs.declared.Status.{Status}
 use Rattle.eo_base.specs.declared.Status.TheVariants as status
 use Rattle.eo_io.specs.Library.{Files}
@@ -7,7 +8,7 @@ use Rattle.eo_run.specs.Check.{verdict, load_verdict}
 use Rattle.eo_run.specs.Printed.{Due, verdict_due, usage_due}
 use Rattle.eo_run.specs.Refutation.{Refutes, ClosedKeepsRules}
 use Rattle.eo_run.specs.declared.CheckJob.{CheckJob}
-use Rattle.ethos.specs.Ends.{Ends}
+use Rattle.ethos.specs.Ends.{Ends, EndsInFull}
 use Rattle.ethos.specs.declared.words.Request.{Request}
 use Rattle.ethos.specs.declared.words.Request.TheVariants.{Check, Load}
 
@@ -20,6 +21,10 @@ due files (Some (Load file)) = verdict_due (load_verdict files file)
 -- The run ends as is due for the reading of its words, where files are told.
 abbrev pub EndsAs : Option Files → Status → Option Request → (before after : Option (List ℕ)) → Type 0
 EndsAs told s reading before after = IfSome told (λ files. Ends s (due files reading) before after)
+
+-- Where files are told and no call of the sink failed, all that is due is written, unless there is no memory left.
+abbrev pub Completes : Option Files → Status → Option Request → (before after : Option (List ℕ)) → (sink_before sink_now : ℕ) → Type 0
+Completes told s reading before after sink_before sink_now = (Rose sink_before sink_now → ⊥) → IfSome told (λ files. EndsInFull s (due files reading) before after)
 
 -- A check that ends with status 0, where files are told, refutes what its reference file asserts.
 abbrev pub OkRefutes : Option Files → Status → Option Request → Type 0

@@ -6,7 +6,7 @@ mod words;
 
 use eo_base::{Status, Text};
 use eo_io::{DiskLibrary, StdSink};
-pub use program::{ethos_main, run_in_memory};
+pub use program::{completeness_law, ethos_main, run_in_memory};
 use std::alloc::AllocError;
 use std::env;
 use std::io::ErrorKind;

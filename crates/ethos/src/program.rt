@@ -1,9 +1,13 @@
 //! A run of the program.
-ghost use Rattle.std.specs.Prelude.{◌≡◌, ◌≢◌, [], None, Some};
+ghost use Rattle.std.specs.Prelude.{◌≡◌, ◌≢◌, ℕ, List, Option, [], None, Some};
+ghost use Rattle.eo_base.specs.Causes.{Rose};
+ghost use Rattle.eo_base.specs.declared.Status.{Status as status};
+ghost use Rattle.eo_io.specs.Library.{Files};
 ghost use Rattle.eo_run.specs.Printed.{usage_due};
 ghost use Rattle.ethos.specs.CommandLine.{request};
 ghost use Rattle.ethos.specs.Ends.{Ends, EndHasCause, UsageFits, AbsentHasCause};
-ghost use Rattle.ethos.specs.Program.{EndsAs, OkRefutes, ClosedKeeps};
+ghost use Rattle.ethos.specs.Program.{EndsAs, OkRefutes, ClosedKeeps, Completes};
+ghost use Rattle.ethos.specs.declared.words.Request.{Request as reading};
 
 use crate::words::{Request, read_words};
 use eo_base::{Status, Text};
@@ -58,8 +62,17 @@ pub fn ethos_main<L: Library, W: Sink>(
     }
 }
 
+/// A law: where files are told and no call of the library or of the sink failed, a run that ends as
+/// `ethos_main` says writes all that is due, with its status, unless there is no memory left. A call
+/// costs nothing: it tells a proof this.
+pub fn completeness_law()
+    ensures { (told : Option Files) (s : status) (r : Option reading) (before after : Option (List ℕ)) (l m k n : ℕ) →
+        EndsAs told s r before after → EndHasCause s l m k n → (Rose l m → ⊥) → Completes told s r before after k n }
+{}
+
 /// Runs the program, as `ethos_main` does, over files in memory of which no call fails. It never
-/// ends with `ReadFault`.
+/// ends with `ReadFault`. Where no write fails, all that is due is written, unless there is no memory
+/// left.
 pub fn run_in_memory<W: Sink>(
     alloc: Global,
     words: &[Text],
@@ -70,8 +83,11 @@ pub fn run_in_memory<W: Sink>(
     ensures exact { EndsAs (⟦<HonestLibrary as Library>⟧.told files.old) result (request words.now)
         (W.written out.old) (W.written out.new) }
     ensures refutes { OkRefutes (⟦<HonestLibrary as Library>⟧.told files.old) result (request words.now) }
+    ensures complete { Completes (⟦<HonestLibrary as Library>⟧.told files.old) result (request words.now)
+        (W.written out.old) (W.written out.new) (W.faults out.old) (W.faults out.new) }
     ensures no_read_fault { result ≢ Status.ReadFault }
 {
+    completeness_law();
     ethos_main(alloc, words, files, out)
 }
 

@@ -5,6 +5,8 @@ mod command_line;
 mod declarations;
 mod each_rule;
 mod evaluation;
+mod extreme;
+mod failing;
 mod loads;
 mod opened;
 mod programs;
@@ -364,20 +366,4 @@ fn nested_lists(rt: HostRuntime) {
     assert!(&rt; unclosed == Ok(true));
     let too_deep = opens_print(rt.alloc(), 514, b"refused F07 Nesting p.eo:1:513\n");
     assert!(&rt; too_deep == Ok(true));
-}
-
-#[test]
-fn a_proof_that_is_cut(rt: HostRuntime) {
-    let proof: [u8; 19] = *b"(assume @p1 false)\n";
-    for length in 0..20usize {
-        let end = if length < 19 { length } else { 19 };
-        match pieced_line(rt.alloc(), 3, b"(assert false)\n", &proof[..end]) {
-            Ok(out) => match end {
-                0 => assert!(&rt; out.bytes() == b"refused F41 NoRefutation p.eo:1:0\n".as_slice()),
-                18 | 19 => assert!(&rt; out.bytes() == b"correct\n".as_slice()),
-                _ => assert!(&rt; out.bytes().starts_with(b"refused F02 Unclosed p.eo:1:")),
-            },
-            Err(AllocError) => assert!(&rt; false),
-        }
-    }
 }

@@ -26,7 +26,7 @@ const FILES: [(&[u8], &[u8]); 14] = [
 ];
 
 /// A library of a proof and of these files, of which none is open.
-fn library(
+pub(crate) fn library(
     alloc: Global,
     proof: &[u8],
     texts: &[(&[u8], &[u8])],

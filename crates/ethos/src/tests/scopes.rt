@@ -1,10 +1,7 @@
 //! Scopes: assumptions that steps discharge.
+use super::gives;
 use super::suite::{ACCEPTED, OPEN, begins};
-use super::{gives, honest_run};
 use eo_base::Status;
-use std::alloc::{AllocError, Global};
-
-const ASSERTS_TRUE: &[u8] = b"(assert true)\n";
 
 const ASSERTS_FALSE: &[u8] = b"(assert false)\n";
 
@@ -186,26 +183,4 @@ fn the_end_of_a_proof(rt: HostRuntime) {
     for (proof, line, status) in rows {
         assert!(&rt; gives(rt.alloc(), ASSERTS_FALSE, proof, line, status));
     }
-}
-
-// So many scopes, one in another.
-fn scopes(alloc: Global, count: u32) -> Result<Vec<u8>, AllocError> {
-    let mut proof = Vec::new(alloc);
-    for i in 0..count {
-        let line = format!(in alloc; "(assume-push @a{i} true)\n")?;
-        proof.extend_from_slice(line.as_bytes())?;
-    }
-    Ok(proof)
-}
-
-fn scopes_begin(alloc: Global, count: u32, start: &[u8]) -> Result<bool, AllocError> {
-    let proof = scopes(alloc, count)?;
-    let (_status, out) = honest_run(alloc, ASSERTS_TRUE, &proof)?;
-    Ok(out.bytes().starts_with(start))
-}
-
-#[test]
-fn a_thousand_scopes(rt: HostRuntime) {
-    assert!(&rt; scopes_begin(rt.alloc(), 1_000, OPEN) == Ok(true));
-    assert!(&rt; scopes_begin(rt.alloc(), 1_001, b"refused F33 ScopeDepth p.eo:1001:") == Ok(true));
 }

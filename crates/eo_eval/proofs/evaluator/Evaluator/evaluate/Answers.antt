@@ -7,3 +7,6 @@ returns-then-is_value-clause-gives c =
     let t = c.args.table.now in
     let i = c.args.id in
     value_ends c.args.sig.now t i c.requires.live (sym c.is_value.ensures.value ∙ c.if-is_value.true) (c.is_value.ensures.low i c.requires.live)
+
+pub undo-requires : goal.undo-requires
+undo-requires c = c.evaluate-result.ensures.grows.table.now.marks c.mark-mark.result c.mark-mark.ensures.holds

@@ -5,7 +5,7 @@ use Rattle.eo_term.specs.Terms.{tree_at}
 use Rattle.eo_term.specs.Tree.{Tree}
 use Rattle.eo_lists.specs.Lists.{spell, terminator_of_tree}
 use Rattle.eo_lists.specs.Outcomes.{GivesList}
-use Rattle.eo_lists.proofs.joining.spell_list.Goals as goal
+use Rattle.eo_lists.proofs.joining.spell_by_number.Goals as goal
 
 pub returns-clause-gives : goal.returns-clause-gives
 returns-clause-gives c =

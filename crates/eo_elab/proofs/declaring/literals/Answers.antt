@@ -10,7 +10,7 @@ use Rattle.eo_elab.specs.Worlds.{context_in}
 use Rattle.eo_elab.proofs.CheckedLemmas.{require-yes, require-no}
 use Rattle.eo_elab.proofs.Giving.{same_context}
 use Rattle.eo_base.proofs.Answering.{ok_always}
-use Rattle.eo_elab.proofs.declaring.declared_literals.Goals as goal
+use Rattle.eo_elab.proofs.declaring.literals.Goals as goal
 
 mapped-none : {A B : Type 0} (f : A → B) (o : Option A) (b : Bool) → b ≡ is_some o → b ≡ true → is_none (option_map f o) ≡ false
 mapped-none f None b e t = sym t ∙ e

@@ -1,0 +1,20 @@
+//! Giving back what a refused call made.
+ghost use Rattle.eo_term.specs.Terms.{IsMark};
+ghost use Rattle.eo_type.specs.Undoing.{Undoes};
+
+use crate::Types;
+use eo_sig::growth_law;
+use eo_term::{Mark, Table};
+
+impl Types {
+    /// Drops the terms that were made after the mark, and the types that name one of them: so a call
+    /// that is refused leaves the table as it was, and types that fit it. It takes no memory.
+    pub fn undo(&mut self, table: &mut Table, mark: Mark)
+        requires { IsMark table.old mark }
+        ensures { Undoes table.old self.old mark table.new self.new }
+    {
+        growth_law();
+        table.release(mark);
+        self.forget(mark);
+    }
+}

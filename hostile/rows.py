@@ -1,0 +1,196 @@
+"""The rows that hostile/run tries: what is run, over which files, and what is due."""
+import os
+import resource
+import subprocess
+import sys
+
+program, work = sys.argv[1:]
+
+CHECK = ["check", "--include=cpc.eo", "--reference=r.smt2", "p.eo"]
+LOAD = ["load", "a.eo"]
+FORMULAS = "(declare-const p Bool)\n(declare-const q Bool)\n(declare-const r Bool)\n(assert p)\n"
+STACK = 8 << 20
+
+
+def lines(*rows):
+    return "".join(row + "\n" for row in rows)
+
+
+# Words, files, and the status and the line that are due.
+REFUSED = {
+    "a benchmark with the suite": (
+        CHECK,
+        {
+            "r.smt2": lines(
+                "(set-logic QF_UF)", "(set-info :smt-lib-version 2.6)", "(declare-const p Bool)",
+                "(assert p)", "(assert (not p))", "(check-sat)",
+            ),
+            "p.eo": lines(
+                "unsat", "(", "(declare-const p Bool)", "(define @t1 () (not p))", "(assume @p1 p)",
+                "(assume @p2 @t1)", "(step @p3 false :rule contra :premises (@p1 @p2))", ")",
+            ),
+        },
+        (0, "correct\n"),
+    ),
+    "scopes one after another": (
+        CHECK,
+        {
+            "r.smt2": lines(
+                "(declare-const p Bool)", "(declare-const q Bool)", "(declare-const c Int)",
+                "(declare-fun g (Int) Int)", "(assert false)",
+            ),
+            "p.eo": lines(
+                "(assume-push @a p)", "(define @x () (not q))",
+                "(step @s (= @x @x) :rule refl :args (@x))",
+                "(step-pop @r1 :rule scope :premises (@a))", "(assume-push @b p)",
+                "(define @x () (g c))", "(step @s (= @x @x) :rule refl :args (@x))",
+                "(step-pop @r2 :rule scope :premises (@b))", "(assume @f false)",
+            ),
+        },
+        (0, "correct\n"),
+    ),
+    "files that include others": (
+        LOAD,
+        {
+            "a.eo": lines('(include "b.eo")', '(include "c.eo")'),
+            "b.eo": lines('(include "d.eo")'),
+            "c.eo": lines('(include "x/../d.eo")', '(include "c.eo")'),
+            "d.eo": lines("(declare-const p Bool)"),
+        },
+        (0, "loaded 6 commands\n"),
+    ),
+    "a resolution": (
+        CHECK,
+        {
+            "r.smt2": lines(
+                "(declare-const p Bool)", "(declare-const q Bool)", "(assert (or p q))",
+                "(assert (not p))", "(assert (not q))",
+            ),
+            "p.eo": lines(
+                "(assume @p1 (or p q))", "(assume @p2 (not p))", "(assume @p3 (not q))",
+                "(step @p4 q :rule resolution :premises (@p1 @p2) :args (true p))",
+                "(step @p5 false :rule resolution :premises (@p4 @p3) :args (true q))",
+            ),
+        },
+        (0, "correct\n"),
+    ),
+}
+
+
+def proof(*rows):
+    """A check of these lines, and the place behind them."""
+    text = lines(*rows)
+    return CHECK, {"r.smt2": FORMULAS, "p.eo": text}, f"p.eo:{len(rows) + 1}:{len(text)}\n"
+
+
+def accepted(*rows):
+    words, files, end = proof(*rows)
+    return words, files, (2, "refused F41 NoRefutation " + end)
+
+
+def open_scope(*rows):
+    words, files, end = proof(*rows)
+    return words, files, (2, "refused F40 ScopeOpen " + end)
+
+
+def not_asserted(row):
+    return CHECK, {"r.smt2": FORMULAS, "p.eo": row + "\n"}, (2, "refused F28 NotAsserted p.eo:1:0\n")
+
+
+def negations(count):
+    return ["(define @t0 () p)"] + [f"(define @t{k + 1} () (not @t{k}))" for k in range(count)]
+
+
+def loaded(text, status, line):
+    return LOAD, {"a.eo": text}, (status, line)
+
+
+def includes(count):
+    files = {f"n{k}.eo": f'(include "n{k + 1}.eo")\n' for k in range(1, count)}
+    files[f"n{count}.eo"] = ""
+    files["a.eo"] = '(include "n1.eo")\n'
+    return LOAD, files, (0, f"loaded {count} commands\n")
+
+
+COUNT_DOWN = (
+    "(program $e ((n Int)) :signature (Int) Bool ((($e 0) true) (($e n) ($e (eo::add n -1)))))"
+)
+
+LIMITS = {
+    "lists in lists": loaded("(" * 512, 2, "refused F02 Unclosed a.eo:1:512\n"),
+    "lists in the outer pair": (
+        CHECK, {"r.smt2": FORMULAS, "p.eo": "(" * 513}, (2, "refused F02 Unclosed p.eo:1:513\n"),
+    ),
+    "a formula of many lists": not_asserted("(assume @a " + "(not " * 511 + "p" + ")" * 512),
+    "a type of many lists": accepted(
+        "(declare-const c " + "(-> Bool " * 511 + "Bool" + ")" * 512),
+    "operators in operators": not_asserted(
+        "(assume @a " + "(eo::and true " * 511 + "true" + ")" * 512),
+    "a `let` in a `let`": not_asserted("(assume @a " + "(let ((x q)) " * 509 + "x" + ")" * 510),
+    "a tall formula": accepted(*negations(1_999)),
+    "a tall conclusion": accepted(
+        *negations(1_997), "(step @s (= @t1997 @t1997) :rule refl :args (@t1997))"),
+    "a tall assumption": open_scope(*negations(1_999), "(assume-push @a @t1999)"),
+    "calls in calls": accepted(
+        COUNT_DOWN, "(step @s (= ($e 999) true) :rule refl :args (true))"),
+    "scopes in scopes": open_scope(*(f"(assume-push @a{k} p)" for k in range(1_000))),
+    "files in files": includes(16),
+}
+
+
+def run(words, **settings):
+    done = subprocess.run([program, *words], cwd=work, capture_output=True, text=True, **settings)
+    return done.returncode, done.stdout
+
+
+def put(files):
+    for name, text in files.items():
+        with open(os.path.join(work, name), "w", encoding="ascii") as file:
+            file.write(text)
+
+
+def differs(name, got, due):
+    print(f"hostile: {name}: answered {got} and not {due}")
+    return 1
+
+
+def refuse_each(name, words, files, due):
+    """Refuses each allocation of a run in turn. Nothing is written where memory ends before the words
+    are read, so these come first."""
+    put(files)
+    count = os.path.join(work, "count")
+    loaded = {"PATH": os.environ["PATH"], "LD_PRELOAD": os.path.join(work, "refuse.so")}
+    wrong = 0
+    got = run(words, env={**loaded, "COUNT": count})
+    if got != due:
+        wrong += differs(name, got, due)
+    with open(count, encoding="ascii") as file:
+        asked = int(file.read())
+    silent = 0
+    said = 0
+    for number in range(1, asked + 1):
+        got = run(words, env={**loaded, "REFUSE": str(number)})
+        if got == (6, "out of memory\n"):
+            said += 1
+        elif got == (6, "") and said == 0:
+            silent += 1
+        elif got != due:
+            wrong += differs(f"{name}, allocation {number} refused", got, due)
+    print(
+        f"hostile: {name}: {asked} allocations refused in turn, {said} ended out of memory, "
+        f"{silent} before the words were read, {wrong} answers were wrong"
+    )
+    return wrong
+
+
+def at_limit(name, words, files, due):
+    """Runs with the stack that a shell gives."""
+    put(files)
+    got = run(words, preexec_fn=lambda: resource.setrlimit(resource.RLIMIT_STACK, (STACK, STACK)))
+    return 0 if got == due else differs(name, got, due)
+
+
+wrong = sum(at_limit(name, *row) for name, row in LIMITS.items())
+print(f"hostile: {len(LIMITS)} texts at limits, {wrong} answers were wrong")
+wrong += sum(refuse_each(name, *row) for name, row in REFUSED.items())
+sys.exit(1 if wrong else 0)
