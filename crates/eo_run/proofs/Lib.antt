@@ -5,6 +5,7 @@ pub mod Members
 pub mod Moved
 pub mod Rooted
 pub mod Assertions
+pub mod Benches
 pub mod Closed
 pub mod Computed
 pub mod Concluding
