@@ -100,14 +100,44 @@ fn words_that_are_read(rt: HostRuntime) {
     for (line, answer) in rows {
         assert!(&rt; gives(rt.alloc(), line, answer, Status::Refused));
     }
-    assert!(&rt;
-        gives(
-            rt.alloc(),
-            "ethos load c.eo",
-            b"loaded 1 commands\n",
-            Status::Ok
-        )
-    );
+    let accepted: [(&str, &[u8]); 5] = [
+        ("ethos load c.eo", b"loaded 1 commands\n"),
+        (
+            "ethos bench 1",
+            b"bench 1: correct, 15 commands, 36 terms\n",
+        ),
+        (
+            "ethos bench 2",
+            b"bench 2: correct, 17 commands, 43 terms\n",
+        ),
+        (
+            "ethos bench 10",
+            b"bench 10: correct, 33 commands, 99 terms\n",
+        ),
+        (
+            "ethos bench -- 10",
+            b"bench 10: correct, 33 commands, 99 terms\n",
+        ),
+    ];
+    for (line, answer) in accepted {
+        assert!(&rt; gives(rt.alloc(), line, answer, Status::Ok));
+    }
+}
+
+/// The same line each time, and no file of the library is read.
+#[test]
+fn a_bench_of_ten_thousand_hops(rt: HostRuntime) {
+    for _ in 0..2 {
+        match run(rt.alloc(), "ethos bench 10000", 1) {
+            Ok((status, out)) => {
+                assert!(&rt; status == Status::Ok);
+                assert!(&rt;
+                    out.bytes() == b"bench 10000: correct, 20013 commands, 70029 terms\n".as_slice()
+                );
+            }
+            Err(AllocError) => assert!(&rt; false),
+        }
+    }
 }
 
 #[test]
@@ -143,7 +173,23 @@ fn words_that_are_not_read(rt: HostRuntime) {
         "ethos check -h p.eo",
         "ethos load --help c.eo",
         "ethos --version",
-        "ethos bench 1",
+        "ethos bench",
+        "ethos bench ",
+        "ethos bench 0",
+        "ethos bench 00",
+        "ethos bench 01",
+        "ethos bench +1",
+        "ethos bench -1",
+        "ethos bench -- -1",
+        "ethos bench 1.0",
+        "ethos bench 1 2",
+        "ethos bench 100001",
+        "ethos bench 4294967297",
+        "ethos bench 340282366920938463463374607431768211457",
+        "ethos bench #x1",
+        "ethos bench N",
+        "ethos bench --closed 1",
+        "ethos bench --help",
     ];
     for line in lines {
         assert!(&rt; gives(rt.alloc(), line, USAGE, Status::Usage));
