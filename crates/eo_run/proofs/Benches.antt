@@ -1,6 +1,6 @@
 -- The files of a bench, and what is answered for their run.
-use Rattle.std.proofs.Common.{◌≡◌, ℕ, List, [], ◌++◌, Some, refl, ◌∙◌, arith}
-use Rattle.std.specs.Prelude.{codes, decimal}
+use Rattle.std.proofs.Common.{◌≡◌, ℕ, List, [], ◌++◌, Some, refl, sym, ◌∙◌, append_assoc, arith}
+use Rattle.std.specs.Prelude.{codes}
 use Rattle.eo_base.specs.Causes.{Rose}
 use Rattle.eo_io.specs.Library.{Files}
 use Rattle.eo_io.specs.Stored.{with_file}
@@ -37,3 +37,15 @@ unfolding bench_files
 three_added n none one two three reference proof e0 e1 e2 e3 r p =
     e3 ∙ (λ i. with_file (e2 i) (codes "bench.proof") proof) ∙ (λ i. with_file (with_file (e1 i) (codes "bench.smt2") reference) (codes "bench.proof") proof)
     ∙ (λ i. with_file (with_file (with_file (e0 i) (codes "bench.eo") bench_signature) (codes "bench.smt2") (r i)) (codes "bench.proof") (p i))
+
+-- ---- lines
+
+-- a line with so many numbers in it, where its end is written with what is behind the last one
+pub one_number : (a m b end : List ℕ) → a ++ (m ++ (b ++ end)) ≡ (a ++ (m ++ b)) ++ end
+one_number a m b end = sym (simp append_assoc)
+
+pub two_numbers : (a m b n c end : List ℕ) → a ++ (m ++ (b ++ (n ++ (c ++ end)))) ≡ (a ++ (m ++ (b ++ (n ++ c)))) ++ end
+two_numbers a m b n c end = sym (simp append_assoc)
+
+pub three_numbers : (a m b n c o d end : List ℕ) → a ++ (m ++ (b ++ (n ++ (c ++ (o ++ (d ++ end)))))) ≡ (a ++ (m ++ (b ++ (n ++ (c ++ (o ++ d)))))) ++ end
+three_numbers a m b n c o d end = sym (simp append_assoc)

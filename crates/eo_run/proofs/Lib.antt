@@ -39,4 +39,5 @@ pub mod Used
 mod FileVectors
 mod ScopeVectors
 mod Vectors
+mod BenchVectors
 mod PrintLemmas

@@ -124,16 +124,13 @@ fn words_that_are_read(rt: HostRuntime) {
     }
 }
 
-/// The same line each time, and no file of the library is read.
 #[test]
-fn a_bench_of_ten_thousand_hops(rt: HostRuntime) {
+fn a_bench_gives_the_same_line_each_time(rt: HostRuntime) {
     for _ in 0..2 {
-        match run(rt.alloc(), "ethos bench 10000", 1) {
+        match run(rt.alloc(), "ethos bench 100", 1) {
             Ok((status, out)) => {
-                assert!(&rt; status == Status::Ok);
-                assert!(&rt;
-                    out.bytes() == b"bench 10000: correct, 20013 commands, 70029 terms\n".as_slice()
-                );
+                let line = b"bench 100: correct, 213 commands, 729 terms\n".as_slice();
+                assert!(&rt; status == Status::Ok && out.bytes() == line);
             }
             Err(AllocError) => assert!(&rt; false),
         }
