@@ -1,5 +1,5 @@
 -- How a run ends, by the answer of its check.
-use Rattle.std.proofs.Common.{◌≡◌, ◌≢◌, ℕ, List, [], Option, None, Some, refl, sym, ◌∙◌, ap, subst, inl, inr}
+use Rattle.std.proofs.Common.{◌≡◌, ◌≢◌, ℕ, true, false, List, [], Option, None, Some, refl, sym, ◌∙◌, ap, subst, inl, inr}
 use Rattle.std.specs.Prelude.{slice_get, unwrap_or}
 use Rattle.eo_base.specs.Causes.{Rose}
 use Rattle.eo_base.specs.declared.Fault.{Fault}
@@ -20,7 +20,7 @@ use Rattle.eo_run.specs.declared.BenchEnd.TheVariants as ends
 use Rattle.eo_run.specs.declared.Verdict.{Verdict}
 use Rattle.eo_run.specs.declared.Verdict.TheVariants as answer
 use Rattle.ethos.specs.Ends.{Ends, EndHasCause}
-use Rattle.ethos.specs.Program.{due, correct_bench, judged_bench, bench_due, needs_no_files, EndsAs}
+use Rattle.ethos.specs.Program.{due, correct_bench, judged_bench, bench_due, needs_no_files, is_bench, EndsAs}
 use Rattle.ethos.specs.declared.words.Request.{Request}
 use Rattle.ethos.specs.declared.words.Request.TheVariants.{Check, Load, Bench}
 use Rattle.eo_run.specs.declared.CheckJob.{CheckJob}
@@ -193,6 +193,17 @@ bench_ends_as (Some files) s n w x h = h
 
 pub own_ends : (s : Status) (w x : Option (List ℕ)) (reading other : Option Request) → reading ≡ other → Ends s (due [] reading) w x → Ends s (due [] other) w x
 own_ends s w x reading other e h = subst (λ (o : Option Request). Ends s (due [] o) w x) e h
+
+true_is_not_false : true ≡ false → ⊥
+true_is_not_false e = cc
+
+-- words that ask for this do not ask for what needs no files
+pub wants_files : (asked reading : Option Request) → asked ≡ reading → needs_no_files asked ≡ false → needs_no_files reading ≡ true → ⊥
+wants_files asked reading e wants own = true_is_not_false (sym own ∙ sym (ap needs_no_files e) ∙ wants)
+
+-- and words that ask for a bench ask for one
+pub asks_bench : (asked reading : Option Request) → asked ≡ reading → is_bench asked ≡ true → is_bench reading ≡ false → ⊥
+asks_bench asked reading e is other = true_is_not_false (sym is ∙ ap is_bench e ∙ other)
 
 pub own_usage : (s : Status) (w x : Option (List ℕ)) → WritesDue s usage_due w x → Ends s (due [] None) w x
 unfolding due

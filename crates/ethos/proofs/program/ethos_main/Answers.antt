@@ -1,8 +1,8 @@
-use Rattle.std.proofs.Common.{◌≡◌, ◌∙◌, ap, sym, arith, Some, None}
+use Rattle.std.proofs.Common.{◌≡◌, ◌∙◌, ap, sym, refl, arith, Some, None}
 use Rattle.ethos.specs.CommandLine.{request}
 use Rattle.ethos.specs.declared.words.Request.{Request}
-use Rattle.ethos.specs.declared.words.Request.TheVariants.{Check, Bench}
-use Rattle.ethos.proofs.EndLemmas.{reading_ends, no_reading_ends, usage_ends, bench_ends_as, own_has_cause, own_ends, own_usage, own_bench, own_memory}
+use Rattle.ethos.specs.declared.words.Request.TheVariants.{Check, Load, Bench}
+use Rattle.ethos.proofs.EndLemmas.{reading_ends, no_reading_ends, usage_ends, bench_ends_as, own_has_cause, own_ends, own_usage, own_bench, own_memory, wants_files, asks_bench}
 use Rattle.ethos.proofs.AbsentLemmas.{absent_by_letter}
 use Rattle.ethos.proofs.Refuting.{ok_refutes}
 use Rattle.ethos.proofs.program.ethos_main.Goals as goal
@@ -25,6 +25,18 @@ pub returns-in-Err-clause-absent : goal.returns-in-Err-clause-absent
 returns-in-Err-clause-absent g c = λ files. absent_by_letter _ 111 _ _ _ _ _ _ _ (omega arith) c.print_line-in-Err.ensures.due
 
 -- ---- what needs no files
+
+pub returns-in-Ok-Some-Check-clause-own : goal.returns-in-Ok-Some-Check-clause-own
+returns-in-Ok-Some-Check-clause-own g c =
+    let reading : Some (Check c.in-Ok-Some-Check.job) ≡ request c.args.words.now =
+    sym (c.in-Ok-Some-Check.field-0-is ∙ ap (λ (r : Request). Some r) c.in-Ok-Some-Check.field-0-0-is) ∙ c.in-Ok-Some-Check.ensures in
+    λ own. absurd (wants_files (Some (Check c.in-Ok-Some-Check.job)) (request c.args.words.now) reading refl own)
+
+pub returns-in-Ok-Some-Load-clause-own : goal.returns-in-Ok-Some-Load-clause-own
+returns-in-Ok-Some-Load-clause-own g c =
+    let reading : Some (Load c.in-Ok-Some-Load.file) ≡ request c.args.words.now =
+    sym (c.in-Ok-Some-Load.field-0-is ∙ ap (λ (r : Request). Some r) c.in-Ok-Some-Load.field-0-0-is) ∙ c.in-Ok-Some-Load.ensures in
+    λ own. absurd (wants_files (Some (Load c.in-Ok-Some-Load.file)) (request c.args.words.now) reading refl own)
 
 pub returns-in-Ok-None-clause-own : goal.returns-in-Ok-None-clause-own
 returns-in-Ok-None-clause-own g c =
@@ -52,3 +64,10 @@ returns-in-Ok-Some-Bench-clause-own g c =
 
 pub returns-in-Ok-Some-Bench-clause-cause : goal.returns-in-Ok-Some-Bench-clause-cause
 returns-in-Ok-Some-Bench-clause-cause g c = own_has_cause _ _ _ _ _ c.run_bench.ensures.no_read_fault c.run_bench.ensures.cause
+
+pub returns-in-Ok-Some-Bench-clause-absent : goal.returns-in-Ok-Some-Bench-clause-absent
+returns-in-Ok-Some-Bench-clause-absent g c =
+    let n = c.in-Ok-Some-Bench.n in
+    let reading : Some (Bench n) ≡ request c.args.words.now =
+    sym (c.in-Ok-Some-Bench.field-0-is ∙ ap (λ (r : Request). Some r) c.in-Ok-Some-Bench.field-0-0-is) ∙ c.in-Ok-Some-Bench.ensures in
+    λ files. absurd (asks_bench (Some (Bench n)) (request c.args.words.now) reading refl files)
