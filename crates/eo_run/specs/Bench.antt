@@ -18,11 +18,15 @@ bench_signature =
 abbrev pub bench_reference : ℕ → List ℕ
 bench_reference n = line (codes "(assert (at 0))") ++ line (codes "(assert (not (at " ++ decimal n ++ codes ")))")
 
--- the hop from k to the next number, and the fact there
+-- the hop from k to the next number: the step that concludes its clause, and the one that concludes the fact there
+abbrev pub hop_clause : ℕ → List ℕ
+hop_clause k = line (codes "(step @h" ++ decimal k ++ codes " :rule hop :args (" ++ decimal k ++ codes "))")
+
+abbrev pub hop_fact : ℕ → List ℕ
+hop_fact k = line (codes "(step @a" ++ decimal (k + 1) ++ codes " :rule unit :premises (@a" ++ decimal k ++ codes " @h" ++ decimal k ++ codes "))")
+
 abbrev pub hop : ℕ → List ℕ
-hop k =
-    line (codes "(step @h" ++ decimal k ++ codes " :rule hop :args (" ++ decimal k ++ codes "))")
-    ++ line (codes "(step @a" ++ decimal (k + 1) ++ codes " :rule unit :premises (@a" ++ decimal k ++ codes " @h" ++ decimal k ++ codes "))")
+hop k = hop_clause k ++ hop_fact k
 
 -- the hops from 0 to n
 abbrev pub hops : ℕ → List ℕ

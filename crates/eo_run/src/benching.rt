@@ -1,6 +1,7 @@
 //! A check of a proof that is made in memory, which tells how fast the program is.
 ghost use Rattle.std.specs.Prelude.{◌≡◌, ◌++◌, [], false, IfOk, OnOk, string_bytes};
-ghost use Rattle.eo_run.specs.Bench.{bench_files, bench_job, bench_reference, bench_proof, hop, bench_end};
+ghost use Rattle.eo_run.specs.Bench.{bench_files, bench_job, bench_reference, bench_proof};
+ghost use Rattle.eo_run.specs.Bench.{hop, hop_clause, hop_fact, bench_end};
 ghost use Rattle.eo_run.specs.Benching.{AnswersBench, counted};
 
 use crate::checking::{check_job, first_run};
@@ -116,12 +117,26 @@ fn proof_of(alloc: Global, n: u32) -> Result<String, AllocError>
     Ok(text)
 }
 
-/// Adds the hop from k to the next number, and the fact there.
+/// Adds the hop from k to the next number.
 fn add_hop(text: &mut String, k: u32) -> Result<(), AllocError>
     ensures { OnOk result (string_bytes text.new ≡ string_bytes text.old ++ hop k) }
 {
+    add_clause(text, k)?;
+    add_fact(text, k)
+}
+
+/// Adds the step that concludes the clause of a hop.
+fn add_clause(text: &mut String, k: u32) -> Result<(), AllocError>
+    ensures { OnOk result (string_bytes text.new ≡ string_bytes text.old ++ hop_clause k) }
+{
+    writeln!(text, "(step @h{k} :rule hop :args ({k}))")
+}
+
+/// Adds the step that concludes the fact behind a hop.
+fn add_fact(text: &mut String, k: u32) -> Result<(), AllocError>
+    ensures { OnOk result (string_bytes text.new ≡ string_bytes text.old ++ hop_fact k) }
+{
     let next = u64::from(k) + 1;
-    writeln!(text, "(step @h{k} :rule hop :args ({k}))")?;
     writeln!(text, "(step @a{next} :rule unit :premises (@a{k} @h{k}))")
 }
 
