@@ -43,10 +43,3 @@ three_added n none one two three reference proof e0 e1 e2 e3 r p =
 -- a line with so many numbers in it, where its end is written with what is behind the last one
 pub one_number : (a m b end : List ℕ) → a ++ (m ++ (b ++ end)) ≡ (a ++ (m ++ b)) ++ end
 one_number a m b end = sym (simp append_assoc)
-
-pub three_numbers : (a m b n c o d end : List ℕ) → a ++ (m ++ (b ++ (n ++ (c ++ (o ++ (d ++ end)))))) ≡ (a ++ (m ++ (b ++ (n ++ (c ++ (o ++ d)))))) ++ end
-three_numbers a m b n c o d end = sym (simp append_assoc)
-
--- as a text with three numbers is written
-pub grouped : (a m b rest : List ℕ) → (a ++ (m ++ b)) ++ rest ≡ a ++ (m ++ (b ++ rest))
-grouped a m b rest = simp append_assoc

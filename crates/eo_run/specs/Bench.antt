@@ -22,11 +22,11 @@ bench_reference n = line (codes "(assert (at 0))") ++ line (codes "(assert (not 
 abbrev pub hop_clause : ℕ → List ℕ
 hop_clause k = line (codes "(step @h" ++ decimal k ++ codes " :rule hop :args (" ++ decimal k ++ codes "))")
 
-abbrev pub hop_fact : ℕ → List ℕ
-hop_fact k = line (codes "(step @a" ++ decimal (k + 1) ++ codes " :rule unit :premises (@a" ++ decimal k ++ codes " @h" ++ decimal k ++ codes "))")
+abbrev pub hop_fact : (k next : ℕ) → List ℕ
+hop_fact k next = line (codes "(step @a" ++ decimal next ++ codes " :rule unit :premises (@a" ++ decimal k ++ codes " @h" ++ decimal k ++ codes "))")
 
 abbrev pub hop : ℕ → List ℕ
-hop k = hop_clause k ++ hop_fact k
+hop k = hop_clause k ++ hop_fact k (k + 1)
 
 -- the hops from 0 to n
 abbrev pub hops : ℕ → List ℕ

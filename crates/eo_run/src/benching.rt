@@ -122,7 +122,7 @@ fn add_hop(text: &mut String, k: u32) -> Result<(), AllocError>
     ensures { OnOk result (string_bytes text.new ≡ string_bytes text.old ++ hop k) }
 {
     add_clause(text, k)?;
-    add_fact(text, k)
+    add_fact(text, k, u64::from(k) + 1)
 }
 
 /// Adds the step that concludes the clause of a hop.
@@ -133,10 +133,9 @@ fn add_clause(text: &mut String, k: u32) -> Result<(), AllocError>
 }
 
 /// Adds the step that concludes the fact behind a hop.
-fn add_fact(text: &mut String, k: u32) -> Result<(), AllocError>
-    ensures { OnOk result (string_bytes text.new ≡ string_bytes text.old ++ hop_fact k) }
+fn add_fact(text: &mut String, k: u32, next: u64) -> Result<(), AllocError>
+    ensures { OnOk result (string_bytes text.new ≡ string_bytes text.old ++ hop_fact k next) }
 {
-    let next = u64::from(k) + 1;
     writeln!(text, "(step @a{next} :rule unit :premises (@a{k} @h{k}))")
 }
 
