@@ -126,6 +126,10 @@ module _ (files : Files) (job : CheckJob) where
   unfolding verdict run_check ◌>>=◌
   verdict-proof p e = ap (λ m. checked files job.proof (then_proof m)) e
 
+  pub check-proof : (p : Progress) → before_proof files job ≡ Ok p → run_check files job ≡ run_proof files job.proof p
+  unfolding run_check ◌>>=◌
+  check-proof p e = ap then_proof e
+
 pub load-is : (files : Files) (name : List ℕ) → load_verdict files name ≡ loaded (run_signature files name (first_load name))
 unfolding load_verdict run_load
 load-is files name = refl

@@ -10,11 +10,12 @@ use Rattle.eo_io.specs.Paths.{fold_path}
 use Rattle.eo_sexp.specs.Spot.{Spot}
 use Rattle.eo_sexp.specs.Texts.{first_spot}
 use Rattle.eo_run.specs.State.{State, begin_reference, end_fault}
-use Rattle.eo_run.specs.Run.{Progress, Ran, refusal_at, shown, commands_of, run_commands, if_given, first_progress, first_load, run_signature, run_job_reference, run_proof, before_proof}
+use Rattle.eo_run.specs.Run.{Progress, Ran, refusal_at, shown, commands_of, run_commands, if_given, first_progress, first_load, run_signature, run_job_reference, run_proof, before_proof, run_check}
 use Rattle.eo_run.specs.Check.{file_end}
 use Rattle.eo_run.specs.Verdict.{Refusal}
 use Rattle.eo_run.specs.Answer.{Answers, AnswerHasCause, Denotes}
-use Rattle.eo_run.specs.Opening.{opener_of, run_source, Told, RefusesFile, RunsFile}
+use Rattle.eo_run.specs.Benching.{LeavesLast}
+use Rattle.eo_run.specs.Opening.{opener_of, run_source, Told, IsStop, RefusesFile, RunsFile}
 use Rattle.eo_run.specs.Judging.{run_named, run_of, EndsRun, RunsNamed, RunsPart, StandsFor, BeginsNamed, AnswersJob, AnswersProof, AnswersLoad}
 use Rattle.eo_run.specs.Numbered.{origin_of}
 use Rattle.eo_run.specs.Origin.{Origin}
@@ -23,8 +24,9 @@ use Rattle.eo_run.specs.declared.CheckJob.{CheckJob}
 use Rattle.eo_run.specs.declared.Verdict.{Verdict}
 use Rattle.eo_run.specs.declared.Verdict.TheVariants as answer
 use Rattle.eo_run.specs.declared.checking.Named.{Named}
+use Rattle.eo_run.specs.declared.opening.Run.{Run}
 use Rattle.eo_run.specs.declared.opening.Source.{Source}
-use Rattle.eo_run.proofs.Files.{told-some, named-bad, named-absent, named-runs, shown-folded, end-folded, signature-is, proof-is, reference-begun, reference-second, before-refused, before-included, verdict-proof, load-is, ends-correct, ends-incomplete, ends-refused, ends-loaded, stops-checked, stops-loaded, stops-before}
+use Rattle.eo_run.proofs.Files.{told-some, named-bad, named-absent, named-runs, shown-folded, end-folded, signature-is, proof-is, reference-begun, reference-second, before-refused, before-included, verdict-proof, check-proof, load-is, ends-correct, ends-incomplete, ends-refused, ends-loaded, stops-checked, stops-loaded, stops-before}
 use Rattle.eo_run.proofs.Numbers.{begin-present}
 use Rattle.eo_run.proofs.Pieces.{stops-weaker}
 
@@ -134,6 +136,11 @@ second-cause told name paths answer.Correct st new b c h = tt
 second-cause told name paths answer.Incomplete st new b c h = tt
 second-cause told name paths (answer.Loaded commands) st new b c h = tt
 
+-- an answer for a run that stops is none that is correct
+pub stop-last : (told : Option Files) (ran : Files → Ran) (v : Verdict) (run : Run) (paths : List (List ℕ)) → IsStop paths v → LeavesLast told ran v run
+stop-last told ran answer.Correct run paths h = absurd h
+stop-last told ran v run paths h = tt
+
 module _ (told : Option Files) (job : CheckJob) (paths : List (List ℕ)) where
   pub before-stops : (new : Progress) (v : Verdict) → RunsPart told (λ files. if_given (run_signature files) job.include (first_progress job)) (Err v) new paths → RunsPart told (λ files. before_proof files job) (Err v) new paths
   before-stops new v h = λ files k. stops-weaker _ (λ (refusal : Refusal). before_proof files job ≡ Err refusal) paths v (λ refusal e. before-refused files job refusal e) (h files k)
@@ -146,6 +153,10 @@ module _ (told : Option Files) (job : CheckJob) (paths : List (List ℕ)) where
 
     pub job-answers : (v : Verdict) → RunsPart told (λ files. before_proof files job) (Ok x) mid others → AnswersProof later job.proof (λ files. run_proof files job.proof mid) paths v → AnswersJob told job paths v
     job-answers v h g = told-some told _ (λ files k. subst (λ w. Answers paths v w) (sym (verdict-proof files job mid (h files k))) (g files (same ∙ k)))
+
+    pub job-last : (v : Verdict) (run : Run) → RunsPart told (λ files. before_proof files job) (Ok x) mid others → LeavesLast later (λ files. run_proof files job.proof mid) v run → LeavesLast told (λ files. run_check files job) v run
+    job-last answer.Correct run h g = record { going = g.going; runs = λ files k. check-proof files job mid (h files k) ∙ g.runs files (same ∙ k) }
+    job-last v run h g = tt
 
   pub job-stops : (new : Progress) (v : Verdict) → RunsPart told (λ files. before_proof files job) (Err v) new paths → AnswersJob told job paths v
   job-stops new v h = told-some told _ (λ files k. stops-before files job paths v (h files k))

@@ -5,6 +5,7 @@ pub mod Members
 pub mod Moved
 pub mod Rooted
 pub mod Assertions
+pub mod Benches
 pub mod Closed
 pub mod Computed
 pub mod Concluding
@@ -38,4 +39,5 @@ pub mod Used
 mod FileVectors
 mod ScopeVectors
 mod Vectors
+mod BenchVectors
 mod PrintLemmas

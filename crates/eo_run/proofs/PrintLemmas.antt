@@ -10,8 +10,8 @@ use Rattle.eo_base.specs.Faults.{number}
 use Rattle.eo_base.specs.FaultTexts.{text}
 use Rattle.eo_base.specs.declared.Fault.{Fault}
 use Rattle.eo_run.specs.Verdict.{Refusal, Refused}
-use Rattle.eo_run.specs.Printed.{line, two_digits, refusal_text, verdict_due}
-use Rattle.eo_run.specs.Pieces.{text_of, refusal_of_pieces, refused_due}
+use Rattle.eo_run.specs.Printed.{line, two_digits, refusal_text, verdict_due, bench_text}
+use Rattle.eo_run.specs.Pieces.{text_of, refusal_of_pieces, refused_due, counts_of_pieces}
 
 pub adds_more : (a b : List ℕ) (w x y : Option (List ℕ)) → Adds a w x → Adds b x y → Adds (a ++ b) w y
 adds_more a b w x y e e' = e' ∙ ap (option_map (λ old. old ++ b)) e ∙ joined w
@@ -47,6 +47,14 @@ front_of_pieces pieces i piece p h e w x y adds front =
 pub loaded_text : (n : ℕ) (digits : List ℕ) → digits ≡ decimal n → codes "loaded " ++ (digits ++ codes " commands\n") ≡ line (codes "loaded " ++ (decimal n ++ codes " commands"))
 loaded_text n digits e =
     ap (λ d. codes "loaded " ++ (d ++ codes " commands\n")) e ∙ ap (λ t. codes "loaded " ++ t) (sym (append_assoc (decimal n) (codes " commands") (10 ∷ [])))
+
+flat_counts : (a b c d e f g h : List ℕ) → a ++ (b ++ (c ++ (d ++ (e ++ (f ++ (g ++ h)))))) ≡ (a ++ (b ++ (c ++ (d ++ (e ++ (f ++ g)))))) ++ h
+flat_counts a b c d e f g h = sym (simp append_assoc)
+
+pub counts_line : (n commands terms : ℕ) (number accepted alive : List ℕ) → number ≡ decimal n → accepted ≡ decimal commands → alive ≡ decimal terms → counts_of_pieces number accepted alive ≡ bench_text n commands terms
+counts_line n commands terms number accepted alive e-n e-c e-t =
+    (λ i. counts_of_pieces (e-n i) (e-c i) (e-t i))
+    ∙ flat_counts (codes "bench ") (decimal n) (codes ": correct, ") (decimal commands) (codes " commands, ") (decimal terms) (codes " terms") (codes "\n")
 
 flat : (a b c d e f g h i j k : List ℕ) → a ++ (b ++ (c ++ (d ++ (e ++ (f ++ (g ++ (h ++ (i ++ (j ++ k))))))))) ≡ (a ++ (b ++ (c ++ (d ++ (e ++ (f ++ (g ++ (h ++ (i ++ j))))))))) ++ k
 flat a b c d e f g h i j k = sym (simp append_assoc)

@@ -24,3 +24,5 @@ pub mod Using
 pub mod Layers
 pub mod Refutation
 pub mod Soundness
+pub mod Bench
+pub mod Benching

@@ -1,6 +1,7 @@
 //! The check of a proof against a reference file, and the load of a signature.
 ghost use Rattle.std.specs.Prelude.{◌≡◌, [], false, Some, IfOk, IfErr, IfSome, OnOk};
 ghost use Rattle.eo_run.specs.Answer.{AnswerHasCause};
+ghost use Rattle.eo_run.specs.Benching.{LeavesLast};
 ghost use Rattle.eo_run.specs.Judging.{IsCheckAnswer, IsLoadAnswer, IsPlaced, RunsNamed, RunsPart, AnswersJob, AnswersProof, AnswersLoad};
 ghost use Rattle.eo_run.specs.Judging.{MayRun, StandsFor, BeginsNamed};
 ghost use Rattle.eo_run.specs.Opening.{IsStop};
@@ -8,7 +9,7 @@ ghost use Rattle.eo_run.specs.Progress.{progress_of, Begins};
 ghost use Rattle.eo_run.specs.Reading.{LibraryStays};
 ghost use Rattle.eo_run.specs.Refutation.{CorrectRefutes, ClosedKeepsRules};
 ghost use Rattle.eo_run.specs.Run.{first_progress, first_load as load_progress, with_folded, if_given, refusal_at, shown};
-ghost use Rattle.eo_run.specs.Run.{run_signature, run_job_reference, before_proof, run_proof};
+ghost use Rattle.eo_run.specs.Run.{run_signature, run_job_reference, before_proof, run_proof, run_check};
 ghost use Rattle.eo_run.specs.State.{begin_reference};
 ghost use Rattle.eo_io.specs.Paths.{fold_path};
 ghost use Rattle.eo_sexp.specs.Texts.{first_spot};
@@ -102,8 +103,8 @@ fn check_whole<L: Library>(
     check_job(alloc, job, files, &mut run, paths)
 }
 
-/// The verdict of a job whose run begins.
-fn check_job<L: Library>(
+/// The verdict of a job whose run begins. Where it is correct, the run is left at its end.
+pub(crate) fn check_job<L: Library>(
     alloc: Global,
     job: &CheckJob,
     files: &mut L,
@@ -113,6 +114,7 @@ fn check_job<L: Library>(
     requires none_open { L.open_files files.old ≡ [] }
     requires begins { Begins run.old (first_progress job.now) }
     ensures verdict { AnswersJob (L.told files.old) job.now paths.new result }
+    ensures last { LeavesLast (L.told files.old) (λ f. run_check f job.now) result run.new }
     ensures cause { AnswerHasCause result (L.told files.old) (L.faults files.old) (L.faults files.new) }
     ensures kind { IsCheckAnswer paths.new result }
     ensures stays { LibraryStays L.told L.open_files L.faults files.old files.new }
@@ -253,7 +255,8 @@ fn refuse_at_start(fault: FaultName, path: &[u8], paths: &mut Paths) -> Verdict
     }
 }
 
-/// The verdict of the proof, behind what was read before it.
+/// The verdict of the proof, behind what was read before it. Where it is correct, the run is left
+/// at its end.
 fn check_proof<L: Library>(
     alloc: Global,
     name: &[u8],
@@ -264,6 +267,7 @@ fn check_proof<L: Library>(
     requires none_open { L.open_files files.old ≡ [] }
     requires going { run.old.session.ended ≡ false }
     ensures verdict { AnswersProof (L.told files.old) name.now (λ f. run_proof f name.now (progress_of run.old)) paths.new result }
+    ensures last { LeavesLast (L.told files.old) (λ f. run_proof f name.now (progress_of run.old)) result run.new }
     ensures cause { AnswerHasCause result (L.told files.old) (L.faults files.old) (L.faults files.new) }
     ensures kind { IsCheckAnswer paths.new result }
     ensures stays { LibraryStays L.told L.open_files L.faults files.old files.new }
@@ -397,7 +401,7 @@ fn check_path<L: Library>(
 }
 
 /// The run of a job before its first command.
-fn first_run(alloc: Global, job: &CheckJob) -> Result<Run, AllocError>
+pub(crate) fn first_run(alloc: Global, job: &CheckJob) -> Result<Run, AllocError>
     ensures { IfOk result (λ r. Begins r (first_progress job.now)) }
 {
     let included = first_included(alloc, job)?;

@@ -7,6 +7,7 @@
 
 mod asserting;
 mod beginning;
+mod benching;
 mod carrying;
 mod checking;
 mod declaring;
@@ -26,10 +27,11 @@ mod scopes;
 mod session;
 mod steps;
 
+pub use benching::bench;
 pub use checking::{check_files, load_files};
 use eo_base::{Fault, Text};
 pub use laws::soundness_law;
-pub use printing::{print_line, print_verdict};
+pub use printing::{print_bench, print_line, print_verdict};
 pub use refused::Refused;
 pub use session::{EndAnswer, Session};
 
@@ -85,4 +87,14 @@ pub enum Verdict {
     ReadFault,
     /// There was no memory left.
     OutOfMemory,
+}
+
+/// What a bench answers.
+#[derive(Clone, Copy, Debug, PartialEq, Eq)]
+pub enum BenchEnd {
+    /// Its check is correct, with so many accepted commands, and so many terms that are alive at
+    /// its end.
+    Correct { commands: u64, terms: usize },
+    /// Its check ends otherwise.
+    Other(Verdict),
 }

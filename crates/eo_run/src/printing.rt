@@ -5,9 +5,10 @@ ghost use Rattle.eo_base.specs.Causes.{Rose};
 ghost use Rattle.eo_io.specs.Sink.{Adds, AddsFront};
 ghost use Rattle.eo_run.specs.Answer.{FileInRange, WritesDue, answer_due};
 ghost use Rattle.eo_run.specs.Printed.{two_digits};
-ghost use Rattle.eo_run.specs.Pieces.{text_of, line_due, refusal_of_pieces, refused_due, loaded_due};
+ghost use Rattle.eo_run.specs.Benching.{EndInRange, end_due};
+ghost use Rattle.eo_run.specs.Pieces.{text_of, line_due, refusal_of_pieces, refused_due, loaded_due, counts_of_pieces, counts_due};
 
-use crate::Verdict;
+use crate::{BenchEnd, Verdict};
 use eo_base::{Fault, Status};
 use eo_io::{Paths, Sink, write_all};
 use itoa::Buffer;
@@ -39,6 +40,52 @@ pub fn print_verdict<W: Sink>(out: &mut W, v: &Verdict, paths: &Paths) -> Status
         Verdict::ReadFault => print_line(out, Status::ReadFault, &[b"read fault\n"]),
         Verdict::OutOfMemory => print_line(out, Status::OutOfMemory, &[b"out of memory\n"]),
     }
+}
+
+/// Writes the line of a bench of n hops, as `bench 10: correct, 33 commands, 99 terms`, or that of
+/// its verdict, and answers the status that goes with it, as [`print_verdict`] does.
+pub fn print_bench<W: Sink>(out: &mut W, n: u32, end: &BenchEnd, paths: &Paths) -> Status
+    requires { EndInRange paths.now end.now }
+    ensures due { WritesDue result (end_due n paths.now end.now) (W.written out.old) (W.written out.new) }
+    ensures cause { result ≡ Status.WriteFault → Rose (W.faults out.old) (W.faults out.new) }
+    ensures later { W.faults out.old ≤ W.faults out.new }
+{
+    match end {
+        BenchEnd::Correct { commands, terms } => print_counts(out, n, *commands, *terms),
+        BenchEnd::Other(verdict) => print_verdict(out, verdict, paths),
+    }
+}
+
+/// Writes the line of a correct bench.
+fn print_counts<W: Sink>(out: &mut W, n: u32, commands: u64, terms: usize) -> Status
+    ensures due { WritesDue result (counts_due n commands terms) (W.written out.old) (W.written out.new) }
+    ensures cause { result ≡ Status.WriteFault → Rose (W.faults out.old) (W.faults out.new) }
+    ensures later { W.faults out.old ≤ W.faults out.new }
+{
+    let mut digits = Buffer::new();
+    let mut accepted = Buffer::new();
+    let mut alive = Buffer::new();
+    let pieces = counts_pieces(
+        digits.format(n).as_bytes(),
+        accepted.format(commands).as_bytes(),
+        alive.format(terms).as_bytes(),
+    );
+    print_line(out, Status::Ok, &pieces)
+}
+
+/// The line of a correct bench in pieces, from its numbers.
+fn counts_pieces<'a>(number: &'a [u8], commands: &'a [u8], terms: &'a [u8]) -> [&'a [u8]; 7]
+    ensures { text_of result ≡ counts_of_pieces number.now commands.now terms.now }
+{
+    [
+        b"bench ",
+        number,
+        b": correct, ",
+        commands,
+        b" commands, ",
+        terms,
+        b" terms\n",
+    ]
 }
 
 /// Writes the line of a load.

@@ -1,5 +1,5 @@
 -- How a run ends, by the answer of its check.
-use Rattle.std.proofs.Common.{◌≡◌, ◌≢◌, ℕ, List, [], Option, None, Some, refl, sym, ◌∙◌, ap, subst, inl, inr}
+use Rattle.std.proofs.Common.{◌≡◌, ◌≢◌, ℕ, true, false, List, [], Option, None, Some, refl, sym, ◌∙◌, ap, subst, inl, inr}
 use Rattle.std.specs.Prelude.{slice_get, unwrap_or}
 use Rattle.eo_base.specs.Causes.{Rose}
 use Rattle.eo_base.specs.declared.Fault.{Fault}
@@ -9,14 +9,20 @@ use Rattle.eo_io.specs.Library.{Files}
 use Rattle.eo_run.specs.Verdict as verdict
 use Rattle.eo_run.specs.Printed.{Due, verdict_due, verdict_status, usage_due, read_fault_due, out_of_memory_due}
 use Rattle.eo_run.specs.Answer.{Denotes, Answers, AnswerHasCause, answer_due, refusal_of, WritesDue}
+use Rattle.eo_run.specs.Bench.{bench_files, bench_job}
+use Rattle.eo_run.specs.Benching.{AnswersBench, IsOtherEnd, end_due}
 use Rattle.eo_run.specs.Check.{verdict as check_verdict, load_verdict}
 use Rattle.eo_run.specs.Judging.{AnswersJob, AnswersLoad}
+use Rattle.eo_run.specs.Pieces.{counts_due}
+use Rattle.eo_run.specs.Roots.{live_count}
+use Rattle.eo_run.specs.declared.BenchEnd.{BenchEnd}
+use Rattle.eo_run.specs.declared.BenchEnd.TheVariants as ends
 use Rattle.eo_run.specs.declared.Verdict.{Verdict}
 use Rattle.eo_run.specs.declared.Verdict.TheVariants as answer
 use Rattle.ethos.specs.Ends.{Ends, EndHasCause, EndsInFull}
-use Rattle.ethos.specs.Program.{due, EndsAs, Completes}
+use Rattle.ethos.specs.Program.{due, correct_bench, judged_bench, bench_due, needs_no_files, is_bench, EndsAs, Completes}
 use Rattle.ethos.specs.declared.words.Request.{Request}
-use Rattle.ethos.specs.declared.words.Request.TheVariants.{Check, Load}
+use Rattle.ethos.specs.declared.words.Request.TheVariants.{Check, Load, Bench}
 use Rattle.eo_run.specs.declared.CheckJob.{CheckJob}
 
 -- the status of a verdict is none of a fault of the outside
@@ -97,6 +103,118 @@ module _ (paths : List (List ℕ)) (a : Verdict) (s : Status) (w x : Option (Lis
   unfolding due
   load_ends None file h writes = tt
   load_ends (Some files) file h writes = answer_ends paths a (load_verdict files file) s w x h writes
+
+-- ---- a bench
+
+-- what is due for it, by its verdict
+bench_is : (n : ℕ) (v : verdict.Verdict) → check_verdict (bench_files n) bench_job ≡ v → bench_due n ≡ judged_bench n v
+unfolding bench_due
+bench_is n v e = ap (judged_bench n) e
+
+-- the line of a correct one
+counts_ends : (s : Status) (n commands terms : ℕ) (w x : Option (List ℕ)) → WritesDue s (counts_due n commands terms) w x → Ends s (counts_due n commands terms) w x
+unfolding counts_due
+counts_ends status.Ok n commands terms w x h = h
+counts_ends status.Incomplete n commands terms w x h = h
+counts_ends status.Refused n commands terms w x h = h
+counts_ends status.Usage n commands terms w x h = h
+counts_ends status.ReadFault n commands terms w x h = cc
+counts_ends status.OutOfMemory n commands terms w x h = cc
+counts_ends status.WriteFault n commands terms w x h = inl h
+
+module _ (n : ℕ) (paths : List (List ℕ)) (s : Status) (w x : Option (List ℕ)) where
+  ends_by : (v : verdict.Verdict) (d : Due) → check_verdict (bench_files n) bench_job ≡ v → judged_bench n v ≡ d → Ends s d w x → Ends s (bench_due n) w x
+  ends_by v d e is h = subst (λ (d : Due). Ends s d w x) (sym (bench_is n v e ∙ is)) h
+
+  other_ends : (v : Verdict) → Answers paths v (check_verdict (bench_files n) bench_job) → IsOtherEnd paths v → WritesDue s (answer_due paths v) w x → Ends s (bench_due n) w x
+  unfolding answer_due
+  other_ends answer.Correct a other h = absurd other
+  other_ends answer.Incomplete a other h = ends_by verdict.Incomplete (verdict_due verdict.Incomplete) a refl (verdict_ends s verdict.Incomplete w x h)
+  other_ends (answer.Loaded commands) a other h = absurd other
+  other_ends (answer.Refused fault) a other h = ends_by (verdict.Refused a.0) (verdict_due (verdict.Refused a.0)) a.1 refl (answer_ends paths (answer.Refused fault) (verdict.Refused a.0) s w x (a.0, refl, a.2) h)
+  other_ends answer.ReadFault a other h = absurd other
+  other_ends answer.OutOfMemory a other h = out_of_memory_ends s (bench_due n) w x h
+
+  -- the line of the answer to a bench
+  pub bench_ends : (e : BenchEnd) → AnswersBench (bench_files n) bench_job paths e → WritesDue s (end_due n paths e) w x → Ends s (bench_due n) w x
+  unfolding end_due counts_due
+  bench_ends (ends.Correct commands terms) a h =
+      ends_by verdict.Correct (counts_due n commands terms) a.correct (counts_is commands terms a.accepted a.alive) (counts_ends s n commands terms w x h)
+    where
+      counts_is : (c t : ℕ) → c ≡ a.last.state.commands → t ≡ live_count a.last.state → judged_bench n verdict.Correct ≡ counts_due n c t
+      counts_is c t ec et = ap (correct_bench n) a.runs ∙ (λ i. counts_due n (sym ec i) (sym et i))
+  bench_ends (ends.Other v) a h = other_ends v a.0 a.1 h
+
+-- and its status
+bench_status : (n : ℕ) (paths : List (List ℕ)) (e : BenchEnd) → AnswersBench (bench_files n) bench_job paths e → ((end_due n paths e).status ≢ status.ReadFault) × ((end_due n paths e).status ≢ status.Usage)
+unfolding end_due counts_due answer_due
+bench_status n paths (ends.Correct commands terms) a = (λ q. cc, λ q. cc)
+bench_status n paths (ends.Other answer.Correct) a = absurd a.1
+bench_status n paths (ends.Other answer.Incomplete) a = (λ q. cc, λ q. cc)
+bench_status n paths (ends.Other (answer.Loaded commands)) a = absurd a.1
+bench_status n paths (ends.Other (answer.Refused fault)) a = (λ q. cc, λ q. cc)
+bench_status n paths (ends.Other answer.ReadFault) a = absurd a.1
+bench_status n paths (ends.Other answer.OutOfMemory) a = (λ q. cc, λ q. cc)
+
+-- a status that is not due is not answered, but that of a fault of writing
+status_due : (s other : Status) (d : Due) (w x : Option (List ℕ)) → other ≢ status.WriteFault → d.status ≢ other → WritesDue s d w x → s ≢ other
+status_due status.Ok other d w x write differs h = λ q. differs (sym h.0 ∙ q)
+status_due status.Incomplete other d w x write differs h = λ q. differs (sym h.0 ∙ q)
+status_due status.Refused other d w x write differs h = λ q. differs (sym h.0 ∙ q)
+status_due status.Usage other d w x write differs h = λ q. differs (sym h.0 ∙ q)
+status_due status.ReadFault other d w x write differs h = λ q. differs (sym h.0 ∙ q)
+status_due status.OutOfMemory other d w x write differs h = λ q. differs (sym h.0 ∙ q)
+status_due status.WriteFault other d w x write differs h = λ q. write (sym q)
+
+module _ (n : ℕ) (paths : List (List ℕ)) (e : BenchEnd) (s : Status) (w x : Option (List ℕ)) (a : AnswersBench (bench_files n) bench_job paths e) (h : WritesDue s (end_due n paths e) w x) where
+  pub bench_reads : s ≢ status.ReadFault
+  bench_reads = status_due s status.ReadFault (end_due n paths e) w x (λ q. cc) (bench_status n paths e a).0 h
+
+  pub bench_no_usage : s ≢ status.Usage
+  bench_no_usage = status_due s status.Usage (end_due n paths e) w x (λ q. cc) (bench_status n paths e a).1 h
+
+-- a run that calls no library
+pub own_has_cause : (s : Status) (before now sink_before sink_now : ℕ) → s ≢ status.ReadFault → (s ≡ status.WriteFault → Rose sink_before sink_now) → EndHasCause s before now sink_before sink_now
+own_has_cause status.Ok before now sink_before sink_now reads written = tt
+own_has_cause status.Incomplete before now sink_before sink_now reads written = tt
+own_has_cause status.Refused before now sink_before sink_now reads written = tt
+own_has_cause status.Usage before now sink_before sink_now reads written = tt
+own_has_cause status.OutOfMemory before now sink_before sink_now reads written = tt
+own_has_cause status.WriteFault before now sink_before sink_now reads written = written refl
+own_has_cause status.ReadFault before now sink_before sink_now reads written = absurd (reads refl)
+
+-- what was written ends a bench, whatever the library tells
+pub bench_ends_as : (told : Option Files) (s : Status) (n : ℕ) (w x : Option (List ℕ)) → Ends s (bench_due n) w x → EndsAs told s (Some (Bench n)) w x
+unfolding due
+bench_ends_as None s n w x h = tt
+bench_ends_as (Some files) s n w x h = h
+
+-- ---- what needs no files
+
+pub own_ends : (s : Status) (w x : Option (List ℕ)) (reading other : Option Request) → reading ≡ other → Ends s (due [] reading) w x → Ends s (due [] other) w x
+own_ends s w x reading other e h = subst (λ (o : Option Request). Ends s (due [] o) w x) e h
+
+true_is_not_false : true ≡ false → ⊥
+true_is_not_false e = cc
+
+-- words that ask for this do not ask for what needs no files
+pub wants_files : (asked reading : Option Request) → asked ≡ reading → needs_no_files asked ≡ false → needs_no_files reading ≡ true → ⊥
+wants_files asked reading e wants own = true_is_not_false (sym own ∙ sym (ap needs_no_files e) ∙ wants)
+
+-- and words that ask for a bench ask for one
+pub asks_bench : (asked reading : Option Request) → asked ≡ reading → is_bench asked ≡ true → is_bench reading ≡ false → ⊥
+asks_bench asked reading e is other = true_is_not_false (sym is ∙ ap is_bench e ∙ other)
+
+pub own_usage : (s : Status) (w x : Option (List ℕ)) → WritesDue s usage_due w x → Ends s (due [] None) w x
+unfolding due
+own_usage s w x h = usage_ends s w x h
+
+pub own_bench : (s : Status) (n : ℕ) (w x : Option (List ℕ)) → Ends s (bench_due n) w x → Ends s (due [] (Some (Bench n))) w x
+unfolding due
+own_bench s n w x h = h
+
+pub own_memory : (s : Status) (w x : Option (List ℕ)) (reading : Option Request) → WritesDue s out_of_memory_due w x → Ends s (due [] reading) w x
+own_memory s w x reading h = out_of_memory_ends s (due [] reading) w x h
 
 -- an answer other than a fault of reading has no such status
 read_fault_is : {F : Type 0} (told : Option F) (paths : List (List ℕ)) (a : Verdict) (before now : ℕ) → status.ReadFault ≡ (answer_due paths a).status → AnswerHasCause a told before now → Rose before now

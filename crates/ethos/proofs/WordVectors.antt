@@ -5,7 +5,7 @@ use Rattle.clap.proofs.OnLiterals.{clap_on_literals}
 use Rattle.clap.specs.Words.{Text}
 use Rattle.ethos.specs.CommandLine.{request}
 use Rattle.ethos.specs.declared.words.Request.{Request}
-use Rattle.ethos.specs.declared.words.Request.TheVariants.{Check, Load}
+use Rattle.ethos.specs.declared.words.Request.TheVariants.{Check, Load, Bench}
 
 -- the words behind the program's name are read so
 abbrev Reads : List Text → Option Request → Type 0
@@ -94,6 +94,34 @@ load_of_two : Reads (codes "load" ∷ codes "a.eo" ∷ codes "b.eo" ∷ []) None
 unfolding clap_on_literals request
 load_of_two = refl
 
-bench : Reads (codes "bench" ∷ codes "1" ∷ []) None
+bench : Reads (codes "bench" ∷ codes "1" ∷ []) (Some (Bench 1))
 unfolding clap_on_literals request
 bench = refl
+
+largest_bench : Reads (codes "bench" ∷ codes "100000" ∷ []) (Some (Bench 100000))
+unfolding clap_on_literals request
+largest_bench = refl
+
+bench_too_large : Reads (codes "bench" ∷ codes "100001" ∷ []) None
+unfolding clap_on_literals request
+bench_too_large = refl
+
+bench_of_none : Reads (codes "bench" ∷ codes "0" ∷ []) None
+unfolding clap_on_literals request
+bench_of_none = refl
+
+bench_with_a_leading_zero : Reads (codes "bench" ∷ codes "01" ∷ []) None
+unfolding clap_on_literals request
+bench_with_a_leading_zero = refl
+
+bench_with_a_sign : Reads (codes "bench" ∷ codes "+1" ∷ []) None
+unfolding clap_on_literals request
+bench_with_a_sign = refl
+
+bench_alone : Reads (codes "bench" ∷ []) None
+unfolding clap_on_literals request
+bench_alone = refl
+
+bench_of_two : Reads (codes "bench" ∷ codes "1" ∷ codes "2" ∷ []) None
+unfolding clap_on_literals request
+bench_of_two = refl

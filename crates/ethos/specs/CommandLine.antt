@@ -1,11 +1,12 @@
 -- The words of the command line, read as `clap` reads them.
-use Rattle.std.specs.Prelude.{List, [], ◌∷◌, fold, Option, Some, None, Bool, true, false, codes, bytes_eq, option_map, option_and_then, if◌then◌else◌}
+use Rattle.std.specs.Prelude.{ℕ, nat_le, ◌&&◌, List, [], ◌∷◌, fold, Option, Some, None, Bool, true, false, codes, bytes_eq, option_map, option_and_then, if◌then◌else◌}
 use Rattle.std.specs.Option.{option_map_or}
 use Rattle.clap.specs.declared.builder.action.ArgAction.TheVariants.{Set, SetTrue}
 use Rattle.clap.specs.Words.{App, Row, Rule, Text, first_of, new_app, new_rule, subcommand_of, takes, with_rule, with_subcommand}
+use Rattle.eo_lit.specs.Literals.{numeral}
 use Rattle.eo_run.specs.declared.CheckJob.{CheckJob}
 use Rattle.ethos.specs.declared.words.Request.{Request}
-use Rattle.ethos.specs.declared.words.Request.TheVariants.{Check, Load}
+use Rattle.ethos.specs.declared.words.Request.TheVariants.{Check, Load, Bench}
 
 -- ---- the commands
 
@@ -35,12 +36,17 @@ check_command =
 abbrev pub load_command : App
 load_command = command (codes "load") (positional (codes "FILE") ∷ [])
 
+-- `bench N`
+abbrev pub bench_command : App
+bench_command = command (codes "bench") (positional (codes "N") ∷ [])
+
 abbrev pub requires_subcommand : App → App
 requires_subcommand a = record a { top = record a.top { subcommand_required = true } }
 
--- `ethos`, with one of the two
+-- `ethos`, with one of the three
 abbrev pub program : App
-program = with_subcommand (with_subcommand (requires_subcommand (new_app (codes "ethos"))) check_command.top) load_command.top
+program =
+    with_subcommand (with_subcommand (with_subcommand (requires_subcommand (new_app (codes "ethos"))) check_command.top) load_command.top) bench_command.top
 
 -- ---- what the words ask for
 
@@ -62,13 +68,25 @@ check_of rows = option_map (λ proof. Check (job_of rows proof)) (first_of (code
 abbrev pub load_of : List Row → Option Request
 load_of rows = option_map Load (first_of (codes "FILE") rows)
 
+-- the most hops of a bench
+abbrev pub bench_limit : ℕ
+bench_limit = 100000
+
+-- a number from 1 to the limit, in digits without sign and without a leading zero
+abbrev pub size_of : Text → Option ℕ
+size_of word = option_and_then (λ n. if nat_le 1 n && nat_le n bench_limit then Some n else None) (numeral word)
+
+abbrev pub bench_of : List Row → Option Request
+bench_of rows = option_and_then (λ word. option_map Bench (size_of word)) (first_of (codes "N") rows)
+
 -- by the name of the command that stands among the words, and what was found for it
 abbrev pub request_of : Text × List Row → Option Request
 request_of found =
     if bytes_eq found.0 (codes "check") then check_of found.1
     else if bytes_eq found.0 (codes "load") then load_of found.1
+    else if bytes_eq found.0 (codes "bench") then bench_of found.1
     else None
 
--- The reading of the words, the first of which is the program's name: none where `clap` does not take them.
+-- The reading of the words, the first of which is the program's name: none where `clap` does not take them, or a bench has no size.
 unfoldable pub request : List Text → Option Request
 request words = if takes program words then option_and_then request_of (subcommand_of program words) else None

@@ -1,22 +1,53 @@
 -- What is due for the words, and what a run proves.
-use Rattle.std.specs.Prelude.{◌≡◌, ℕ, List, Option, Some, None, IfSome}
+use Rattle.std.specs.Prelude.{◌≡◌, ℕ, Bool, true, false, List, Option, Some, None, Ok, Err, IfSome}
 use Rattle.eo_base.specs.Causes.{Rose}
 use Rattle.eo_base.specs.declared.Status.{Status}
 use Rattle.eo_base.specs.declared.Status.TheVariants as status
 use Rattle.eo_io.specs.Library.{Files}
+use Rattle.eo_run.specs.Bench.{bench_files, bench_job}
 use Rattle.eo_run.specs.Check.{verdict, load_verdict}
-use Rattle.eo_run.specs.Printed.{Due, verdict_due, usage_due}
+use Rattle.eo_run.specs.Printed.{Due, verdict_due, usage_due, bench_text}
 use Rattle.eo_run.specs.Refutation.{Refutes, ClosedKeepsRules}
+use Rattle.eo_run.specs.Roots.{live_count}
+use Rattle.eo_run.specs.Run.{Ran, run_check}
+use Rattle.eo_run.specs.Verdict.{Verdict, Correct, Refused}
 use Rattle.eo_run.specs.declared.CheckJob.{CheckJob}
 use Rattle.ethos.specs.Ends.{Ends, EndsInFull}
 use Rattle.ethos.specs.declared.words.Request.{Request}
-use Rattle.ethos.specs.declared.words.Request.TheVariants.{Check, Load}
+use Rattle.ethos.specs.declared.words.Request.TheVariants.{Check, Load, Bench}
+
+-- A correct bench tells how many commands were accepted, and how many different trees are alive at the end of its run.
+abbrev pub correct_bench : ℕ → Ran → Due
+correct_bench n (Ok p) = record { status = status.Ok; text = bench_text n p.state.commands (live_count p.state) }
+correct_bench n (Err refusal) = verdict_due (Refused refusal)
+
+abbrev pub judged_bench : ℕ → Verdict → Due
+judged_bench n Correct = correct_bench n (run_check (bench_files n) bench_job)
+judged_bench n v = verdict_due v
+
+unfoldable pub bench_due : ℕ → Due
+bench_due n = judged_bench n (verdict (bench_files n) bench_job)
 
 -- What is due for a reading of the words.
 unfoldable pub due : Files → Option Request → Due
 due files None = usage_due
 due files (Some (Check job)) = verdict_due (verdict files job)
 due files (Some (Load file)) = verdict_due (load_verdict files file)
+due files (Some (Bench n)) = bench_due n
+
+-- what is due does not depend on the library's files
+abbrev pub needs_no_files : Option Request → Bool
+needs_no_files None = true
+needs_no_files (Some (Check job)) = false
+needs_no_files (Some (Load file)) = false
+needs_no_files (Some (Bench n)) = true
+
+-- the words ask for a bench, whose files are not the library's
+abbrev pub is_bench : Option Request → Bool
+is_bench None = false
+is_bench (Some (Check job)) = false
+is_bench (Some (Load file)) = false
+is_bench (Some (Bench n)) = true
 
 -- The run ends as is due for the reading of its words, where files are told.
 abbrev pub EndsAs : Option Files → Status → Option Request → (before after : Option (List ℕ)) → Type 0

@@ -1,22 +1,22 @@
 //! A run of the program.
-ghost use Rattle.std.specs.Prelude.{◌≡◌, ◌≢◌, ℕ, List, Option, [], None, Some};
+ghost use Rattle.std.specs.Prelude.{◌≡◌, ◌≢◌, ℕ, List, Option, [], Some, true, false};
 ghost use Rattle.eo_base.specs.Causes.{Rose};
 ghost use Rattle.eo_base.specs.declared.Status.{Status as status};
 ghost use Rattle.eo_io.specs.Library.{Files};
-ghost use Rattle.eo_run.specs.Printed.{usage_due};
 ghost use Rattle.ethos.specs.CommandLine.{request};
 ghost use Rattle.ethos.specs.Ends.{Ends, EndHasCause, UsageFits, AbsentHasCause};
-ghost use Rattle.ethos.specs.Program.{EndsAs, OkRefutes, ClosedKeeps, Completes};
+ghost use Rattle.ethos.specs.Program.{due, bench_due, needs_no_files, is_bench, EndsAs, OkRefutes, ClosedKeeps, Completes};
 ghost use Rattle.ethos.specs.declared.words.Request.{Request as reading};
 
 use crate::words::{Request, read_words};
 use eo_base::{Status, Text};
 use eo_io::{HonestLibrary, Library, Paths, Sink};
-use eo_run::{CheckJob, check_files, load_files, print_line, print_verdict, soundness_law};
+use eo_run::{
+    CheckJob, bench, check_files, load_files, print_bench, print_line, print_verdict, soundness_law,
+};
 use std::alloc::{AllocError, Global};
 
-/// The line for words that have no reading. It names a command that is not built yet and has no
-/// reading so far, `bench`.
+/// The line for words that have no reading.
 const USAGE: &[u8] =
     b"usage: ethos check [--include=F] [--reference=F] [--closed] PROOF | ethos load FILE | ethos bench N\n";
 
@@ -27,7 +27,9 @@ const OUT_OF_MEMORY: &[u8] = b"out of memory\n";
 /// is ignored, over a library of files and a sink for what it writes.
 ///
 /// The words are read as `read_words` says: `check [--include=F] [--reference=F] [--closed] PROOF`
-/// checks a proof, `load FILE` runs a signature file. Then the line of the verdict is written.
+/// checks a proof, `load FILE` runs a signature file, and `bench N` checks a proof of N hops that is
+/// made in memory. Then the line of the verdict is written, and for a correct bench as
+/// `bench 10: correct, 33 commands, 99 terms`.
 ///
 /// - `Ok`, `Incomplete`, `Refused`: exactly as the verdict of the files. With `Ok` of a check, where
 ///   `correct` is written, `false` is derivable from what the reference file asserts, by rules that
@@ -48,15 +50,18 @@ pub fn ethos_main<L: Library, W: Sink>(
     ensures exact { EndsAs (L.told files.old) result (request words.now) (W.written out.old) (W.written out.new) }
     ensures refutes { OkRefutes (L.told files.old) result (request words.now) }
     ensures closed { ClosedKeeps (L.told files.old) (request words.now) }
-    ensures own { request words.now ≡ None → Ends result usage_due (W.written out.old) (W.written out.new) }
+    ensures own { needs_no_files (request words.now) ≡ true → Ends result (due [] (request words.now))
+        (W.written out.old) (W.written out.new) }
     ensures cause { EndHasCause result (L.faults files.old) (L.faults files.new) (W.faults out.old) (W.faults out.new) }
     ensures usage { UsageFits result (request words.now) }
-    ensures absent { AbsentHasCause (L.told files.old) (W.written out.old) (W.written out.new) (L.faults files.old) (L.faults files.new) }
+    ensures absent { is_bench (request words.now) ≡ false →
+        AbsentHasCause (L.told files.old) (W.written out.old) (W.written out.new) (L.faults files.old) (L.faults files.new) }
 {
     soundness_law();
     match read_words(alloc, words) {
         Ok(Some(Request::Check(job))) => check(alloc, &job, files, out),
         Ok(Some(Request::Load(file))) => load(alloc, &file, files, out),
+        Ok(Some(Request::Bench(n))) => run_bench(alloc, n, out),
         Ok(None) => print_line(out, Status::Usage, &[USAGE]),
         Err(AllocError) => print_line(out, Status::OutOfMemory, &[OUT_OF_MEMORY]),
     }
@@ -121,6 +126,23 @@ fn load<L: Library, W: Sink>(alloc: Global, file: &Text, files: &mut L, out: &mu
         Ok(mut paths) => {
             let verdict = load_files(alloc, file, files, &mut paths);
             print_verdict(out, &verdict, &paths)
+        }
+        Err(_) => print_line(out, Status::OutOfMemory, &[OUT_OF_MEMORY]),
+    }
+}
+
+/// Runs the bench with so many hops, and prints its line, or that there is no memory for the table
+/// of paths.
+fn run_bench<W: Sink>(alloc: Global, n: u32, out: &mut W) -> Status
+    ensures exact { Ends result (bench_due n) (W.written out.old) (W.written out.new) }
+    ensures no_read_fault { result ≢ Status.ReadFault }
+    ensures cause { result ≡ Status.WriteFault → Rose (W.faults out.old) (W.faults out.new) }
+    ensures usage { result ≢ Status.Usage }
+{
+    match Paths::new(alloc) {
+        Ok(mut paths) => {
+            let end = bench(alloc, n, &mut paths);
+            print_bench(out, n, &end, &paths)
         }
         Err(_) => print_line(out, Status::OutOfMemory, &[OUT_OF_MEMORY]),
     }

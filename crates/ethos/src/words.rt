@@ -7,8 +7,12 @@ ghost use Rattle.ethos.specs.Words.{rows_in};
 use clap::error::ErrorKind;
 use clap::{Arg, ArgAction, ArgMatches, Command};
 use eo_base::Text;
+use eo_lit::read_numeral;
 use eo_run::CheckJob;
 use std::alloc::{AllocError, Global};
+
+/// The most hops of a bench.
+const BENCH_LIMIT: u128 = 100_000;
 
 /// What the words ask for.
 #[derive(Debug, Drop)]
@@ -17,15 +21,18 @@ pub enum Request {
     Check(CheckJob),
     /// The signature file with this path is to be run.
     Load(Text),
+    /// The bench with so many hops is to be run.
+    Bench(u32),
 }
 
 /// Reads the words behind the first, which is the program's name and may be any:
 ///
 /// - `check [--include=F] [--reference=F] [--closed] PROOF`
 /// - `load FILE`
+/// - `bench N`, with N from 1 to 100,000 in digits without sign and without a leading zero
 ///
 /// A value F may also be the next word. Options and PROOF come in any order, and each option at most
-/// once. Behind `--` each word is PROOF or FILE. All other words have no reading, a request for help
+/// once. Behind `--` each word is PROOF, FILE or N. All other words have no reading, a request for help
 /// among them. `Err` is want of memory.
 pub fn read_words(alloc: Global, words: &[Text]) -> Result<Option<Request>, AllocError>
     ensures { IfOk result (λ reading. reading ≡ line.request words.now) }
@@ -53,7 +60,7 @@ fn texts_of<'a>(alloc: Global, words: &'a [Text]) -> Result<Vec<&'a str>, AllocE
 
 // ---- the command
 
-/// The command `ethos`, with one of its two.
+/// The command `ethos`, with one of its three.
 fn program<'a>(alloc: Global) -> Result<Command<'a>, AllocError>
     ensures { IfOk result (λ command. app_of command ≡ line.program) }
 {
@@ -63,10 +70,12 @@ fn program<'a>(alloc: Global) -> Result<Command<'a>, AllocError>
         .arg(flag(alloc, "closed"))?
         .arg(positional(alloc, "PROOF"))?;
     let load = Command::new(alloc, "load").arg(positional(alloc, "FILE"))?;
+    let bench = Command::new(alloc, "bench").arg(positional(alloc, "N"))?;
     Command::new(alloc, "ethos")
         .subcommand_required(true)
         .subcommand(check)?
-        .subcommand(load)
+        .subcommand(load)?
+        .subcommand(bench)
 }
 
 /// `--name=VALUE` or `--name VALUE`
@@ -102,6 +111,7 @@ fn request_of(alloc: Global, matches: &ArgMatches<'_>) -> Result<Option<Request>
     match matches.subcommand() {
         Some(("check", found)) => check_of(alloc, found),
         Some(("load", found)) => load_of(alloc, found),
+        Some(("bench", found)) => Ok(bench_of(found)),
         _ => Ok(None),
     }
 }
@@ -122,6 +132,24 @@ fn load_of(alloc: Global, found: &ArgMatches<'_>) -> Result<Option<Request>, All
         Some(file) => Ok(Some(Request::Load(Text::new(alloc, file)?))),
         None => Ok(None),
     }
+}
+
+fn bench_of(found: &ArgMatches<'_>) -> Option<Request>
+    ensures { result ≡ line.bench_of (rows_in found.now) }
+{
+    let word = value_of(found, "N")?;
+    Some(Request::Bench(size_of(word.as_bytes())?))
+}
+
+/// The size of a bench, where it has these digits.
+fn size_of(digits: &[u8]) -> Option<u32>
+    ensures { result ≡ line.size_of digits.now }
+{
+    let n = read_numeral(digits)?;
+    if n < 1 || n > BENCH_LIMIT {
+        return None;
+    }
+    Some(n as u32)
 }
 
 /// The job of checking this proof.

@@ -100,14 +100,41 @@ fn words_that_are_read(rt: HostRuntime) {
     for (line, answer) in rows {
         assert!(&rt; gives(rt.alloc(), line, answer, Status::Refused));
     }
-    assert!(&rt;
-        gives(
-            rt.alloc(),
-            "ethos load c.eo",
-            b"loaded 1 commands\n",
-            Status::Ok
-        )
-    );
+    let accepted: [(&str, &[u8]); 5] = [
+        ("ethos load c.eo", b"loaded 1 commands\n"),
+        (
+            "ethos bench 1",
+            b"bench 1: correct, 15 commands, 36 terms\n",
+        ),
+        (
+            "ethos bench 2",
+            b"bench 2: correct, 17 commands, 43 terms\n",
+        ),
+        (
+            "ethos bench 10",
+            b"bench 10: correct, 33 commands, 99 terms\n",
+        ),
+        (
+            "ethos bench -- 10",
+            b"bench 10: correct, 33 commands, 99 terms\n",
+        ),
+    ];
+    for (line, answer) in accepted {
+        assert!(&rt; gives(rt.alloc(), line, answer, Status::Ok));
+    }
+}
+
+#[test]
+fn a_bench_gives_the_same_line_each_time(rt: HostRuntime) {
+    for _ in 0..2 {
+        match run(rt.alloc(), "ethos bench 100", 1) {
+            Ok((status, out)) => {
+                let line = b"bench 100: correct, 213 commands, 729 terms\n".as_slice();
+                assert!(&rt; status == Status::Ok && out.bytes() == line);
+            }
+            Err(AllocError) => assert!(&rt; false),
+        }
+    }
 }
 
 #[test]
@@ -143,7 +170,23 @@ fn words_that_are_not_read(rt: HostRuntime) {
         "ethos check -h p.eo",
         "ethos load --help c.eo",
         "ethos --version",
-        "ethos bench 1",
+        "ethos bench",
+        "ethos bench ",
+        "ethos bench 0",
+        "ethos bench 00",
+        "ethos bench 01",
+        "ethos bench +1",
+        "ethos bench -1",
+        "ethos bench -- -1",
+        "ethos bench 1.0",
+        "ethos bench 1 2",
+        "ethos bench 100001",
+        "ethos bench 4294967297",
+        "ethos bench 340282366920938463463374607431768211457",
+        "ethos bench #x1",
+        "ethos bench N",
+        "ethos bench --closed 1",
+        "ethos bench --help",
     ];
     for line in lines {
         assert!(&rt; gives(rt.alloc(), line, USAGE, Status::Usage));

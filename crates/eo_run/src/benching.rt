@@ -1,0 +1,148 @@
+//! A check of a proof that is made in memory, which tells how fast the program is.
+ghost use Rattle.std.specs.Prelude.{◌≡◌, ◌++◌, [], false, IfOk, OnOk, string_bytes};
+ghost use Rattle.eo_run.specs.Bench.{bench_files, bench_job, bench_reference, bench_proof};
+ghost use Rattle.eo_run.specs.Bench.{hop, hop_clause, hop_fact, bench_end};
+ghost use Rattle.eo_run.specs.Benching.{AnswersBench, counted};
+
+use crate::checking::{check_job, first_run};
+use crate::{BenchEnd, CheckJob, Session, Verdict};
+use eo_base::Text;
+use eo_io::{HonestLibrary, Paths};
+use std::alloc::{AllocError, Global};
+use std::fmt::Write;
+
+/// The include file: `at` holds of the number behind each number of which it holds.
+const SIGNATURE: &[u8] = b"(declare-const Int Type)\n\
+(declare-consts <numeral> Int)\n\
+(declare-const not (-> Bool Bool))\n\
+(declare-const or (-> Bool Bool Bool) :right-assoc-nil false)\n\
+(declare-const at (-> Int Bool))\n\
+(declare-rule hop ((n Int)) :args (n) :conclusion (or (not (at n)) (at (eo::add n 1))))\n\
+(declare-rule unit ((a Bool) (b Bool)) :premises (a (or (not a) b)) :conclusion b)\n\
+(declare-rule contra ((a Bool)) :premises (a (not a)) :conclusion false)\n";
+
+/// Checks a proof that hops from 0 to n, each hop by two steps, against a reference file that
+/// asserts `(at 0)` and `(not (at n))`. The files are in memory, in a library of its own: no other
+/// is read, and no read fails.
+///
+/// - `Correct`: the check is correct, with how many commands were accepted, and how many terms are
+///   alive at its end ([`Session::live`]).
+/// - `Other`: its verdict is `Incomplete` or `Refused`, or there was no memory left, which is
+///   `OutOfMemory`. The file of a refusal is one of the paths.
+pub fn bench(alloc: Global, n: u32, paths: &mut Paths) -> BenchEnd
+    ensures { AnswersBench (bench_files n) bench_job paths.new result }
+{
+    let Ok(job) = job_of(alloc) else {
+        return BenchEnd::Other(Verdict::OutOfMemory);
+    };
+    let Ok(mut files) = files_of(alloc, n) else {
+        return BenchEnd::Other(Verdict::OutOfMemory);
+    };
+    count_run(alloc, &job, &mut files, paths)
+}
+
+/// Checks a job over files in memory, of which none is open, and counts what is there at its end.
+fn count_run(
+    alloc: Global,
+    job: &CheckJob,
+    files: &mut HonestLibrary,
+    paths: &mut Paths,
+) -> BenchEnd
+    requires { files.old.unread ≡ [] }
+    ensures { AnswersBench files.old.told job.now paths.new result }
+{
+    let Ok(mut run) = first_run(alloc, job) else {
+        return BenchEnd::Other(Verdict::OutOfMemory);
+    };
+    let verdict = check_job(alloc, job, files, &mut run, paths);
+    counts(verdict, &run.session)
+}
+
+/// What is answered for a verdict and the session behind it, which goes on where it is correct.
+fn counts(verdict: Verdict, session: &Session) -> BenchEnd
+    requires { verdict ≡ Verdict.Correct → session.now.ended ≡ false }
+    ensures { result ≡ counted verdict session.now.state }
+{
+    match verdict {
+        Verdict::Correct => BenchEnd::Correct {
+            commands: session.commands(),
+            terms: session.live(),
+        },
+        _ => BenchEnd::Other(verdict),
+    }
+}
+
+// ---- the job and its files
+
+fn job_of(alloc: Global) -> Result<CheckJob, AllocError>
+    ensures { IfOk result (λ job. job ≡ bench_job) }
+{
+    Ok(CheckJob {
+        include: Some(Text::new(alloc, "bench.eo")?),
+        reference: Some(Text::new(alloc, "bench.smt2")?),
+        proof: Text::new(alloc, "bench.proof")?,
+        closed: false,
+    })
+}
+
+fn files_of(alloc: Global, n: u32) -> Result<HonestLibrary, AllocError>
+    ensures told { IfOk result (λ files. files.told ≡ bench_files n) }
+    ensures none_open { IfOk result (λ files. files.unread ≡ []) }
+{
+    let reference = reference_of(alloc, n)?;
+    let proof = proof_of(alloc, n)?;
+    let mut files = HonestLibrary::new(alloc)?;
+    files.add(b"bench.eo", SIGNATURE)?;
+    files.add(b"bench.smt2", reference.as_bytes())?;
+    files.add(b"bench.proof", proof.as_bytes())?;
+    Ok(files)
+}
+
+fn reference_of(alloc: Global, n: u32) -> Result<String, AllocError>
+    ensures { IfOk result (λ text. string_bytes text ≡ bench_reference n) }
+{
+    let mut text = String::from_str(alloc, "(assert (at 0))\n")?;
+    writeln!(text, "(assert (not (at {n})))")?;
+    Ok(text)
+}
+
+fn proof_of(alloc: Global, n: u32) -> Result<String, AllocError>
+    ensures { IfOk result (λ text. string_bytes text ≡ bench_proof n) }
+{
+    let mut text = String::from_str(alloc, "(assume @a0 (at 0))\n")?;
+    for k in 0..n {
+        add_hop(&mut text, k)?;
+    }
+    add_end(&mut text, n)?;
+    Ok(text)
+}
+
+/// Adds the hop from k to the next number.
+fn add_hop(text: &mut String, k: u32) -> Result<(), AllocError>
+    ensures { OnOk result (string_bytes text.new ≡ string_bytes text.old ++ hop k) }
+{
+    add_clause(text, k)?;
+    add_fact(text, k, u64::from(k) + 1)
+}
+
+/// Adds the step that concludes the clause of a hop.
+fn add_clause(text: &mut String, k: u32) -> Result<(), AllocError>
+    ensures { OnOk result (string_bytes text.new ≡ string_bytes text.old ++ hop_clause k) }
+{
+    writeln!(text, "(step @h{k} :rule hop :args ({k}))")
+}
+
+/// Adds the step that concludes the fact behind a hop.
+fn add_fact(text: &mut String, k: u32, next: u64) -> Result<(), AllocError>
+    ensures { OnOk result (string_bytes text.new ≡ string_bytes text.old ++ hop_fact k next) }
+{
+    writeln!(text, "(step @a{next} :rule unit :premises (@a{k} @h{k}))")
+}
+
+/// Adds what refutes the fact at n.
+fn add_end(text: &mut String, n: u32) -> Result<(), AllocError>
+    ensures { OnOk result (string_bytes text.new ≡ string_bytes text.old ++ bench_end n) }
+{
+    writeln!(text, "(assume @n (not (at {n})))")?;
+    writeln!(text, "(step @f false :rule contra :premises (@a{n} @n))")
+}
