@@ -3,7 +3,7 @@ use Rattle.std.specs.Prelude.{◌≡◌, refl, ℕ, Ok, Err}
 use Rattle.eo_run.proofs.Computed.{computed}
 use Rattle.eo_run.specs.Bench.{bench_files, bench_job}
 use Rattle.eo_run.specs.Check.{verdict}
-use Rattle.eo_run.specs.Roots.{live_count, roots}
+use Rattle.eo_session.specs.Roots.{live_count, roots}
 use Rattle.eo_run.specs.Run.{Ran, run_check}
 use Rattle.eo_run.specs.Verdict.{Correct}
 

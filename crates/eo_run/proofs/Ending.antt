@@ -13,11 +13,11 @@ use Rattle.eo_sexp.specs.Texts.{Phase, Then, Ends, Placed}
 use Rattle.eo_sexp.specs.Collecting.{Collecting, Within, AtCommand, Failed as FailedAt, NoMemory, IsLive, IsWithin, here_of, fed_with, finished_with, fed_answer, finish_answer}
 use Rattle.eo_sexp.specs.Cutting.{IsWaiting, rest_of, ReadsInPieces}
 use Rattle.eo_sexp.specs.Answering.{IsAnswer, IsLexical, AnswersAlone}
-use Rattle.eo_run.specs.State.{State}
+use Rattle.eo_session.specs.State.{State}
 use Rattle.eo_run.specs.Reading.{count_of, behind, at_end as ending, LeadsOn, FailsAt, IsFed}
 use Rattle.eo_run.proofs.Running.{on-same, on-fault}
 use Rattle.eo_run.proofs.Feeding.{IsCommand, at_more, at_command, at_fault, at_end, at_end_command, at_end_fault, here-used}
-use Rattle.eo_run.specs.Origin.{Origin}
+use Rattle.eo_session.specs.Origin.{Origin}
 
 pub live-within : (c : Collecting) → IsWithin c → IsLive c
 live-within (Within phase comment start begun) w = tt

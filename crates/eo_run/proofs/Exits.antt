@@ -8,14 +8,14 @@ use Rattle.eo_sexp.specs.Spot.{Spot}
 use Rattle.eo_sexp.specs.Texts.{Then, Placed}
 use Rattle.eo_sexp.specs.Collecting.{Collecting, IsLive, here_of}
 use Rattle.eo_sexp.specs.Cutting.{IsWaiting}
-use Rattle.eo_run.specs.State.{State}
-use Rattle.eo_run.specs.Commands.{step}
+use Rattle.eo_session.specs.State.{State}
+use Rattle.eo_session.specs.Commands.{step}
 use Rattle.eo_run.specs.Reading.{Continuation, count_of, behind, at_end, LeadsOn, AsksFor, FailsAt, ChecksCommand, ChecksPiece, ChecksEnd, IsAsked, IsAskedAtEnd}
 use Rattle.eo_run.specs.declared.reading.Asked.{Asked}
 use Rattle.eo_run.specs.declared.reading.Stop.{Stop}
 use Rattle.eo_run.specs.declared.reading.Stop.TheVariants as stop
 use Rattle.eo_run.proofs.Running.{on-fails, on-asks, command-fails, command-asks}
-use Rattle.eo_run.specs.Origin.{Origin}
+use Rattle.eo_session.specs.Origin.{Origin}
 
 -- what a `?` returns is the error
 pub at_exit : {A E : Type 0} (P : Result A E → Type 0) (r : Result A E) (x : E) → IsErrAnd r (λ e. e ≡ x) → P (Err x) → P r

@@ -11,15 +11,15 @@ use Rattle.eo_io.specs.Library.{Files, file_at}
 use Rattle.eo_io.specs.Paths.{fold_path}
 use Rattle.eo_sexp.specs.Texts.{first_spot, spot_after}
 use Rattle.eo_proof.specs.Scopes.{has_false}
-use Rattle.eo_run.specs.State.{State, begin_reference, end_fault, is_in_scope}
+use Rattle.eo_session.specs.State.{State, begin_reference, end_fault, is_in_scope}
 use Rattle.eo_run.specs.Run.{Progress, Ran, ◌>>=◌, placed, or_fault, refusal_at, shown, commands_of, run_commands, run_reference, run_file, job_file, first_progress, first_load, if_given, run_signature, run_proof, run_job_reference, before_proof, run_check, run_load}
 use Rattle.eo_run.specs.Check.{verdict, checked, ended, file_end, loaded, load_verdict}
 use Rattle.eo_run.specs.Verdict.{Refusal, Refused}
 use Rattle.eo_run.specs.Answer.{Answers, AnswerHasCause}
 use Rattle.eo_run.specs.Opening.{opener_of, Told, StopsAs}
 use Rattle.eo_run.specs.Judging.{run_named, EndsRun}
-use Rattle.eo_run.specs.Origin.{Origin}
-use Rattle.eo_run.specs.Origin as origin
+use Rattle.eo_session.specs.Origin.{Origin}
+use Rattle.eo_session.specs.Origin as origin
 use Rattle.eo_run.specs.declared.CheckJob.{CheckJob}
 use Rattle.eo_run.specs.declared.Verdict.{Verdict}
 use Rattle.eo_run.specs.declared.Verdict.TheVariants as answer

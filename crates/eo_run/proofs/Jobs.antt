@@ -9,7 +9,7 @@ use Rattle.eo_io.specs.Library.{Files, file_at}
 use Rattle.eo_io.specs.Paths.{fold_path}
 use Rattle.eo_sexp.specs.Spot.{Spot}
 use Rattle.eo_sexp.specs.Texts.{first_spot}
-use Rattle.eo_run.specs.State.{State, begin_reference, end_fault}
+use Rattle.eo_session.specs.State.{State, begin_reference, end_fault}
 use Rattle.eo_run.specs.Run.{Progress, Ran, refusal_at, shown, commands_of, run_commands, if_given, first_progress, first_load, run_signature, run_job_reference, run_proof, before_proof, run_check}
 use Rattle.eo_run.specs.Check.{file_end}
 use Rattle.eo_run.specs.Verdict.{Refusal}
@@ -17,9 +17,9 @@ use Rattle.eo_run.specs.Answer.{Answers, AnswerHasCause, Denotes}
 use Rattle.eo_run.specs.Benching.{LeavesLast}
 use Rattle.eo_run.specs.Opening.{opener_of, run_source, Told, IsStop, RefusesFile, RunsFile}
 use Rattle.eo_run.specs.Judging.{run_named, run_of, EndsRun, RunsNamed, RunsPart, StandsFor, BeginsNamed, AnswersJob, AnswersProof, AnswersLoad}
-use Rattle.eo_run.specs.Numbered.{origin_of}
-use Rattle.eo_run.specs.Origin.{Origin}
-use Rattle.eo_run.specs.Origin as origin
+use Rattle.eo_session.specs.Numbered.{origin_of}
+use Rattle.eo_session.specs.Origin.{Origin}
+use Rattle.eo_session.specs.Origin as origin
 use Rattle.eo_run.specs.declared.CheckJob.{CheckJob}
 use Rattle.eo_run.specs.declared.Verdict.{Verdict}
 use Rattle.eo_run.specs.declared.Verdict.TheVariants as answer

@@ -4,14 +4,14 @@ use Rattle.std.proofs.Common.{sym, ◌∙◌, subst, true≢false}
 use Rattle.std.proofs.lemmas.Option.{none-some, same_Some}
 use Rattle.eo_base.proofs.ChecksLemmas.{ok_injective, err_is_not_ok, bind_ok, value_or_ok}
 use Rattle.eo_base.specs.declared.FaultName.TheVariants.{BadCommand, UnknownCommand}
-use Rattle.eo_run.specs.Origin.{Origin}
-use Rattle.eo_run.specs.Origin as origin
+use Rattle.eo_session.specs.Origin.{Origin}
+use Rattle.eo_session.specs.Origin as origin
 use Rattle.eo_run.specs.Run.{is_exit}
-use Rattle.eo_run.specs.State.{State, with_command}
-use Rattle.eo_run.specs.Step.{is_in_reference}
-use Rattle.eo_run.specs.Commands.{path_of, reference_path, next_by, scoped_command, placed_command, uncounted, step}
-use Rattle.eo_run.specs.declared.Next.{Next}
-use Rattle.eo_run.specs.declared.Next.TheVariants as next
+use Rattle.eo_session.specs.State.{State, with_command}
+use Rattle.eo_session.specs.Step.{is_in_reference}
+use Rattle.eo_session.specs.Commands.{path_of, reference_path, next_by, scoped_command, placed_command, uncounted, step}
+use Rattle.eo_session.specs.declared.Next.{Next}
+use Rattle.eo_session.specs.declared.Next.TheVariants as next
 use Rattle.eo_sexp.specs.AtomKind as kind
 use Rattle.eo_sexp.specs.Sexp as sexp
 use Rattle.eo_sexp.specs.Sexp.{Sexp, Atom, Listed, children_of}

@@ -9,13 +9,13 @@ use Rattle.eo_io.specs.Library.{Files, Rest, file_at, Opens, OpenHasCause}
 use Rattle.eo_io.specs.Paths.{Extends}
 use Rattle.eo_io.specs.declared.Opened.TheVariants as opened
 use Rattle.eo_sexp.specs.Spot.{Spot}
-use Rattle.eo_run.specs.State.{State, begin_reference}
+use Rattle.eo_session.specs.State.{State, begin_reference}
 use Rattle.eo_run.specs.Run.{Progress, refusal_at, commands_of, open_file}
-use Rattle.eo_run.specs.Numbered.{origin_of, number_of}
+use Rattle.eo_session.specs.Numbered.{origin_of, number_of}
 use Rattle.eo_run.specs.Answer.{Denotes}
 use Rattle.eo_run.specs.Opening as opening
 use Rattle.eo_run.specs.Opening.{opener_of, run_source, IsNumbered, Told, StaysOpen, Passes, RunsOpen, RefusesFile, RunsFile, place_in}
-use Rattle.eo_run.specs.declared.Next.TheVariants as next
+use Rattle.eo_session.specs.declared.Next.TheVariants as next
 use Rattle.eo_run.specs.declared.Verdict.{Verdict}
 use Rattle.eo_run.specs.Verdict.{Refusal}
 use Rattle.eo_run.specs.declared.opening.Source.{Source}

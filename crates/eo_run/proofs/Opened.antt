@@ -8,13 +8,13 @@ use Rattle.eo_base.specs.Checks.{Checked}
 use Rattle.eo_io.specs.Library.{Files, file_at}
 use Rattle.eo_io.specs.Paths.{fold_path}
 use Rattle.eo_sexp.specs.Spot.{Spot}
-use Rattle.eo_run.specs.State.{State, begin_reference}
+use Rattle.eo_session.specs.State.{State, begin_reference}
 use Rattle.eo_run.specs.Run.{Progress, Ran, Runner, ◌>>=◌, placed, or_fault, refusal_at, commands_of, run_commands, open_nothing, run_reference, with_included, include_file, refer_to_file, open_file, run_file, included_runner}
 use Rattle.eo_run.specs.Reading.{IsOpener}
 use Rattle.eo_run.specs.Opening.{opener_of}
-use Rattle.eo_run.specs.Origin.{Origin}
-use Rattle.eo_run.specs.Origin as origin
-use Rattle.eo_run.specs.declared.Next.TheVariants as next
+use Rattle.eo_session.specs.Origin.{Origin}
+use Rattle.eo_session.specs.Origin as origin
+use Rattle.eo_session.specs.declared.Next.TheVariants as next
 
 pub nothing-is : IsOpener open_nothing
 nothing-is = λ path from at p. refl

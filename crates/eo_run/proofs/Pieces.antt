@@ -16,7 +16,7 @@ use Rattle.eo_sexp.specs.Answering.{AnswersAlone, end_of}
 use Rattle.eo_run.specs.Run.{Progress, commands_of, refusal_at, run_commands}
 use Rattle.eo_run.specs.Reading.{behind, at_end}
 use Rattle.eo_run.specs.Opening.{opener_of, run_source, LeadsIn, FailsIn, Told, StopsAs, IsTaken, IsLeft, TakesEnd, IsRead, Passes, StaysOpen, RunsOpen, RunsBytes}
-use Rattle.eo_run.specs.Numbered.{origin_of}
+use Rattle.eo_session.specs.Numbered.{origin_of}
 use Rattle.eo_run.specs.Answer.{Denotes}
 use Rattle.eo_run.specs.Verdict.{Refusal}
 use Rattle.eo_run.specs.declared.Verdict.{Verdict}

@@ -6,14 +6,14 @@ use Rattle.eo_sexp.specs.Spot.{Spot}
 use Rattle.eo_sexp.specs.Texts.{Reads, Then, Placed}
 use Rattle.eo_sexp.specs.Texts as texts
 use Rattle.eo_sexp.specs.Answering.{end_of}
-use Rattle.eo_run.specs.State.{State}
-use Rattle.eo_run.specs.Commands.{step}
+use Rattle.eo_session.specs.State.{State}
+use Rattle.eo_session.specs.Commands.{step}
 use Rattle.eo_run.specs.Run.{Progress, Ran, Opener, ◌>>=◌, placed, refusal_at, is_exit, run_commands}
 use Rattle.eo_run.specs.Reading.{Continuation, Leads, Asks, Finishes, Fails, IsOpener, progress, LeadsOn, AsksFor, FailsAt}
-use Rattle.eo_run.specs.Origin.{Origin}
+use Rattle.eo_session.specs.Origin.{Origin}
 use Rattle.eo_run.specs.Verdict.{Refusal}
-use Rattle.eo_run.specs.declared.Next.{Next}
-use Rattle.eo_run.specs.declared.Next.TheVariants as next
+use Rattle.eo_session.specs.declared.Next.{Next}
+use Rattle.eo_session.specs.declared.Next.TheVariants as next
 use Rattle.eo_run.proofs.Leaving.{step_leaves}
 
 -- ---- one command more

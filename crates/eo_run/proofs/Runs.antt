@@ -10,14 +10,14 @@ use Rattle.eo_io.specs.Library.{Files}
 use Rattle.eo_sexp.specs.Spot.{Spot}
 use Rattle.eo_sexp.specs.Sexp.{Sexp}
 use Rattle.eo_sexp.specs.Texts.{Reads, Then, Ends, Fails}
-use Rattle.eo_run.specs.State.{State, begin_reference}
-use Rattle.eo_run.specs.Commands.{step}
+use Rattle.eo_session.specs.State.{State, begin_reference}
+use Rattle.eo_session.specs.Commands.{step}
 use Rattle.eo_run.specs.Run.{Progress, Ran, Opener, Runner, with_included, ◌>>=◌, placed, or_fault, refusal_at, is_exit, run_commands, open_nothing, run_reference, include_file, refer_to_file, open_file, run_file, included_runner, include_limit, run_signature, run_proof, run_job_reference, if_given}
 use Rattle.eo_run.specs.Verdict.{Refusal}
-use Rattle.eo_run.specs.Origin.{Origin}
-use Rattle.eo_run.specs.Origin as origin
-use Rattle.eo_run.specs.declared.Next.{Next}
-use Rattle.eo_run.specs.declared.Next.TheVariants as next
+use Rattle.eo_session.specs.Origin.{Origin}
+use Rattle.eo_session.specs.Origin as origin
+use Rattle.eo_session.specs.declared.Next.{Next}
+use Rattle.eo_session.specs.declared.Next.TheVariants as next
 
 -- ---- what a run that goes on says of its parts
 

@@ -11,16 +11,16 @@ use Rattle.eo_sexp.specs.Collecting.{Collecting}
 use Rattle.eo_sexp.specs.Spot.{Spot}
 use Rattle.eo_sexp.specs.Texts.{Ends}
 use Rattle.eo_sexp.specs.Answering.{end_of}
-use Rattle.eo_run.specs.State.{State, begin_reference}
+use Rattle.eo_session.specs.State.{State, begin_reference}
 use Rattle.eo_run.specs.Run.{Progress, Ran, is_exit, refusal_at, commands_of, open_nothing, run_commands, with_included}
 use Rattle.eo_run.specs.Reading.{Continuation, Asks, progress, LeadsOn, AsksFor, FailsAt, LibraryStays}
 use Rattle.eo_run.specs.Opening as opening
 use Rattle.eo_run.specs.Opening.{IsNumbered, FoldsHere, BeginsHere, opener_of, run_source, LeadsIn, FinishesIn, FailsIn, Told, StopsAs, Opens, IfWhole, IsTaken, IsLeft, TakesPiece, TakesEnd, StaysOpen, LibraryReads, RunsOpen, RefusesFile, RunsFile}
-use Rattle.eo_run.specs.Numbered.{origin_of}
+use Rattle.eo_session.specs.Numbered.{origin_of}
 use Rattle.eo_run.specs.Answer.{Denotes, AnswerHasCause}
-use Rattle.eo_run.specs.Origin as origin
-use Rattle.eo_run.specs.declared.Next.{Next}
-use Rattle.eo_run.specs.declared.Next.TheVariants as next
+use Rattle.eo_session.specs.Origin as origin
+use Rattle.eo_session.specs.declared.Next.{Next}
+use Rattle.eo_session.specs.declared.Next.TheVariants as next
 use Rattle.eo_run.specs.declared.Verdict.{Verdict}
 use Rattle.eo_run.specs.declared.Verdict.TheVariants as answer
 use Rattle.eo_run.specs.declared.opening.Source.{Source}

@@ -7,9 +7,9 @@ use Rattle.eo_run.specs.Opening.{Told}
 use Rattle.eo_run.specs.Pieces.{counts_due}
 use Rattle.eo_run.specs.Printed.{Due}
 use Rattle.eo_run.specs.Progress.{progress_of}
-use Rattle.eo_run.specs.Roots.{live_count}
+use Rattle.eo_session.specs.Roots.{live_count}
 use Rattle.eo_run.specs.Run.{Progress, Ran, run_check}
-use Rattle.eo_run.specs.State.{State}
+use Rattle.eo_session.specs.State.{State}
 use Rattle.eo_run.specs.Verdict.{Correct}
 use Rattle.eo_run.specs.declared.BenchEnd.{BenchEnd}
 use Rattle.eo_run.specs.declared.BenchEnd.TheVariants as ends

@@ -6,7 +6,7 @@ use Rattle.eo_io.specs.Library.{Files, file_at}
 use Rattle.eo_io.specs.Paths.{fold_path}
 use Rattle.eo_sexp.specs.Spot.{Spot}
 use Rattle.eo_sexp.specs.Texts.{first_spot, spot_after}
-use Rattle.eo_run.specs.State.{end_fault}
+use Rattle.eo_session.specs.State.{end_fault}
 use Rattle.eo_run.specs.Run.{Ran, refusal_at, shown, run_check, run_load}
 use Rattle.eo_run.specs.Verdict.{Verdict, Correct, Incomplete, Loaded, Refused}
 use Rattle.eo_run.specs.declared.CheckJob.{CheckJob}

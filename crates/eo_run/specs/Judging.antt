@@ -8,11 +8,11 @@ use Rattle.eo_io.specs.Library.{Files, Rest}
 use Rattle.eo_run.specs.Run.{Progress, Ran, ◌>>=◌, refusal_at, shown, commands_of, run_commands, job_file}
 use Rattle.eo_run.specs.Check.{file_end, checked, verdict, load_verdict}
 use Rattle.eo_run.specs.Opening.{opener_of, Told, StopsAs, IsStop, IfWhole}
-use Rattle.eo_run.specs.State.{State}
+use Rattle.eo_session.specs.State.{State}
 use Rattle.eo_run.specs.Verdict.{Refusal}
 use Rattle.eo_run.specs.Answer.{Answers, Denotes}
-use Rattle.eo_run.specs.Origin.{Origin}
-use Rattle.eo_run.specs.Numbered.{origin_of}
+use Rattle.eo_session.specs.Origin.{Origin}
+use Rattle.eo_session.specs.Numbered.{origin_of}
 use Rattle.eo_run.specs.declared.CheckJob.{CheckJob}
 use Rattle.eo_run.specs.declared.checking.Named.{Named}
 use Rattle.eo_run.specs.declared.opening.Run.{Run}

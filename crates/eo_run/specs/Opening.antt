@@ -13,16 +13,16 @@ use Rattle.eo_sexp.specs.Texts.{Reads, first_spot, spot_after}
 use Rattle.eo_sexp.specs.Collecting.{Collecting, new_collector, here_of, IsLive}
 use Rattle.eo_sexp.specs.Cutting.{IsWaiting}
 use Rattle.eo_sexp.specs.Answering.{end_of}
-use Rattle.eo_run.specs.State.{State}
+use Rattle.eo_session.specs.State.{State}
 use Rattle.eo_run.specs.Run.{Progress, Ran, Opener, commands_of, open_nothing, open_file, included_runner, run_commands}
 use Rattle.eo_run.specs.Reading.{Continuation, behind, at_end, Leads, Finishes, Fails}
-use Rattle.eo_run.specs.Origin.{Origin}
-use Rattle.eo_run.specs.Origin as origin
+use Rattle.eo_session.specs.Origin.{Origin}
+use Rattle.eo_session.specs.Origin as origin
 use Rattle.eo_run.specs.Verdict.{Refusal}
 use Rattle.eo_run.specs.Answer.{Denotes, AnswerHasCause}
-use Rattle.eo_run.specs.Numbered.{origin_of, number_of}
-use Rattle.eo_run.specs.declared.Next.{Next}
-use Rattle.eo_run.specs.declared.Next.TheVariants as next
+use Rattle.eo_session.specs.Numbered.{origin_of, number_of}
+use Rattle.eo_session.specs.declared.Next.{Next}
+use Rattle.eo_session.specs.declared.Next.TheVariants as next
 use Rattle.eo_run.specs.declared.Verdict.{Verdict}
 use Rattle.eo_run.specs.declared.Verdict.TheVariants as answer
 use Rattle.eo_run.specs.declared.opening.Run.{Run}

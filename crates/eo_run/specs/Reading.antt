@@ -10,14 +10,14 @@ use Rattle.eo_sexp.specs.Texts as texts
 use Rattle.eo_sexp.specs.Collecting.{Collecting, AtCommand, here_of, IsLive}
 use Rattle.eo_sexp.specs.Cutting.{IsWaiting, rest_of}
 use Rattle.eo_sexp.specs.Answering.{end_of}
-use Rattle.eo_run.specs.State.{State}
-use Rattle.eo_run.specs.Commands.{step}
+use Rattle.eo_session.specs.State.{State}
+use Rattle.eo_session.specs.Commands.{step}
 use Rattle.eo_run.specs.Run.{Progress, Opener, ◌>>=◌, is_exit, refusal_at, run_commands}
 use Rattle.eo_run.specs.Verdict.{Refusal}
-use Rattle.eo_run.specs.Origin.{Origin}
-use Rattle.eo_run.specs.Origin as origin
-use Rattle.eo_run.specs.declared.Next.{Next}
-use Rattle.eo_run.specs.declared.Next.TheVariants as next
+use Rattle.eo_session.specs.Origin.{Origin}
+use Rattle.eo_session.specs.Origin as origin
+use Rattle.eo_session.specs.declared.Next.{Next}
+use Rattle.eo_session.specs.declared.Next.TheVariants as next
 use Rattle.eo_run.specs.declared.reading.Asked.{Asked}
 use Rattle.eo_run.specs.declared.reading.Stop.{Stop}
 use Rattle.eo_run.specs.declared.reading.Stop.TheVariants as stop

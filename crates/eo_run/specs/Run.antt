@@ -9,14 +9,14 @@ use Rattle.eo_io.specs.Library.{Files, file_at}
 use Rattle.eo_io.specs.Paths.{fold_path, with_path}
 use Rattle.eo_sexp.specs.Spot.{Spot}
 use Rattle.eo_sexp.specs.Texts.{Reads, Then, Ends, Fails, first_spot, reads_file}
-use Rattle.eo_run.specs.State.{State, first_state, begin_reference}
-use Rattle.eo_run.specs.Commands.{step}
+use Rattle.eo_session.specs.State.{State, first_state, begin_reference}
+use Rattle.eo_session.specs.Commands.{step}
 use Rattle.eo_run.specs.Verdict.{Refusal}
-use Rattle.eo_run.specs.Origin.{Origin}
-use Rattle.eo_run.specs.Origin as origin
+use Rattle.eo_session.specs.Origin.{Origin}
+use Rattle.eo_session.specs.Origin as origin
 use Rattle.eo_run.specs.declared.CheckJob.{CheckJob}
-use Rattle.eo_run.specs.declared.Next.{Next}
-use Rattle.eo_run.specs.declared.Next.TheVariants as next
+use Rattle.eo_session.specs.declared.Next.{Next}
+use Rattle.eo_session.specs.declared.Next.TheVariants as next
 
 -- a file that the job names is at depth 0, and one that it includes at depth 1
 abbrev pub include_limit : ℕ

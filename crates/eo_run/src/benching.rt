@@ -5,9 +5,10 @@ ghost use Rattle.eo_run.specs.Bench.{hop, hop_clause, hop_fact, bench_end};
 ghost use Rattle.eo_run.specs.Benching.{AnswersBench, counted};
 
 use crate::checking::{check_job, first_run};
-use crate::{BenchEnd, CheckJob, Session, Verdict};
+use crate::{BenchEnd, CheckJob, Verdict};
 use eo_base::Text;
 use eo_io::{HonestLibrary, Paths};
+use eo_session::Session;
 use std::alloc::{AllocError, Global};
 use std::fmt::Write;
 

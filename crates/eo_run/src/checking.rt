@@ -10,15 +10,16 @@ ghost use Rattle.eo_run.specs.Reading.{LibraryStays};
 ghost use Rattle.eo_run.specs.Refutation.{CorrectRefutes, ClosedKeepsRules};
 ghost use Rattle.eo_run.specs.Run.{first_progress, first_load as load_progress, with_folded, if_given, refusal_at, shown};
 ghost use Rattle.eo_run.specs.Run.{run_signature, run_job_reference, before_proof, run_proof, run_check};
-ghost use Rattle.eo_run.specs.State.{begin_reference};
+ghost use Rattle.eo_session.specs.State.{begin_reference};
 ghost use Rattle.eo_io.specs.Paths.{fold_path};
 ghost use Rattle.eo_sexp.specs.Texts.{first_spot};
 
 use crate::laws::soundness_law;
 use crate::opening::{OPENS, Run, Source, check_file, refused};
-use crate::{CheckJob, EndAnswer, Origin, Refused, Session, Verdict};
+use crate::{CheckJob, Verdict};
 use eo_base::{Fault, FaultName, Place, Text};
 use eo_io::{Library, PathRefused, Paths, fold_path};
+use eo_session::{EndAnswer, Origin, Refused, Session};
 use eo_sexp::Spot;
 use std::alloc::{AllocError, Global};
 

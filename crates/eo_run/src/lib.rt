@@ -5,35 +5,18 @@
 //! rules, in scopes. A signature file may come first, and files may include others.
 #![tactic(auto)]
 
-mod asserting;
-mod beginning;
 mod benching;
-mod carrying;
 mod checking;
-mod declaring;
-mod evaluating;
-mod held;
 mod laws;
-mod marks;
-mod moving;
-mod naming;
 mod opening;
-mod premises;
 mod printing;
 mod reading;
-mod refused;
-mod rules;
-mod scopes;
-mod session;
-mod steps;
 
 pub use benching::bench;
 pub use checking::{check_files, load_files};
 use eo_base::{Fault, Text};
 pub use laws::soundness_law;
 pub use printing::{print_bench, print_line, print_verdict};
-pub use refused::Refused;
-pub use session::{EndAnswer, Session};
 
 /// What is to be checked.
 #[derive(Debug, Drop)]
@@ -46,30 +29,6 @@ pub struct CheckJob {
     pub proof: Text,
     /// Whether the proof may declare no rules and no programs.
     pub closed: bool,
-}
-
-/// The file that a command stands in, by its number in the table of paths.
-#[derive(Clone, Copy, Debug, PartialEq, Eq)]
-pub enum Origin {
-    /// A signature, or a file that it includes.
-    Signature(usize),
-    /// The proof, or a file that it includes.
-    Proof(usize),
-    /// A reference file.
-    Reference(usize),
-}
-
-/// What is done behind a command, before the next one.
-#[derive(Debug, Drop)]
-pub enum Next {
-    /// Nothing.
-    Done,
-    /// The file with this path, seen from the file of the command, is included.
-    Include(Text),
-    /// The file with this path is the reference file.
-    Reference(Text),
-    /// The file ends.
-    Exit,
 }
 
 /// What a check or a load answers.

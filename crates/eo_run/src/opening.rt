@@ -6,14 +6,15 @@ ghost use Rattle.eo_sexp.specs.Cutting.{IsWaiting};
 ghost use Rattle.eo_run.specs.Answer.{AnswerHasCause};
 ghost use Rattle.eo_run.specs.Opening.{IsReady, Keeps, LibraryReads, FileHasCause, RunsOpen, RunsFile, TakesPiece, TakesEnd};
 ghost use Rattle.eo_run.specs.Opening.{Opens, IncludesAt, RefersAt, FoldsHere, BeginsHere, stop_verdict, refused_at};
-ghost use Rattle.eo_run.specs.State.{begin_reference};
+ghost use Rattle.eo_session.specs.State.{begin_reference};
 ghost use Rattle.eo_run.specs.Progress.{progress_of};
 ghost use Rattle.eo_run.specs.Reading.{LibraryStays};
 
+use crate::Verdict;
 use crate::reading::{Stop, check_end, check_piece, exits};
-use crate::{Next, Origin, Refused, Session, Verdict};
 use eo_base::{Fault, FaultName, Place, Text, limits};
 use eo_io::{Got, Library, Opened, PathRefused, Paths, fold_path};
+use eo_session::{Next, Origin, Refused, Session};
 use eo_sexp::{Collector, Spot, answers_law, pieces_law};
 use std::alloc::{AllocError, Global};
 

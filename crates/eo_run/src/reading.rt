@@ -4,13 +4,13 @@ ghost use Rattle.std.specs.Prelude.{◌≡◌, ◌↔◌, false, IsFalse, OnOk};
 ghost use Rattle.eo_base.specs.Limits.{limits};
 ghost use Rattle.eo_sexp.specs.Collecting.{IsLive, IsAtCommand, HasRoom};
 ghost use Rattle.eo_sexp.specs.Cutting.{IsWaiting};
-ghost use Rattle.eo_run.specs.Numbered.{origin_of};
-ghost use Rattle.eo_run.specs.declared.Next.TheVariants.{Done};
+ghost use Rattle.eo_session.specs.Numbered.{origin_of};
+ghost use Rattle.eo_session.specs.declared.Next.TheVariants.{Done};
 ghost use Rattle.eo_run.specs.Run.{is_exit};
 ghost use Rattle.eo_run.specs.Reading.{IsOfText, ChecksLast, ChecksPiece, ChecksEnd};
 
-use crate::{Next, Origin, Refused, Session};
 use eo_base::FaultName;
+use eo_session::{Next, Origin, Refused, Session};
 use eo_sexp::{Collector, Fed, Finished, Spot, answers_law, pieces_law};
 
 /// Why a file is not read and checked to its end.

@@ -14,7 +14,7 @@ use Rattle.eo_run.specs.Benching.{AnswersBench, IsOtherEnd, end_due}
 use Rattle.eo_run.specs.Check.{verdict as check_verdict, load_verdict}
 use Rattle.eo_run.specs.Judging.{AnswersJob, AnswersLoad}
 use Rattle.eo_run.specs.Pieces.{counts_due}
-use Rattle.eo_run.specs.Roots.{live_count}
+use Rattle.eo_session.specs.Roots.{live_count}
 use Rattle.eo_run.specs.declared.BenchEnd.{BenchEnd}
 use Rattle.eo_run.specs.declared.BenchEnd.TheVariants as ends
 use Rattle.eo_run.specs.declared.Verdict.{Verdict}

@@ -9,7 +9,7 @@ use Rattle.eo_run.specs.Check.{checked, ended, verdict}
 use Rattle.eo_run.specs.Printed.{verdict_due, verdict_status}
 use Rattle.eo_run.specs.Refutation.{Refutes, ClosedKeepsRules}
 use Rattle.eo_run.specs.Run.{Ran, run_check}
-use Rattle.eo_run.specs.State.{end_fault}
+use Rattle.eo_session.specs.State.{end_fault}
 use Rattle.eo_run.specs.Verdict.{Correct}
 use Rattle.ethos.specs.Ends.{Ends}
 use Rattle.ethos.specs.Program.{due, EndsAs, OkRefutes, ClosedKeeps}

@@ -8,7 +8,7 @@ use Rattle.eo_run.specs.Bench.{bench_files, bench_job}
 use Rattle.eo_run.specs.Check.{verdict, load_verdict}
 use Rattle.eo_run.specs.Printed.{Due, verdict_due, usage_due, bench_text}
 use Rattle.eo_run.specs.Refutation.{Refutes, ClosedKeepsRules}
-use Rattle.eo_run.specs.Roots.{live_count}
+use Rattle.eo_session.specs.Roots.{live_count}
 use Rattle.eo_run.specs.Run.{Ran, run_check}
 use Rattle.eo_run.specs.Verdict.{Verdict, Correct, Refused}
 use Rattle.eo_run.specs.declared.CheckJob.{CheckJob}

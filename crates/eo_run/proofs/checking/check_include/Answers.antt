@@ -4,7 +4,7 @@ use Rattle.eo_io.specs.Library.{Files}
 use Rattle.eo_run.specs.Judging.{RunsPart}
 use Rattle.eo_run.specs.Progress.{progress_of}
 use Rattle.eo_run.specs.Run.{if_given, run_signature}
-use Rattle.eo_run.specs.declared.Origin.TheVariants.{Signature}
+use Rattle.eo_session.specs.declared.Origin.TheVariants.{Signature}
 use Rattle.eo_run.specs.declared.Verdict.{Verdict}
 use Rattle.eo_run.specs.declared.checking.Named.{Named}
 use Rattle.eo_run.proofs.Exits.{at_exit}

@@ -2,7 +2,7 @@ use Rattle.std.proofs.Common.{true, refl, sym}
 use Rattle.eo_io.specs.Library.{Files}
 use Rattle.eo_run.specs.Progress.{progress_of}
 use Rattle.eo_run.specs.Run.{run_proof}
-use Rattle.eo_run.specs.declared.Origin.TheVariants.{Proof}
+use Rattle.eo_session.specs.declared.Origin.TheVariants.{Proof}
 use Rattle.eo_run.specs.declared.checking.Named.{Named}
 use Rattle.eo_run.proofs.Files.{end-cause}
 use Rattle.eo_run.proofs.Jobs.{is-proof, part-runs, stop-last, proof-stops, proof-correct, proof-incomplete, proof-refused}

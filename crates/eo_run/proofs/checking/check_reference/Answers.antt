@@ -5,7 +5,7 @@ use Rattle.eo_run.specs.Answer.{AnswerHasCause}
 use Rattle.eo_run.specs.Judging.{RunsPart}
 use Rattle.eo_run.specs.Progress.{progress_of}
 use Rattle.eo_run.specs.Run.{if_given, run_job_reference}
-use Rattle.eo_run.specs.declared.Origin.TheVariants.{Reference}
+use Rattle.eo_session.specs.declared.Origin.TheVariants.{Reference}
 use Rattle.eo_run.specs.declared.Verdict.{Verdict}
 use Rattle.eo_run.specs.declared.checking.Named.{Named}
 use Rattle.eo_run.proofs.Exits.{at_exit}

@@ -3,7 +3,7 @@ use Rattle.std.specs.Prelude.{Ok, Err}
 use Rattle.eo_run.specs.Judging.{RunsNamed, AnswersLoad}
 use Rattle.eo_run.specs.Progress.{progress_of}
 use Rattle.eo_run.specs.Run.{Progress, first_load}
-use Rattle.eo_run.specs.declared.Origin.TheVariants.{Signature}
+use Rattle.eo_session.specs.declared.Origin.TheVariants.{Signature}
 use Rattle.eo_run.specs.declared.Verdict.TheVariants.{Loaded}
 use Rattle.eo_run.specs.declared.checking.Named.{Named}
 use Rattle.eo_run.proofs.Jobs.{is-signature, load-runs, load-stops}

@@ -6,14 +6,14 @@ use Rattle.eo_sexp.specs.Spot.{Spot}
 use Rattle.eo_sexp.specs.Texts.{Ends}
 use Rattle.eo_sexp.specs.Collecting.{here_of}
 use Rattle.eo_run.specs.Answer.{Denotes, AnswerHasCause}
-use Rattle.eo_run.specs.Numbered.{origin_of, number_of}
+use Rattle.eo_session.specs.Numbered.{origin_of, number_of}
 use Rattle.eo_run.specs.Progress.{progress_of}
 use Rattle.eo_run.specs.Reading.{progress, behind, at_end, LeadsOn, ChecksPiece, ChecksEnd, IsAsked, IsAskedAtEnd, IsFed, IsEnded}
 use Rattle.eo_run.specs.Run.{refusal_at}
 use Rattle.eo_run.specs.Opening.{IsNumbered, LeadsIn, Told, IsStop, IsRead, IsTaken, IsLeft, Opens, StaysOpen, TakesPiece, TakesEnd, RunsOpen, RunsFile, place_in}
-use Rattle.eo_run.specs.declared.Next.{Next}
-use Rattle.eo_run.specs.declared.Next.TheVariants as next
-use Rattle.eo_run.specs.declared.Origin.TheVariants as code
+use Rattle.eo_session.specs.declared.Next.{Next}
+use Rattle.eo_session.specs.declared.Next.TheVariants as next
+use Rattle.eo_session.specs.declared.Origin.TheVariants as code
 use Rattle.eo_run.specs.declared.Verdict.{Verdict}
 use Rattle.eo_run.specs.declared.opening.Source.{Source}
 use Rattle.eo_run.specs.declared.reading.Asked.{Asked}

@@ -1,10 +1,10 @@
 use Rattle.std.proofs.Common.{ap, ◌∙◌, arith}
 use Rattle.std.specs.Prelude.{Option, Result, Ok}
 use Rattle.eo_sexp.specs.Collecting.{start_of}
-use Rattle.eo_run.specs.declared.Next.{Next}
+use Rattle.eo_session.specs.declared.Next.{Next}
 use Rattle.eo_run.specs.declared.reading.Asked.{Asked}
 use Rattle.eo_run.specs.declared.reading.Stop.{Stop}
-use Rattle.eo_run.specs.Numbered.{origin_of}
+use Rattle.eo_session.specs.Numbered.{origin_of}
 use Rattle.eo_run.specs.Reading.{at_end, ChecksEnd}
 use Rattle.eo_run.proofs.Exits.{at_exit, refused-end, asked-end}
 use Rattle.eo_run.proofs.Running.{on-trans, on-fails, on-command}

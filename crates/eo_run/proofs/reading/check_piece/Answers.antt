@@ -1,10 +1,10 @@
 use Rattle.std.proofs.Common.{◌≡◌, ℕ, ◌+◌, ◌-◌, ◌<◌, ◌≤◌, false, List, [], length, drop, sym, ap, subst, ◌∙◌, arith, length-drop}
 use Rattle.std.specs.Prelude.{Option, Result, Ok}
 use Rattle.eo_sexp.specs.Collecting.{here_of, start_of}
-use Rattle.eo_run.specs.declared.Next.{Next}
+use Rattle.eo_session.specs.declared.Next.{Next}
 use Rattle.eo_run.specs.declared.reading.Asked.{Asked}
 use Rattle.eo_run.specs.declared.reading.Stop.{Stop}
-use Rattle.eo_run.specs.Numbered.{origin_of}
+use Rattle.eo_session.specs.Numbered.{origin_of}
 use Rattle.eo_run.specs.Reading.{LeadsOn, behind, count_of, ChecksPiece}
 use Rattle.eo_run.proofs.Exits.{at_exit, refused-piece, asked-piece}
 use Rattle.eo_run.proofs.Running.{on-trans, on-fails, on-command}

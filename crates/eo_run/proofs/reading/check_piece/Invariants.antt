@@ -2,7 +2,7 @@ use Rattle.std.proofs.Common.{◌≡◌, ◌+◌, ◌-◌, ◌≤◌, [], length
 use Rattle.eo_base.specs.Limits.{limits}
 use Rattle.eo_sexp.specs.Collecting.{IsLive, here_of}
 use Rattle.eo_sexp.specs.Cutting.{IsWaiting}
-use Rattle.eo_run.specs.Numbered.{origin_of}
+use Rattle.eo_session.specs.Numbered.{origin_of}
 use Rattle.eo_run.specs.Reading.{LeadsOn, behind, count_of}
 use Rattle.eo_run.proofs.reading.check_piece.Given as goal
 

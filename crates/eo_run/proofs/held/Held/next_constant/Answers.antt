@@ -1,8 +1,0 @@
-use Rattle.eo_run.proofs.Holding.{keeps_table}
-use Rattle.eo_run.proofs.held.Held.next_constant.Goals as goal
-
-pub returns-in-Ok-clause-keeps : goal.returns-in-Ok-clause-keeps
-returns-in-Ok-clause-keeps c =
-    let h = c.args.self.now in
-    let t = c.intern.new.self in
-    keeps_table h c.requires t (c.growth_law.ensures.stays h.signature h.table t c.requires.held.signature c.intern.ensures.grows.now) c.intern.ensures.grows

@@ -1,0 +1,283 @@
+-- What a declaring command does to what is held.
+use Rattle.std.proofs.Common.{◌≡◌, ℕ, Bool, true, false, not, ◌&&◌, ◌||◌, List, [], ◌∷◌, length, map, refl, sym, ap, subst, ◌∙◌, true≢false}
+use Rattle.std.specs.Prelude.{Option, Some, None, option_map, is_none, slice_get, Result, Ok, Err, nat_eq, if◌then◌else◌}
+use Rattle.std.specs.Option.{option_map_or}
+use Rattle.std.specs.Result.{IsErrAnd}
+use Rattle.std.proofs.lemmas.List.{length-map}
+use Rattle.eo_base.specs.declared.FaultName.{FaultName}
+use Rattle.eo_base.specs.declared.FaultName.TheVariants.{Redeclared, ProofDeclares}
+use Rattle.eo_base.specs.Answers.{Tells}
+use Rattle.eo_base.specs.Checks.{Checked, Passed, ◌>>=◌, require, no_fault}
+use Rattle.eo_base.proofs.ChecksLemmas.{ok_injective, bind_ok, bind_step, bind_fails, require_then}
+use Rattle.eo_sig.specs.declared.records.Entry.{Entry}
+use Rattle.eo_sig.specs.declared.refused.SigRefused.{SigRefused}
+use Rattle.eo_sig.specs.declared.refused.SigRefused.TheVariants as sig
+use Rattle.eo_sig.specs.Refused.{Tells as SigTells}
+use Rattle.eo_sig.specs.Reading.{signature, macros, read_named}
+use Rattle.eo_sig.specs.Signature.{Constant, Macro, Named, NamesConstant, NamesMacro, IsConstant, Attribute, Plain, lookup, constant_at, is_reserved, may_type, may_fold, argument_types, implicit_occur, first_wrong, constant_may_hold, constant_fault}
+use Rattle.eo_term.specs.Tree.{Tree, Con, Num, Bits, Str, Par, Var, App, Arr, Qar, Op, tree_eq, is_value, may_be_type}
+use Rattle.eo_names.specs.declared.refused.ElabRefused.{ElabRefused}
+use Rattle.eo_names.specs.Refused.{told as elab_told}
+use Rattle.eo_names.specs.Contexts.{Context}
+use Rattle.eo_elab.specs.Meaning.{meaning}
+use Rattle.eo_elab.specs.Declarations.{is_named_by_reference, is_reference_name, is_free_or_reference, meanings, attribute, constant, plain_constant, function_type, sort_type, not_tall, declared_const, declared_fun, declared_sort}
+use Rattle.eo_elab.specs.Declaring.{MayRepeat}
+use Rattle.eo_session.specs.declared.held.Held.{Held}
+use Rattle.eo_session.specs.Held.{state_of}
+use Rattle.eo_session.specs.declared.refused.Refused.{Refused}
+use Rattle.eo_session.specs.Stepping.{of_elab, of_sig, Refuses, Does}
+use Rattle.eo_sexp.specs.Sexp.{Sexp}
+use Rattle.eo_shape.specs.Shapes.{AttributeShape, ProgramShape}
+use Rattle.eo_session.specs.Origin.{Origin}
+use Rattle.eo_session.specs.State.{State, context, with_entry, with_macro}
+use Rattle.eo_session.specs.Step.{is_plain, repeats_constant, repeats_macro, type_value, added_constant, checked_constant, typed_constant, added_macro, is_in_proof, added_program, define_program}
+use Rattle.eo_session.proofs.Exits.{at_exit}
+use Rattle.eo_session.proofs.Sessions.{refuses_on, refuses_elab}
+
+-- ---- checks
+
+module _ {A : Type 0} (fault : Option FaultName) (go : Passed → Checked A) where
+  pub no_fault-fails : (name : FaultName) → fault ≡ Some name → (no_fault fault >>= go) ≡ Err name
+  unfolding no_fault ◌>>=◌
+  no_fault-fails name e = ap (λ f. no_fault f >>= go) e
+
+  pub no_fault-passes : fault ≡ None → (no_fault fault >>= go) ≡ go tt
+  unfolding no_fault ◌>>=◌
+  no_fault-passes e = ap (λ f. no_fault f >>= go) e
+
+both : (a b : Bool) → (a && b) ≡ true → (a ≡ true) × (b ≡ true)
+both true b e = (refl, e)
+both false b e = absurd (true≢false (sym e))
+
+-- ---- refusals
+
+-- A refused declaration refuses the command, where the fault is that of the whole.
+pub does-sig : (X : Type 0) (m : Checked State) (fault : Option FaultName) (r : Result (Unit {0}) Refused) (x : SigRefused) (new : Held) → IsErrAnd r (λ e. e ≡ of_sig x) → SigTells {X = X} (Err x) fault → ((name : FaultName) → fault ≡ Some name → m ≡ Err name) → Does r m new
+does-sig X m fault r x new e t h = at_exit (λ (r : Result (Unit {0}) Refused). Does r m new) r (of_sig x) e (by x t)
+  where
+    by : (x : SigRefused) → SigTells {X = X} (Err x) fault → Refuses m (of_sig x)
+    by sig.Redeclared t = (h _ t, λ q. absurd cc)
+    by sig.BadPattern t = (h _ t, λ q. absurd cc)
+    by sig.UnboundParam t = (h _ t, λ q. absurd cc)
+    by (sig.Memory e) t = (tt, tt)
+
+-- ---- names
+
+module _ (st : State) (name : List ℕ) where
+  abbrev pub found : Option Named
+  found = lookup st.signature st.macros name
+
+  abbrev by_found : Option Named → Bool
+  by_found o = (not (is_reserved name) && is_none o) || is_named_by_reference (context st) o
+
+  not_reference : found ≡ None → is_reference_name (context st) name ≡ false
+  not_reference e = ap (is_named_by_reference (context st)) e
+
+  is_reference : (n : Named) → found ≡ Some n → is_free_or_reference (context st) name ≡ true → is_reference_name (context st) name ≡ true
+  is_reference n e h = ap (is_named_by_reference (context st)) e ∙ second (not (is_reserved name)) (is_named_by_reference (context st) (Some n)) (sym (ap by_found e) ∙ h)
+    where
+      second : (a b : Bool) → ((a && false) || b) ≡ true → b ≡ true
+      second true b h = h
+      second false b h = h
+
+-- what is found by its name
+module _ (h : Held) (name bytes : List ℕ) (same : bytes ≡ name) (o : Option Entry) (told : (ts : List Tree) → option_map read_named o ≡ lookup (signature ts h.signature) (macros ts h.signature) bytes) where
+  found_is : found (state_of h) name ≡ option_map read_named o
+  found_is = sym (told h.table.trees ∙ ap (lookup (signature h.table.trees h.signature) (macros h.table.trees h.signature)) same)
+
+  pub found-none : o ≡ None → found (state_of h) name ≡ None
+  found-none e = found_is ∙ ap (option_map read_named) e
+
+  pub found-some : (x : Entry) → o ≡ Some x → found (state_of h) name ≡ Some (read_named x)
+  found-some x e = found_is ∙ ap (option_map read_named) e
+
+-- ---- constants
+
+module _ (st : State) (d : Constant) where
+  abbrev by_reference : Bool → Checked State
+  by_reference b =
+      if b then (require (repeats_constant st d (lookup st.signature st.macros d.name)) Redeclared >>= λ _. Ok st) else Ok (with_entry st (IsConstant d))
+
+  abbrev by_repeat : Bool → Checked State
+  by_repeat b = require b Redeclared >>= λ _. Ok st
+
+  abbrev by_value : Checked Tree → Checked State
+  by_value m = m >>= λ v. added_constant st (record d { type = v })
+
+  pub typed-fault : (name : FaultName) → type_value st d.type ≡ Err name → typed_constant st d ≡ Err name
+  unfolding typed_constant ◌>>=◌
+  typed-fault name e = ap by_value e
+
+  pub typed-added : (v : Tree) → type_value st d.type ≡ Ok v → typed_constant st d ≡ added_constant st (record d { type = v })
+  unfolding typed_constant ◌>>=◌
+  typed-added v e = ap by_value e
+
+  module _ (may : MayRepeat (context st) d) where
+    pub added-new : lookup st.signature st.macros d.name ≡ None → added_constant st d ≡ checked_constant st d
+    unfolding added_constant
+    added-new e = ap by_reference (not_reference st d.name e) ∙ sym (no_fault-passes (constant_fault d) (λ _. Ok (with_entry st (IsConstant d))) may.sound)
+
+    module _ (n : Named) (is : lookup st.signature st.macros d.name ≡ Some n) where
+      added-found : (b : Bool) → repeats_constant st d (Some n) ≡ b → added_constant st d ≡ by_repeat b
+      unfolding added_constant
+      added-found b h = ap by_reference (is_reference st d.name n is may.name) ∙ ap (λ o. by_repeat (repeats_constant st d o)) is ∙ ap by_repeat h
+
+      pub added-repeat : repeats_constant st d (Some n) ≡ true → added_constant st d ≡ Ok st
+      unfolding require ◌>>=◌
+      added-repeat h = added-found true h
+
+      pub added-redeclared : repeats_constant st d (Some n) ≡ false → added_constant st d ≡ Err Redeclared
+      unfolding require ◌>>=◌
+      added-redeclared h = added-found false h
+
+-- ---- constants without parameters
+
+-- a value may be a declared type
+may_be_declared : (t : Tree) → is_value t ≡ true → may_be_type t ≡ true
+may_be_declared (Con k) h = refl
+may_be_declared (Num z) h = refl
+may_be_declared (Bits w v) h = refl
+may_be_declared (Str s) h = refl
+may_be_declared (Par i) h = absurd (true≢false (sym h))
+may_be_declared (Var s t) h = may_be_declared t h
+may_be_declared (App f x) h = let b = both (is_value f) (is_value x) h in (λ i. may_be_declared f b.0 i && may_be_declared x b.1 i)
+may_be_declared (Arr f x) h = let b = both (is_value f) (is_value x) h in (λ i. may_be_declared f b.0 i && may_be_declared x b.1 i)
+may_be_declared (Qar i t b) h = absurd (true≢false (sym h))
+may_be_declared (Op c ts) h = absurd (true≢false (sym h))
+
+-- what a sound constant may hold
+may_hold : (d : Constant) → constant_fault d ≡ None → (may_be_type d.type ≡ true) × ((may_type d.parameters && may_fold d.attribute) ≡ true)
+may_hold d sound = both (may_be_type d.type) (may_type d.parameters && may_fold d.attribute) (holds (constant_may_hold d) (implicit_occur (argument_types d.type) 0 d.parameters) sound)
+  where
+    holds : (a b : Bool) → first_wrong a b ≡ None → a ≡ true
+    holds true b e = refl
+    holds false b e = absurd cc
+
+-- its terminator is a value
+pub fold_of : (d : Constant) → constant_fault d ≡ None → may_fold d.attribute ≡ true
+fold_of d sound = (both (may_type d.parameters) (may_fold d.attribute) (may_hold d sound).1).1
+
+-- it stays sound with a value for its type
+pub sound-value : (d : Constant) (v : Tree) → d.parameters ≡ [] → is_value v ≡ true → constant_fault d ≡ None → constant_fault (record d { type = v }) ≡ None
+sound-value d v alone value sound =
+    let held = (may_hold d sound).1 in
+    (λ i. first_wrong (may_be_declared v value i && held i) (implicit_occur (argument_types v) 0 (alone i)))
+
+plain-alone : (c : Context) (name : List ℕ) (type : Tree) (a : Attribute) (d : Constant) → plain_constant c name type a ≡ Ok d → d.parameters ≡ []
+plain-alone c name type a d e =
+    let plain = bind_ok (no_fault (constant_fault (constant c name [] type a))) (λ _. Ok (constant c name [] type a)) d e in
+    ap (λ (k : Constant). k.parameters) (sym (ok_injective (constant c name [] type a) d plain.2))
+
+module _ (c : Context) (name : List ℕ) (d : Constant) where
+  pub const-alone : (type : Sexp) (shape : AttributeShape) → declared_const c name type shape ≡ Ok d → d.parameters ≡ []
+  unfolding declared_const
+  const-alone type shape e =
+      let free = require_then (is_free_or_reference c name) Redeclared (λ _. meaning c [] type >>= λ t. attribute c [] shape >>= λ a. plain_constant c name t a) d e in
+      let meant = bind_ok (meaning c [] type) (λ t. attribute c [] shape >>= λ a. plain_constant c name t a) d free.1 in
+      let folds = bind_ok (attribute c [] shape) (plain_constant c name meant.0) d meant.2 in
+      plain-alone c name meant.0 folds.0 d folds.2
+
+  pub fun-alone : (inputs : List Sexp) (output : Sexp) → declared_fun c name inputs output ≡ Ok d → d.parameters ≡ []
+  unfolding declared_fun
+  fun-alone inputs output e =
+      let free = require_then (is_free_or_reference c name) Redeclared (λ _. meanings c [] inputs >>= λ ts. meaning c [] output >>= λ t. not_tall (function_type ts t) >>= λ type. plain_constant c name type Plain) d e in
+      let taken = bind_ok (meanings c [] inputs) (λ ts. meaning c [] output >>= λ t. not_tall (function_type ts t) >>= λ type. plain_constant c name type Plain) d free.1 in
+      let given = bind_ok (meaning c [] output) (λ t. not_tall (function_type taken.0 t) >>= λ type. plain_constant c name type Plain) d taken.2 in
+      let whole = bind_ok (not_tall (function_type taken.0 given.0)) (λ type. plain_constant c name type Plain) d given.2 in
+      plain-alone c name whole.0 Plain d whole.2
+
+  pub sort-alone : (arity : ℕ) → declared_sort c name arity ≡ Ok d → d.parameters ≡ []
+  unfolding declared_sort
+  sort-alone arity e =
+      let free = require_then (is_free_or_reference c name) Redeclared (λ _. plain_constant c name (sort_type arity) Plain) d e in
+      plain-alone c name (sort_type arity) Plain d free.1
+
+-- what has no parameters as it is read has none
+pub none-read : {A B : Type 0} (f : A → B) (xs : List A) → map f xs ≡ [] → xs ≡ []
+none-read f [] e = refl
+none-read f (x ∷ xs) e = absurd cc
+
+-- ---- macros
+
+module _ (st : State) (d : Macro) where
+  abbrev macro_by_reference : Bool → Checked State
+  macro_by_reference b =
+      if b then (require (repeats_macro st d (lookup st.signature st.macros d.name)) Redeclared >>= λ _. Ok st) else Ok (with_macro st d)
+
+  abbrev macro_by_repeat : Bool → Checked State
+  macro_by_repeat b = require b Redeclared >>= λ _. Ok st
+
+  pub macro-new : lookup st.signature st.macros d.name ≡ None → added_macro st d ≡ Ok (with_macro st d)
+  unfolding added_macro
+  macro-new e = ap macro_by_reference (not_reference st d.name e)
+
+  module _ (n : Named) (is : lookup st.signature st.macros d.name ≡ Some n) (may : is_free_or_reference (context st) d.name ≡ true) where
+    macro-found : (b : Bool) → repeats_macro st d (Some n) ≡ b → added_macro st d ≡ macro_by_repeat b
+    unfolding added_macro
+    macro-found b h =
+        ap macro_by_reference (is_reference st d.name n is may) ∙ ap (λ o. macro_by_repeat (repeats_macro st d o)) is ∙ ap macro_by_repeat h
+
+    pub macro-repeat : repeats_macro st d (Some n) ≡ true → added_macro st d ≡ Ok st
+    unfolding require ◌>>=◌
+    macro-repeat h = macro-found true h
+
+    pub macro-redeclared : repeats_macro st d (Some n) ≡ false → added_macro st d ≡ Err Redeclared
+    unfolding require ◌>>=◌
+    macro-redeclared h = macro-found false h
+
+-- ---- repeats
+
+-- a constant that is found is repeated where the types are the same
+pub repeats_found : (st : State) (d old : Constant) (k : ℕ) (n : Named) (r : Bool) → n ≡ NamesConstant k → constant_at st.signature k ≡ Some old → is_plain d.attribute ≡ true → old.from_reference ≡ true → r ≡ tree_eq old.type d.type → r ≡ repeats_constant st d (Some n)
+repeats_found st d old k n r e at plain from h =
+    sym
+    (ap (λ m. repeats_constant st d (Some m)) e
+    ∙ ap (λ o. is_plain d.attribute && option_map_or (λ (old : Constant). old.from_reference && tree_eq old.type d.type) o false) at
+    ∙ ap (λ b. b && (old.from_reference && tree_eq old.type d.type)) plain
+    ∙ ap (λ b. b && tree_eq old.type d.type) from
+    ∙ sym h
+    )
+
+pub same_count : {A B : Type 0} (f : A → B) (ps qs xs ys : List A) → xs ≡ ps → ys ≡ qs → nat_eq (length (map f ps)) (length (map f qs)) ≡ nat_eq (length xs) (length ys)
+same_count f ps qs xs ys e h = (λ i. nat_eq (length-map ps f i) (length-map qs f i)) ∙ (λ i. nat_eq (length (sym e i)) (length (sym h i)))
+
+pub repeats_macro_found : (st : State) (d old : Macro) (k : ℕ) (n : Named) (r : Bool) → n ≡ NamesMacro k → slice_get st.macros k ≡ Some old → old.from_reference ≡ true → nat_eq (length old.parameters) (length d.parameters) ≡ true → r ≡ tree_eq old.tree d.tree → r ≡ repeats_macro st d (Some n)
+repeats_macro_found st d old k n r e at from count h =
+    sym
+    (ap (λ m. repeats_macro st d (Some m)) e
+    ∙ ap (λ o. option_map_or (λ (old : Macro). old.from_reference && nat_eq (length old.parameters) (length d.parameters) && tree_eq old.tree d.tree) o false) at
+    ∙ ap (λ b. b && nat_eq (length old.parameters) (length d.parameters) && tree_eq old.tree d.tree) from
+    ∙ ap (λ b. b && tree_eq old.tree d.tree) count
+    ∙ sym h
+    )
+
+-- ---- what is declared
+
+-- an answer for a state is one for what is the same
+pub does-same : (m n : Checked State) (r : Result (Unit {0}) Refused) (new : Held) → m ≡ n → Does r n new → Does r m new
+does-same m n r new e h = subst (λ k. Does r k new) (sym e) h
+
+module _ {A : Type 0} (m : Checked A) (f : State → A → Checked State) (st : State) (r : Result (Unit {0}) Refused) (new : Held) where
+  -- a declaration that is refused refuses the command
+  pub declared-refused : (x : ElabRefused) → IsErrAnd r (λ e. e ≡ of_elab x) → Tells elab_told x m → Does r (m >>= f st) new
+  declared-refused x e h =
+      at_exit (λ (r : Result (Unit {0}) Refused). Does r (m >>= f st) new) r (of_elab x) e (refuses_on m (m >>= f st) (of_elab x) (refuses_elab m x h) (bind_fails m (f st)))
+
+  -- what is declared is added in a state that is the same
+  pub declared-added : (mid : State) (d : A) → mid ≡ st → m ≡ Ok d → Does r (f mid d) new → Does r (m >>= f st) new
+  declared-added mid d same e h = does-same (m >>= f st) (f mid d) r new (bind_step m (f st) d e ∙ ap (λ (z : State). f z d) (sym same)) h
+
+-- ---- programs
+
+-- whether a program may be declared here, and then what it is
+module _ (st : State) (from : Origin) (shape : ProgramShape) where
+  abbrev by_origin : Bool → Checked State
+  by_origin b = require b ProofDeclares >>= λ _. added_program st shape
+
+  pub program-closed : not (st.closed && is_in_proof from) ≡ false → define_program st from shape ≡ Err ProofDeclares
+  unfolding define_program require ◌>>=◌
+  program-closed e = ap by_origin e
+
+  pub program-open : not (st.closed && is_in_proof from) ≡ true → define_program st from shape ≡ added_program st shape
+  unfolding define_program require ◌>>=◌
+  program-open e = ap by_origin e

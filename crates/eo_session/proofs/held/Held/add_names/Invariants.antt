@@ -1,0 +1,16 @@
+use Rattle.std.proofs.Common.{◌≡◌, drop}
+use Rattle.eo_elab.specs.Worlds.{labels_in}
+use Rattle.eo_session.specs.Asserting.{MayBeNames}
+use Rattle.eo_session.specs.Held.{state_of, IsHeld}
+use Rattle.eo_session.specs.Step.{with_labels}
+use Rattle.eo_session.proofs.held.Held.add_names.Given as goal
+
+-- with the names that are left, the state is that with all of them
+abbrev pub invariant-loop-i : goal.invariant-loop-i
+invariant-loop-i l =
+    record {
+      whole : IsHeld l.self;
+      table : l.self.table ≡ l.fn.self.table;
+      left : with_labels (state_of l.self) (drop l.i (labels_in l.fn.self.table l.names)) ≡ with_labels (state_of l.fn.self) (labels_in l.fn.self.table l.names);
+      may : MayBeNames (state_of l.self) (drop l.i (labels_in l.fn.self.table l.names));
+    }

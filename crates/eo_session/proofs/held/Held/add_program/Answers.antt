@@ -1,0 +1,29 @@
+use Rattle.std.proofs.Common.{◌≡◌, true, ℕ, List, ◌∷◌, length, sym, subst, ap, ◌∙◌, Contains}
+use Rattle.eo_sig.specs.Reading.{Kept, read_program, IsFree}
+use Rattle.eo_sig.specs.Signature.{Program}
+use Rattle.eo_term.specs.Tree.{Tree}
+use Rattle.eo_session.specs.Held.{HoldsOnly, next_constant}
+use Rattle.eo_session.specs.Roots.{program_trees}
+use Rattle.eo_session.specs.State.{State, is_in_scope}
+use Rattle.eo_session.specs.Step.{checked_program}
+use Rattle.eo_session.proofs.Adding.{does-same}
+use Rattle.eo_session.proofs.held.Held.add_program.Goals as goal
+
+pub put_program-requires-clause-whole : goal.put_program-requires-clause-whole
+put_program-requires-clause-whole c = c.in_ok-d.ensures.leaves.whole
+
+pub put_program-requires-clause-outside : goal.put_program-requires-clause-outside
+put_program-requires-clause-outside c = ap is_in_scope c.in_ok-d.ensures.leaves.same ∙ c.requires.outside
+
+pub put_program-requires-clause-free : goal.put_program-requires-clause-free
+put_program-requires-clause-free c =
+    let name = ap (λ (d : Program). d.name) c.in_ok-d.ensures.read in
+    subst (λ (k : Kept). IsFree k c.in_ok-d.d.name) (sym c.in_ok-d.ensures.leaves.signature) (subst (λ (n : List ℕ). IsFree c.args.self.now.signature n) (sym name) c.requires.free)
+
+pub put_program-requires-clause-only : goal.put_program-requires-clause-only
+put_program-requires-clause-only c =
+    subst (λ (d : Program). HoldsOnly (program_trees d) c.carry_program.new.self) (sym c.in_ok-d.ensures.read) c.in_ok-d.ensures.leaves.only
+
+pub returns-clause-does : goal.returns-clause-does
+returns-clause-does c =
+    does-same _ _ c.put_program.result c.put_program.new.self (λ i. checked_program (sym c.in_ok-d.ensures.leaves.same i) (sym c.in_ok-d.ensures.read i)) c.put_program.ensures.does

@@ -1,0 +1,29 @@
+use Rattle.std.proofs.Common.{◌≡◌, true, ℕ, List, ◌∷◌, length, sym, subst, ap, ◌∙◌, Contains}
+use Rattle.eo_sig.specs.Reading.{Kept, read_rule, IsFreeRule}
+use Rattle.eo_sig.specs.Signature.{Rule}
+use Rattle.eo_term.specs.Tree.{Tree}
+use Rattle.eo_session.specs.Held.{HoldsOnly, next_constant}
+use Rattle.eo_session.specs.Roots.{rule_trees}
+use Rattle.eo_session.specs.State.{State, is_in_scope}
+use Rattle.eo_session.specs.Step.{checked_rule}
+use Rattle.eo_session.proofs.Adding.{does-same}
+use Rattle.eo_session.proofs.held.Held.add_rule.Goals as goal
+
+pub put_rule-requires-clause-whole : goal.put_rule-requires-clause-whole
+put_rule-requires-clause-whole c = c.in_ok-d.ensures.leaves.whole
+
+pub put_rule-requires-clause-outside : goal.put_rule-requires-clause-outside
+put_rule-requires-clause-outside c = ap is_in_scope c.in_ok-d.ensures.leaves.same ∙ c.requires.outside
+
+pub put_rule-requires-clause-free : goal.put_rule-requires-clause-free
+put_rule-requires-clause-free c =
+    let name = ap (λ (d : Rule). d.name) c.in_ok-d.ensures.read in
+    subst (λ (k : Kept). IsFreeRule k c.in_ok-d.d.name) (sym c.in_ok-d.ensures.leaves.signature) (subst (λ (n : List ℕ). IsFreeRule c.args.self.now.signature n) (sym name) c.requires.free)
+
+pub put_rule-requires-clause-only : goal.put_rule-requires-clause-only
+put_rule-requires-clause-only c =
+    subst (λ (d : Rule). HoldsOnly (rule_trees d) c.carry_rule.new.self) (sym c.in_ok-d.ensures.read) c.in_ok-d.ensures.leaves.only
+
+pub returns-clause-does : goal.returns-clause-does
+returns-clause-does c =
+    does-same _ _ c.put_rule.result c.put_rule.new.self (λ i. checked_rule (sym c.in_ok-d.ensures.leaves.same i) (sym c.in_ok-d.ensures.read i)) c.put_rule.ensures.does

@@ -1,0 +1,46 @@
+use Rattle.std.proofs.Common.{◌≡◌, ℕ, refl, length, sym, subst, ap, ◌∙◌, Contains}
+use Rattle.std.specs.Prelude.{Ok}
+use Rattle.eo_sig.specs.declared.records.ConstDecl.{ConstDecl}
+use Rattle.eo_sig.specs.declared.records.Declared.TheVariants as declared
+use Rattle.eo_sig.specs.Reading.{read_rule, signature}
+use Rattle.eo_sig.specs.Signature.{IsRule, rule_fault}
+use Rattle.eo_term.specs.Terms.{IsMark}
+use Rattle.eo_session.specs.Held.{state_of, IsWhole}
+use Rattle.eo_session.specs.State.{with_entry}
+use Rattle.eo_session.proofs.Adding.{no_fault-fails, no_fault-passes, does-sig}
+use Rattle.eo_session.proofs.Holding.{state_entry, whole_entry}
+use Rattle.eo_session.proofs.Reclaiming.{whole_put_entry}
+use Rattle.eo_session.proofs.held.Held.put_rule.Goals as goal
+
+pub returns-in_err-add_rule-clause-does : goal.returns-in_err-add_rule-clause-does
+returns-in_err-add_rule-clause-does c =
+    let ts = c.args.self.now.table.trees in
+    let e = IsRule (read_rule ts c.args.d) in
+    let st = state_of c.args.self.now in
+    let fault = rule_fault (signature ts c.args.self.now.signature) (read_rule ts c.args.d) in
+    does-sig ℕ _ fault c.from_residual.result c.in_err-add_rule.field-0.0 _ c.from_residual.ensures.1 c.in_err-add_rule.ensures.tells (no_fault-fails fault (λ _. Ok (with_entry st e)))
+
+pub returns-clause-whole : goal.returns-clause-whole
+returns-clause-whole c =
+    let h = c.args.self.now in
+    let ts = h.table.trees in
+    let w = c.requires.whole.held in
+    let told = c.in_ok-add_rule.ensures in
+    let e = IsRule (read_rule ts c.args.d) in
+    let below = told.below (length ts) w.signature c.requires.below in
+    let adds = told.adds.adds ts in
+    let held = whole_entry h w c.add_rule.new.self below e adds (told.usable ts c.requires.ordered) tt in
+    let at = c.mark-self.ensures.mark in
+    subst (λ (k : ℕ × ℕ). IsWhole (record h { signature = c.add_rule.new.self; kept = k })) (sym at)
+    (whole_put_entry h c.requires.whole c.growth_law.ensures.stays (subst (IsMark h.table) at c.mark-self.ensures.holds) c.requires.outside c.add_rule.new.self (declared.Rule c.args.d) told.kept held (state_entry h w c.add_rule.new.self below e adds) (λ d is. absurd cc) c.requires.only)
+
+pub returns-clause-does : goal.returns-clause-does
+returns-clause-does c =
+    let h = c.args.self.now in
+    let ts = h.table.trees in
+    let told = c.in_ok-add_rule.ensures in
+    let e = IsRule (read_rule ts c.args.d) in
+    let fault = rule_fault (signature ts h.signature) (read_rule ts c.args.d) in
+    let below = told.below (length ts) c.requires.whole.held.signature c.requires.below in
+    no_fault-passes fault (λ _. Ok (with_entry (state_of h) e)) told.tells
+    ∙ ap Ok (sym (state_entry h c.requires.whole.held c.add_rule.new.self below e (told.adds.adds ts)))

@@ -1,0 +1,15 @@
+use Rattle.eo_session.proofs.laws.layers_law.Goals as goal
+
+pub returns : goal.returns
+returns c = record {
+  equals = c.equality_law.ensures.trees;
+  rules = c.ordering_law.ensures.rules;
+  macros = c.ordering_law.ensures.macros;
+  functions = c.reference_law.ensures.functions;
+  sorts = c.reference_law.ensures.sorts;
+  labels = c.reference_law.ensures.labels;
+  values = c.values_law.ensures;
+  concludes = c.conclusion_law.ensures.sound;
+  weakens = c.derivability_law.ensures.formulas;
+  lasts = c.derivability_law.ensures.signature;
+}

@@ -1,0 +1,32 @@
+use Rattle.std.proofs.Common.{refl, sym, ap, ◌∙◌}
+use Rattle.std.specs.Prelude.{Ok}
+use Rattle.eo_session.specs.Held.{state_of}
+use Rattle.eo_session.specs.Numbered.{origin_of}
+use Rattle.eo_session.specs.Commands.{step}
+use Rattle.eo_session.specs.Stepping.{Standing}
+use Rattle.eo_session.specs.State.{State}
+use Rattle.eo_session.proofs.Sessions.{step-fault, step-ok}
+use Rattle.eo_session.proofs.Dispatch.{steps-refused}
+use Rattle.eo_session.proofs.session.Session.command.Goals as goal
+
+pub returns-in-Ok-clause-steps : goal.returns-in-Ok-clause-steps
+returns-in-Ok-clause-steps c =
+    let same = sym c.self.view_is in
+    let from = origin_of c.args.from in
+    let s = c.args.s.now in
+    let new : State = state_of c.run_command.new.held in (
+      ap (λ (x : Standing). x.ended) same ∙ c.if-self.false,
+      ap (λ (x : Standing). step x.state from s) same ∙ step-ok (state_of c.self.inside.held) from s new c.in-Ok.next c.in-Ok.ensures.does ∙ (λ i. Ok (record new { commands = sym c.saturating_add-self-inside.ensures i }, c.in-Ok.next)),
+      c.if-self.false,
+    )
+
+pub returns-in-Err-clause-steps : goal.returns-in-Err-clause-steps
+returns-in-Err-clause-steps c =
+    let same = sym c.self.view_is in
+    let from = origin_of c.args.from in
+    let s = c.args.s.now in
+    steps-refused c.in-Err.e _ _ c.args.self.now _ (ap (λ (x : Standing). x.ended) same ∙ c.if-self.false) refl c.in-Err.ensures.does
+    (λ name h. ap (λ (x : Standing). step x.state from s) same ∙ step-fault (state_of c.self.inside.held) from s name h)
+
+pub run_command-requires : goal.run_command-requires
+run_command-requires c = (c.self.invariant c.if-self.false).whole

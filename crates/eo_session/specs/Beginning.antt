@@ -1,0 +1,25 @@
+-- What is held before the first command.
+use Rattle.std.specs.Prelude.{◌≡◌, List, [], take}
+use Rattle.eo_proof.specs.Kept.{scopes}
+use Rattle.eo_proof.specs.Scopes.{no_facts}
+use Rattle.eo_sig.specs.Reading.{Kept, IsBelow, first_kept, signature}
+use Rattle.eo_sig.specs.Signature.{Signature, first_signature}
+use Rattle.eo_sig.specs.Usable.{IsUsable}
+use Rattle.eo_term.specs.Terms.{first_trees}
+use Rattle.eo_term.specs.Tree.{Tree}
+use Rattle.eo_type.specs.Known.{Fits, Lasts}
+use Rattle.eo_session.specs.declared.beginning.Tools.{Tools}
+
+-- a signature that declares only what stands first
+pub record IsFirstSignature (k : Kept) : Type 0 where
+  pub kept : k ≡ first_kept
+  pub read : (ts : List Tree) → take 4 ts ≡ first_trees → signature ts k ≡ first_signature
+  pub usable : (ts : List Tree) → take 4 ts ≡ first_trees → IsUsable (signature ts k)
+  pub below : IsBelow 4 k
+
+-- no type was found, nothing is asserted, and there are no facts
+pub record AreFirstTools (t : Tools) : Type 0 where
+  pub types : (S : Signature) (ts : List Tree) → Fits S ts t.types
+  pub lasts : Lasts t.types
+  pub assertions : t.assertions ≡ []
+  pub facts : (ts : List Tree) → scopes ts t.facts ≡ no_facts

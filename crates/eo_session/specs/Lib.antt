@@ -1,0 +1,16 @@
+pub mod Origin
+pub mod Numbered
+pub mod State
+pub mod Step
+pub mod Commands
+pub mod Stepping
+pub mod Asserting
+pub mod Held
+pub mod Roots
+pub mod Moving
+pub mod Beginning
+pub mod StateCode
+pub mod Using
+pub mod Layers
+pub mod Quiet
+pub mod Soundness

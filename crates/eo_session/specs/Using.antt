@@ -1,0 +1,81 @@
+-- What a session does with a step, with numbers of terms.
+use Rattle.std.specs.Prelude.{◌≡◌, ℕ, ◌<◌, true, List, length, All, Option, None, Some, Result, Ok, Err, option_map, option_to_list}
+use Rattle.std.specs.List.{list_all}
+use Rattle.eo_base.specs.Answers.{IsGiven}
+use Rattle.eo_base.specs.Checks.{Checked, ◌>>=◌}
+use Rattle.eo_eval.specs.Outcomes.{IsValueOf}
+use Rattle.eo_rule.specs.Reading.{AreValuesIn, UseBelow, read_use}
+use Rattle.eo_rule.specs.Uses.{Use, conclusion}
+use Rattle.eo_rule.specs.declared.RuleUse.{RuleUse}
+use Rattle.eo_shape.specs.Shapes.{StepShape}
+use Rattle.eo_sig.specs.Reading.{SomeBelow}
+use Rattle.eo_term.specs.Growth.{tree_in, trees_in}
+use Rattle.eo_term.specs.Terms.{Terms}
+use Rattle.eo_term.specs.Tree.{Tree, is_value}
+use Rattle.eo_session.specs.State.{State, without_scope}
+use Rattle.eo_session.specs.Step.{Concluded, concluded, is_sorry, with_conclusion}
+use Rattle.eo_session.specs.Stepping.{Refuses}
+use Rattle.eo_session.specs.declared.held.Held.{Held}
+use Rattle.eo_session.specs.declared.refused.Refused.{Refused}
+use Rattle.eo_session.specs.declared.steps.Conclusion.{Conclusion}
+
+-- ---- terms
+
+-- terms that are there, and are values
+pub record AreValueIds (t : Terms) (is : List ℕ) : Type 0 where
+  pub live : All (λ i. i < length t.trees) is
+  pub values : list_all is_value (trees_in t is) ≡ true
+
+-- the ids of the values that are found, or what refuses them
+abbrev pub GivesIds : Held → Result (List ℕ) Refused → Checked (List Tree) → Type 0
+GivesIds h (Ok is) m = IsGiven (AreValueIds h.table) (trees_in h.table) m is
+GivesIds h (Err e) m = Refuses m e
+
+-- the id of the term that is found, if one is
+abbrev pub GivesOptional : Held → Result (Option ℕ) Refused → Checked (Option Tree) → Type 0
+GivesOptional h (Ok o) m = IsGiven (SomeBelow (length h.table.trees)) (option_map (tree_in h.table)) m o
+GivesOptional h (Err e) m = Refuses m e
+
+-- ---- uses of rules
+
+-- no term, or one that is there and is a value
+pub record MayDischarge (t : Terms) (o : Option ℕ) : Type 0 where
+  pub live : SomeBelow (length t.trees) o
+  pub value : list_all is_value (option_to_list (option_map (tree_in t) o)) ≡ true
+
+-- What is given are terms that are there, and values.
+pub record IsUse (t : Terms) (u : RuleUse) : Type 0 where
+  pub live : UseBelow (length t.trees) u
+  pub values : AreValuesIn t u
+
+abbrev pub GivesUse : Held → Result RuleUse Refused → Checked Use → Type 0
+GivesUse h (Ok u) m = IsGiven (IsUse h.table) (read_use h.table.trees) m u
+GivesUse h (Err e) m = Refuses m e
+
+-- ---- conclusions
+
+abbrev pub read_conclusion : Terms → Conclusion → Concluded
+read_conclusion t k = record { formula = tree_in t k.formula; sorry = k.sorry }
+
+-- what is concluded is a value
+abbrev pub GivesConcluded : Held → Result Conclusion Refused → Checked Concluded → Type 0
+GivesConcluded h (Ok k) m = IsGiven (λ (k : Conclusion). IsValueOf h.table k.formula) (read_conclusion h.table) m k
+GivesConcluded h (Err e) m = Refuses m e
+
+-- what the rule of this number concludes from what is given
+abbrev pub concluded_from : State → ℕ → Use → Checked Concluded
+concluded_from st number given = do
+  f ← conclusion st.signature number given
+  Ok (record { formula = f; sorry = is_sorry st number })
+
+-- a step whose name is free
+abbrev pub conclusion_with : State → StepShape → Checked State
+conclusion_with st s = do
+  k ← concluded st None s
+  Ok (with_conclusion st s.name k)
+
+-- a step out of the innermost scope, which has this assumption. Its name is free outside
+abbrev pub conclusion_outside : State → Tree → StepShape → Checked State
+conclusion_outside st a s = do
+  k ← concluded st (Some a) s
+  Ok (with_conclusion (without_scope st) s.name k)

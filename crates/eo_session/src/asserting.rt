@@ -1,0 +1,185 @@
+//! What a reference file asserts.
+ghost use Rattle.std.specs.Prelude.{◌≡◌, ◌<◌, [], ◌∷◌, false, map, Ok, length, IfOk, OnOk};
+ghost use Rattle.eo_elab.specs.Worlds.{labels_in};
+ghost use Rattle.eo_names.specs.Names.{BindingsBelow};
+ghost use Rattle.eo_term.specs.Growth.{tree_in, IsTerm};
+ghost use Rattle.eo_session.specs.Asserting.{read_assertion, asserted_as, named_term, GivesAssertion, MayBeName, MayBeNames};
+ghost use Rattle.eo_session.specs.Held.{state_of, label_trees, IsHeld, IsWhole, HoldsOnly, Leaves, Keeps};
+ghost use Rattle.eo_session.specs.State.{is_in_scope, with_assertion, with_macro};
+ghost use Rattle.eo_session.specs.Step.{assert as asserted, label_macro, with_labels};
+ghost use Rattle.eo_session.specs.Stepping.{Does};
+
+use crate::Refused;
+use crate::held::Held;
+use crate::moving::{Handed, push_ids};
+use eo_base::Name;
+use eo_elab::{Locals, Names, reference_law, reference_term};
+use eo_sexp::Sexp;
+use eo_sig::{MacroDecl, Params, growth_law};
+use eo_term::Id;
+use std::alloc::{AllocError, Global};
+
+impl Held {
+    /// Asserts the value of a formula. Then the names that its terms give themselves are macros of
+    /// the reference file.
+    pub(crate) fn assert(&mut self, formula: &Sexp<'_>) -> Result<(), Refused>
+        requires whole { IsWhole self.old }
+        requires outside { is_in_scope (state_of self.old) ≡ false }
+        ensures whole { OnOk result (IsWhole self.new) }
+        ensures does { Does result (asserted (state_of self.old) formula.now) self.new }
+    {
+        reference_law();
+        let mut names = Names::new(self.alloc);
+        let id = self.read_assertion(formula, &mut names)?;
+        self.assert_as(id, &mut names)
+    }
+
+    // The formula of an assertion, and the names that its terms give themselves.
+    fn read_assertion(&mut self, s: &Sexp<'_>, names: &mut Names) -> Result<Id, Refused>
+        requires whole { IsWhole self.old }
+        requires none { names.old ≡ [] }
+        ensures gives { GivesAssertion self.new names.new result (read_assertion (state_of self.old) s.now) }
+        ensures below { BindingsBelow (length self.new.table.trees) names.new }
+        ensures keeps { Keeps self.old self.new }
+    {
+        let locals = Locals::new(self.alloc)?;
+        let id = reference_term(
+            self.alloc,
+            s,
+            &locals,
+            &self.signature,
+            &mut self.table,
+            true,
+            names,
+        )?;
+        Ok(id)
+    }
+
+    // Asserts the value of a formula, with names for some of its terms.
+    fn assert_as(&mut self, id: Id, names: &mut Names) -> Result<(), Refused>
+        requires whole { IsWhole self.old }
+        requires outside { is_in_scope (state_of self.old) ≡ false }
+        requires live { id < length self.old.table.trees }
+        requires below { BindingsBelow (length self.old.table.trees) names.old }
+        requires new { MayBeNames (state_of self.old) (labels_in self.old.table names.old) }
+        ensures whole { OnOk result (IsWhole self.new) }
+        ensures does { Does result
+            (asserted_as (state_of self.old) (tree_in self.old.table id) (labels_in self.old.table names.old)) self.new }
+    {
+        let value = self.formula_of(id)?;
+        let carried = self.carry_named(value, names)?;
+        self.put_asserted(carried, names)
+    }
+
+    // Carries a value and the terms of names, which are then those of the carried ones.
+    fn carry_named(&mut self, value: Id, names: &mut Names) -> Result<Id, AllocError>
+        requires whole { IsWhole self.old }
+        requires live { value < length self.old.table.trees }
+        requires below { BindingsBelow (length self.old.table.trees) names.old }
+        ensures leaves { OnOk result (Leaves self.old
+            (tree_in self.old.table value ∷ label_trees (labels_in self.old.table names.old)) self.new) }
+        ensures value { IfOk result (IsTerm self.new.table (tree_in self.old.table value)) }
+        ensures names { OnOk result (labels_in self.new.table names.new ≡ labels_in self.old.table names.old) }
+        ensures below { OnOk result (BindingsBelow (length self.new.table.trees) names.new) }
+    {
+        let ids = ids_with(self.alloc, value, names)?;
+        let mut left = self.carry_list(ids)?;
+        let carried = left.next();
+        set_terms(names, &mut left);
+        Ok(carried)
+    }
+
+    // A value is asserted, and names of terms are macros of the reference file. All are carried.
+    fn put_asserted(&mut self, value: Id, names: &Names) -> Result<(), Refused>
+        requires whole { IsWhole self.old }
+        requires outside { is_in_scope (state_of self.old) ≡ false }
+        requires live { value < length self.old.table.trees }
+        requires below { BindingsBelow (length self.old.table.trees) names.now }
+        requires new { MayBeNames (with_assertion (state_of self.old) (tree_in self.old.table value))
+            (labels_in self.old.table names.now) }
+        requires only { HoldsOnly (tree_in self.old.table value ∷ label_trees (labels_in self.old.table names.now)) self.old }
+        ensures whole { OnOk result (IsWhole self.new) }
+        ensures does { Does result
+            (Ok (with_labels (with_assertion (state_of self.old) (tree_in self.old.table value))
+            (labels_in self.old.table names.now))) self.new }
+    {
+        growth_law();
+        self.add_assertion(value)?;
+        self.add_names(names)?;
+        self.kept = self.table.mark();
+        Ok(())
+    }
+
+    // A value is asserted.
+    fn add_assertion(&mut self, value: Id) -> Result<(), Refused>
+        requires whole { IsHeld self.old }
+        requires live { value < length self.old.table.trees }
+        ensures whole { OnOk result (IsHeld self.new) }
+        ensures does { Does result (Ok (with_assertion (state_of self.old) (tree_in self.old.table value))) self.new }
+        ensures table { self.new.table ≡ self.old.table }
+    {
+        self.table.laws();
+        self.assertions.add(value)?;
+        Ok(())
+    }
+
+    // Names of terms are macros of the reference file.
+    fn add_names(&mut self, names: &Names) -> Result<(), Refused>
+        requires whole { IsHeld self.old }
+        requires below { BindingsBelow (length self.old.table.trees) names.now }
+        requires new { MayBeNames (state_of self.old) (labels_in self.old.table names.now) }
+        ensures whole { OnOk result (IsHeld self.new) }
+        ensures does { Does result (Ok (with_labels (state_of self.old) (labels_in self.old.table names.now))) self.new }
+        ensures table { self.new.table ≡ self.old.table }
+    {
+        for i in 0..names.len() {
+            let (name, tree) = names.get(i);
+            self.add_name(name, tree)?;
+        }
+        Ok(())
+    }
+
+    // The name of a term is a macro of the reference file.
+    fn add_name(&mut self, name: &[u8], tree: Id) -> Result<(), Refused>
+        requires whole { IsHeld self.old }
+        requires live { tree < length self.old.table.trees }
+        requires new { MayBeName (state_of self.old) (named_term self.old name.now tree) }
+        ensures whole { OnOk result (IsHeld self.new) }
+        ensures does { Does result (Ok (with_macro (state_of self.old) (label_macro (named_term self.old name.now tree)))) self.new }
+        ensures table { self.new.table ≡ self.old.table }
+    {
+        prove!(self.signature.is_free(name));
+        let d = MacroDecl {
+            name: Name::new(self.alloc, name)?,
+            params: Params::new(self.alloc),
+            tree,
+            from_reference: true,
+        };
+        self.signature.define(d)?;
+        Ok(())
+    }
+}
+
+// A term, and then those of names in order.
+fn ids_with(alloc: Global, id: Id, names: &Names) -> Result<Vec<Id>, AllocError>
+    ensures { IfOk result (λ v. v.items ≡ id ∷ map (λ b. b.1) names.now) }
+{
+    let terms = names.ids()?;
+    let mut ids = Vec::new(alloc);
+    ids.push(id)?;
+    push_ids(&terms, &mut ids)?;
+    Ok(ids)
+}
+
+// Puts terms in the places of those of names.
+fn set_terms(names: &mut Names, ids: &mut Handed)
+    requires { length ids.old ≡ length names.old }
+    ensures names { map (λ b. b.0) names.new ≡ map (λ b. b.0) names.old }
+    ensures terms { map (λ b. b.1) names.new ≡ ids.old }
+{
+    let count = names.len();
+    for i in 0..count {
+        let id = ids.next();
+        names.set(i, id);
+    }
+}

@@ -1,0 +1,156 @@
+//! Terms that are carried and given back.
+ghost use Rattle.std.specs.Prelude.{◌≡◌, ◌<◌, [], ◌∷◌, length, All, Contains, IfOk, OnOk};
+ghost use Rattle.eo_session.specs.Held.{state_of, next_constant, IsWhole, IsSettled, Leaves, Carries, Keeps};
+ghost use Rattle.eo_session.specs.Roots.{live_count, constant_trees, macro_trees, program_trees, rule_trees};
+ghost use Rattle.eo_sig.specs.Reading.{read_constant, read_macro, read_program, read_rule};
+ghost use Rattle.eo_sig.specs.Reading.{ConstBelow, MacroBelow, ProgramBelow, RuleBelow};
+ghost use Rattle.eo_term.specs.Growth.{IsTerm};
+
+use crate::held::Held;
+use crate::moving::{
+    Handed, moved_constant, moved_macro, moved_program, moved_rule, push_constant, push_macro,
+    push_program, push_rule,
+};
+use eo_sig::{ConstDecl, MacroDecl, ProgramDecl, RuleDecl, growth_law};
+use eo_term::{Id, Node, TermRefused};
+use std::alloc::AllocError;
+
+impl Held {
+    /// Gives back what a command made, but for what is kept.
+    pub(crate) fn release(&mut self)
+        requires { IsWhole self.old }
+        ensures settled { IsSettled self.new }
+        ensures same { state_of self.new ≡ state_of self.old }
+    {
+        growth_law();
+        self.types.forget(self.kept);
+        self.table.release(self.kept);
+        self.types.laws();
+    }
+
+    /// How many terms are alive, where all are.
+    pub(crate) fn live(&self) -> usize
+        requires { IsSettled self.now }
+        ensures { result ≡ live_count (state_of self.now) }
+    {
+        growth_law();
+        self.table.laws();
+        self.table.len()
+    }
+
+    /// Gives back what a command made, but for some terms, whose numbers are replaced by new ones.
+    pub(crate) fn carry(&mut self, ids: &mut [Id]) -> Result<(), AllocError>
+        requires whole { IsWhole self.old }
+        requires live { All (λ i. i < length self.old.table.trees) ids.old }
+        ensures { OnOk result (Carries self.old ids.old ids.new self.new) }
+    {
+        growth_law();
+        self.table.carry_all(self.kept, ids)?;
+        self.types.forget(self.kept);
+        self.types.laws();
+        Ok(())
+    }
+
+    /// Gives back what a command made, but for one term, and answers its new number.
+    pub(crate) fn carry_one(&mut self, id: Id) -> Result<Id, AllocError>
+        requires whole { IsWhole self.old }
+        requires live { id < length self.old.table.trees }
+        ensures { IfOk result (λ i. Carries self.old (id ∷ []) (i ∷ []) self.new) }
+    {
+        let mut ids = [id];
+        self.carry(&mut ids)?;
+        Ok(ids[0])
+    }
+
+    /// Gives back what a command made, but for the terms of a list, and hands them out by their new
+    /// numbers.
+    pub(crate) fn carry_list(&mut self, mut ids: Vec<Id>) -> Result<Handed, AllocError>
+        requires whole { IsWhole self.old }
+        requires live { All (λ i. i < length self.old.table.trees) ids.items }
+        ensures { IfOk result (λ left. Carries self.old ids.items left self.new) }
+    {
+        self.carry(ids.as_mut_slice())?;
+        Ok(Handed::new(ids))
+    }
+
+    /// Gives back what a command made, but for the terms of a constant, and the next constant.
+    pub(crate) fn carry_constant(&mut self, d: ConstDecl) -> Result<ConstDecl, AllocError>
+        requires whole { IsWhole self.old }
+        requires below { ConstBelow (length self.old.table.trees) d }
+        ensures leaves { OnOk result (Leaves self.old
+            (next_constant self.old ∷ constant_trees (read_constant self.old.table.trees d)) self.new) }
+        ensures read { IfOk result (λ e. read_constant self.new.table.trees e ≡ read_constant self.old.table.trees d) }
+        ensures below { IfOk result (ConstBelow (length self.new.table.trees)) }
+        ensures itself { OnOk result (Contains self.new.table.trees (next_constant self.old)) }
+    {
+        d.laws();
+        let constant = self.next_constant()?;
+        let mut ids = Vec::new(self.alloc);
+        ids.push(constant)?;
+        push_constant(&d, &mut ids)?;
+        let mut left = self.carry_list(ids)?;
+        left.next();
+        let moved = moved_constant(self.alloc, d, &mut left)?;
+        Ok(moved)
+    }
+
+    /// Gives back what a command made, but for the terms of a macro.
+    pub(crate) fn carry_macro(&mut self, d: MacroDecl) -> Result<MacroDecl, AllocError>
+        requires whole { IsWhole self.old }
+        requires below { MacroBelow (length self.old.table.trees) d }
+        ensures leaves { OnOk result (Leaves self.old (macro_trees (read_macro self.old.table.trees d)) self.new) }
+        ensures read { IfOk result (λ e. read_macro self.new.table.trees e ≡ read_macro self.old.table.trees d) }
+        ensures below { IfOk result (MacroBelow (length self.new.table.trees)) }
+    {
+        let mut ids = Vec::new(self.alloc);
+        push_macro(&d, &mut ids)?;
+        let mut left = self.carry_list(ids)?;
+        let moved = moved_macro(self.alloc, d, &mut left)?;
+        Ok(moved)
+    }
+
+    /// Gives back what a command made, but for the terms of a program.
+    pub(crate) fn carry_program(&mut self, d: ProgramDecl) -> Result<ProgramDecl, AllocError>
+        requires whole { IsWhole self.old }
+        requires below { ProgramBelow (length self.old.table.trees) d }
+        ensures leaves { OnOk result (Leaves self.old (program_trees (read_program self.old.table.trees d)) self.new) }
+        ensures read { IfOk result (λ e. read_program self.new.table.trees e ≡ read_program self.old.table.trees d) }
+        ensures below { IfOk result (ProgramBelow (length self.new.table.trees)) }
+    {
+        let mut ids = Vec::new(self.alloc);
+        push_program(&d, &mut ids)?;
+        let mut left = self.carry_list(ids)?;
+        let moved = moved_program(self.alloc, d, &mut left)?;
+        Ok(moved)
+    }
+
+    /// Gives back what a command made, but for the terms of a rule.
+    pub(crate) fn carry_rule(&mut self, d: RuleDecl) -> Result<RuleDecl, AllocError>
+        requires whole { IsWhole self.old }
+        requires below { RuleBelow (length self.old.table.trees) d }
+        ensures leaves { OnOk result (Leaves self.old (rule_trees (read_rule self.old.table.trees d)) self.new) }
+        ensures read { IfOk result (λ e. read_rule self.new.table.trees e ≡ read_rule self.old.table.trees d) }
+        ensures below { IfOk result (RuleBelow (length self.new.table.trees)) }
+    {
+        let mut ids = Vec::new(self.alloc);
+        push_rule(&d, &mut ids)?;
+        let mut left = self.carry_list(ids)?;
+        let moved = moved_rule(self.alloc, d, &mut left)?;
+        Ok(moved)
+    }
+
+    // The term of the constant that is declared next.
+    fn next_constant(&mut self) -> Result<Id, AllocError>
+        requires { IsWhole self.old }
+        ensures term { IfOk result (IsTerm self.new.table (next_constant self.old)) }
+        ensures keeps { Keeps self.old self.new }
+    {
+        growth_law();
+        let number = self.signature.constants();
+        match self.table.intern(Node::Con(number)) {
+            Ok(id) => Ok(id),
+            Err(TermRefused::Memory(e)) => Err(e),
+            Err(TermRefused::Tall) => unreachable!(),
+        }
+    }
+}

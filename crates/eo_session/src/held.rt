@@ -1,0 +1,185 @@
+//! What a session holds between two commands.
+ghost use Rattle.std.specs.Prelude.{◌≡◌, ◌<◌, [], ◌∷◌, false, Ok, not, length, IfOk, OnOk};
+ghost use Rattle.eo_term.specs.Growth.{tree_in};
+ghost use Rattle.eo_elab.specs.Meaning.{meaning};
+ghost use Rattle.eo_eval.specs.Outcomes.{IsValueOf};
+ghost use Rattle.eo_proof.specs.Scopes as proof;
+ghost use Rattle.eo_session.specs.Held.{state_of, IsWhole, Keeps, HoldsOnly};
+ghost use Rattle.eo_session.specs.State.{context, is_asserted, is_in_scope, with_fact};
+ghost use Rattle.eo_session.specs.Step.{is_free_fact, value, formula, assume as assumed};
+ghost use Rattle.eo_session.specs.Stepping.{GivesTerm, Does};
+
+use crate::Refused;
+use crate::marks::Marks;
+use eo_base::FaultName;
+use eo_elab::{Locals, term};
+use eo_eval::Evaluator;
+use eo_pattern::Subst;
+use eo_proof::Facts;
+use eo_ref::Reference;
+use eo_sexp::Sexp;
+use eo_sig::{Signature, growth_law, is_reserved};
+use eo_term::{Id, Mark, Table};
+use eo_type::Types;
+use std::alloc::Global;
+
+/// The number of the constant `Type`.
+pub(crate) const TYPE_CONSTANT: usize = 0;
+
+/// The number of the constant `Bool`.
+pub(crate) const BOOL_CONSTANT: usize = 1;
+
+/// What a session holds between two commands. All terms are those of the table.
+#[derive(Drop)]
+pub(crate) struct Held {
+    pub(crate) alloc: Global,
+    pub(crate) table: Table,
+    pub(crate) signature: Signature,
+    /// The types that were found.
+    pub(crate) types: Types,
+    pub(crate) evaluator: Evaluator,
+    /// The assignment by which rules are used.
+    pub(crate) subst: Subst,
+    /// What the reference file asserts.
+    pub(crate) assertions: Reference,
+    /// Whether there is a reference file.
+    pub(crate) has_reference: bool,
+    /// The facts, in scopes.
+    pub(crate) facts: Facts,
+    /// What was there before each open scope.
+    pub(crate) marks: Marks,
+    /// The mark of what is kept: the terms before it are exactly those that are alive, and those
+    /// behind it were made by the command that is running.
+    pub(crate) kept: Mark,
+    /// Whether a step used a rule that is marked as unproved.
+    pub(crate) sorry: bool,
+    /// Whether the proof may declare no rules and programs.
+    pub(crate) closed: bool,
+    /// How many commands were accepted, as far as it is counted.
+    pub(crate) commands: u64,
+}
+
+impl Held {
+    /// Adds a formula that is asserted to the facts, by a name that is free.
+    pub(crate) fn assume(&mut self, name: &[u8], formula: &Sexp<'_>) -> Result<(), Refused>
+        requires { IsWhole self.old }
+        ensures whole { OnOk result (IsWhole self.new) }
+        ensures does { Does result (assumed (state_of self.old) name.now formula.now) self.new }
+    {
+        if self.is_taken(name) {
+            return Err(Refused::Fault(FaultName::Redeclared));
+        }
+        let value = self.formula(formula)?;
+        if !self.has_reference {
+            return Err(Refused::Fault(FaultName::NoReference));
+        }
+        if !self.is_asserted(value) {
+            return Err(Refused::Fault(FaultName::NotAsserted));
+        }
+        self.add_fact(name, value)
+    }
+
+    /// Carries a value, and adds it to the facts of the innermost scope, by a name that no fact has.
+    pub(crate) fn add_fact(&mut self, name: &[u8], formula: Id) -> Result<(), Refused>
+        requires whole { IsWhole self.old }
+        requires value { IsValueOf self.old.table formula }
+        requires free { proof.is_live (state_of self.old).scopes name.now ≡ false }
+        ensures whole { OnOk result (IsWhole self.new) }
+        ensures does { Does result (Ok (with_fact (state_of self.old) name.now (tree_in self.old.table formula))) self.new }
+    {
+        let formula = self.carry_one(formula)?;
+        self.put_fact(name, formula)
+    }
+
+    // Adds a value that is carried to the facts.
+    fn put_fact(&mut self, name: &[u8], formula: Id) -> Result<(), Refused>
+        requires whole { IsWhole self.old }
+        requires value { IsValueOf self.old.table formula }
+        requires free { proof.is_live (state_of self.old).scopes name.now ≡ false }
+        requires only { HoldsOnly (tree_in self.old.table formula ∷ []) self.old }
+        ensures whole { OnOk result (IsWhole self.new) }
+        ensures does { Does result (Ok (with_fact (state_of self.old) name.now (tree_in self.old.table formula))) self.new }
+    {
+        growth_law();
+        self.facts.laws();
+        self.facts.add_new(name, formula)?;
+        self.kept = self.table.mark();
+        Ok(())
+    }
+
+    /// Whether `false` is a fact outside all scopes.
+    pub(crate) fn refutes(&self) -> bool
+        requires { IsWhole self.now }
+        ensures { result ≡ proof.has_false (state_of self.now).scopes }
+    {
+        self.table.laws();
+        self.facts.has_false()
+    }
+
+    /// Whether a scope is open.
+    pub(crate) fn is_in_scope(&self) -> bool
+        ensures { result ≡ is_in_scope (state_of self.now) }
+    {
+        self.facts.depth() != 0
+    }
+
+    /// Whether no fact may get the name: it is reserved, or a fact has it.
+    pub(crate) fn is_taken(&self, name: &[u8]) -> bool
+        ensures { not result ≡ is_free_fact (state_of self.now) name.now }
+    {
+        is_reserved(name) || self.has_fact(name)
+    }
+
+    // Whether a fact has the name.
+    fn has_fact(&self, name: &[u8]) -> bool
+        ensures { result ≡ proof.is_live (state_of self.now).scopes name.now }
+    {
+        match self.facts.find(name) {
+            Ok(_) => true,
+            Err(_) => false,
+        }
+    }
+
+    // Whether the reference file asserts the formula.
+    fn is_asserted(&self, formula: Id) -> bool
+        requires whole { IsWhole self.now }
+        requires live { formula < length self.now.table.trees }
+        ensures { result ≡ is_asserted (state_of self.now) (tree_in self.now.table formula) }
+    {
+        self.table.laws();
+        self.assertions.asserts(formula)
+    }
+
+    /// The value of a term, which is a formula.
+    pub(crate) fn formula(&mut self, s: &Sexp<'_>) -> Result<Id, Refused>
+        requires { IsWhole self.old }
+        ensures gives { GivesTerm self.new result (formula (state_of self.old) s.now) }
+        ensures value { IfOk result (IsValueOf self.new.table) }
+        ensures keeps { Keeps self.old self.new }
+    {
+        let id = self.meant(s)?;
+        self.formula_of(id)
+    }
+
+    /// The value of what a term means.
+    pub(crate) fn value(&mut self, s: &Sexp<'_>) -> Result<Id, Refused>
+        requires { IsWhole self.old }
+        ensures gives { GivesTerm self.new result (value (state_of self.old) s.now) }
+        ensures value { IfOk result (IsValueOf self.new.table) }
+        ensures keeps { Keeps self.old self.new }
+    {
+        let id = self.meant(s)?;
+        self.evaluate(id)
+    }
+
+    // What a term means.
+    fn meant(&mut self, s: &Sexp<'_>) -> Result<Id, Refused>
+        requires { IsWhole self.old }
+        ensures gives { GivesTerm self.new result (meaning (context (state_of self.old)) [] s.now) }
+        ensures keeps { Keeps self.old self.new }
+    {
+        let locals = Locals::new(self.alloc)?;
+        let id = term(self.alloc, s, &locals, &self.signature, &mut self.table)?;
+        Ok(id)
+    }
+}

@@ -1,0 +1,51 @@
+//! What holds of each command. A call costs nothing: it tells a proof what its clauses say.
+ghost use Rattle.std.specs.Prelude.{◌≡◌, ◌≢◌, Bool, true, false, None, Ok};
+ghost use Rattle.eo_rule.specs.Derivability.{Derives};
+ghost use Rattle.eo_sexp.specs.Sexp.{Sexp};
+ghost use Rattle.eo_term.specs.Tree.{truth};
+ghost use Rattle.eo_session.specs.Commands.{step};
+ghost use Rattle.eo_session.specs.Layers.{Layers};
+ghost use Rattle.eo_session.specs.Origin.{Origin, Signature};
+ghost use Rattle.eo_session.specs.Quiet.{IsQuiet};
+ghost use Rattle.eo_session.specs.Soundness.{IsSound};
+ghost use Rattle.eo_session.specs.State.{State, first_state, begin_reference, end_fault};
+ghost use Rattle.eo_session.specs.declared.Next.{Next};
+
+use eo_elab::{ordering_law, reference_law};
+use eo_eval::values_law;
+use eo_rule::{conclusion_law, derivability_law};
+use eo_term::equality_law;
+
+/// A law: what each command that is accepted keeps.
+///
+/// Where no step used a rule that is marked as unproved, each fact of a scope is derivable from the
+/// assertions and from the assumptions of that scope and of the scopes around it. So it is before
+/// the first command, and the beginning of a reference file and each command keep it. Where then
+/// nothing is wrong at the end, `false` is derivable from the assertions.
+///
+/// A command leaves whether the session is closed. In a closed one a command of the proof or of a
+/// reference file declares no program and no rule.
+pub fn commands_law()
+    ensures first { (closed : Bool) → IsSound (first_state closed) }
+    ensures begin { (st new : State) → IsSound st → begin_reference st ≡ Ok new → IsSound new }
+    ensures command { (st : State) (from : Origin) (s : Sexp) (r : State × Next) → IsSound st → step st from s ≡ Ok r → IsSound r.0 }
+    ensures end { (st : State) → IsSound st → end_fault st ≡ None → st.sorry ≡ false →
+        Derives st.signature st.assertions (truth false) }
+    ensures closed { (st : State) (from : Origin) (s : Sexp) (r : State × Next) → step st from s ≡ Ok r → r.0.closed ≡ st.closed }
+    ensures quiet { (st : State) (from : Origin) (s : Sexp) (r : State × Next) → st.closed ≡ true → from ≢ Signature →
+        step st from s ≡ Ok r → IsQuiet st r.0 }
+{
+    layers_law();
+}
+
+// What the layers below say, as one fact.
+fn layers_law()
+    ensures { Layers }
+{
+    equality_law();
+    ordering_law();
+    reference_law();
+    values_law();
+    conclusion_law();
+    derivability_law();
+}

@@ -1,0 +1,52 @@
+//! A session: what is declared, asserted and known between two commands, and what each command does.
+//!
+//! A reference file, which is an SMT-LIB benchmark, asserts formulas. A proof declares constants,
+//! macros, programs and rules, assumes terms, which are evaluated, and derives others by rules, in
+//! scopes.
+#![tactic(auto)]
+
+mod asserting;
+mod beginning;
+mod carrying;
+mod declaring;
+mod evaluating;
+mod held;
+mod laws;
+mod marks;
+mod moving;
+mod naming;
+mod premises;
+mod refused;
+mod rules;
+mod scopes;
+mod session;
+mod steps;
+
+use eo_base::Text;
+pub use laws::commands_law;
+pub use refused::Refused;
+pub use session::{EndAnswer, Session};
+
+/// The file that a command stands in, by its number in the table of paths.
+#[derive(Clone, Copy, Debug, PartialEq, Eq)]
+pub enum Origin {
+    /// A signature, or a file that it includes.
+    Signature(usize),
+    /// The proof, or a file that it includes.
+    Proof(usize),
+    /// A reference file.
+    Reference(usize),
+}
+
+/// What is done behind a command, before the next one.
+#[derive(Debug, Drop)]
+pub enum Next {
+    /// Nothing.
+    Done,
+    /// The file with this path, seen from the file of the command, is included.
+    Include(Text),
+    /// The file with this path is the reference file.
+    Reference(Text),
+    /// The file ends.
+    Exit,
+}

@@ -1,0 +1,361 @@
+//! A run between two commands.
+ghost use Rattle.std.specs.Prelude.{◌≡◌, ◌≢◌, false, true, not, ◌||◌, IfOk, Err, OnOk};
+ghost use Rattle.eo_base.specs.declared.FaultName.TheVariants.{FileAbsent};
+ghost use Rattle.eo_session.specs.declared.refused.Refused.TheVariants.{Fault};
+ghost use Rattle.eo_session.specs.Held.{state_of, IsWhole, IsSettled};
+ghost use Rattle.eo_session.specs.Roots.{live_count};
+ghost use Rattle.eo_session.specs.Numbered.{origin_of, number_of};
+ghost use Rattle.eo_session.specs.State.{first_state, begin_reference, end_fault, is_in_scope};
+ghost use Rattle.eo_names.specs.Scopes.{read_setting};
+ghost use Rattle.eo_session.specs.Step.{is_in_proof, is_in_reference, setting_of};
+ghost use Rattle.eo_session.specs.Commands.{by_command, scoped_command, placed_command, uncounted, step};
+ghost use Rattle.eo_session.specs.Commands as definition;
+ghost use Rattle.eo_shape.specs.Reading.{read_command};
+ghost use Rattle.eo_session.specs.Stepping.{Does, DoesNext, Steps, StepsTo, EndsWith};
+
+use crate::held::Held;
+use crate::{Next, Origin, Refused};
+use eo_base::FaultName;
+use eo_elab::Setting;
+use eo_sexp::Sexp;
+use eo_shape::{Command, command_of};
+use std::alloc::{AllocError, Global};
+use std::marker::Model;
+
+impl Origin {
+    /// Whether it is the proof, or a file that it includes.
+    pub(crate) fn is_proof(self) -> bool
+        ensures { result ≡ is_in_proof (origin_of self) }
+    {
+        match self {
+            Origin::Signature(_) => false,
+            Origin::Proof(_) => true,
+            Origin::Reference(_) => false,
+        }
+    }
+
+    /// Whether it is a reference file.
+    pub(crate) fn is_reference(self) -> bool
+        ensures { result ≡ is_in_reference (origin_of self) }
+    {
+        match self {
+            Origin::Signature(_) => false,
+            Origin::Proof(_) => false,
+            Origin::Reference(_) => true,
+        }
+    }
+
+    /// What may stand in it.
+    pub(crate) fn setting(self) -> Setting
+        ensures { read_setting result ≡ setting_of (origin_of self) }
+    {
+        match self {
+            Origin::Signature(_) => Setting::Proof,
+            Origin::Proof(_) => Setting::Proof,
+            Origin::Reference(_) => Setting::Reference,
+        }
+    }
+
+    /// The number of the file in the table of paths.
+    pub fn file(self) -> usize
+        ensures { result ≡ number_of self }
+    {
+        match self {
+            Origin::Signature(file) => file,
+            Origin::Proof(file) => file,
+            Origin::Reference(file) => file,
+        }
+    }
+
+    /// The same with the number of another file.
+    pub fn in_file(self, file: usize) -> Origin
+        ensures same { origin_of result ≡ origin_of self }
+        ensures file { number_of result ≡ file }
+    {
+        match self {
+            Origin::Signature(_) => Origin::Signature(file),
+            Origin::Proof(_) => Origin::Proof(file),
+            Origin::Reference(_) => Origin::Reference(file),
+        }
+    }
+}
+
+/// What the check at the end of a proof answers.
+#[derive(Clone, Copy, Debug, PartialEq, Eq)]
+pub enum EndAnswer {
+    /// `false` is a fact, and every step used a proved rule.
+    Correct,
+    /// `false` is a fact, and a step used a rule that is marked as unproved.
+    Incomplete,
+    /// What is wrong.
+    Fault(FaultName),
+}
+
+/// What is declared, asserted and assumed between two commands of a check.
+///
+/// Once a call is refused, or there was no memory for it, the session is ended, and each later call
+/// is refused too.
+#[derive(Drop)]
+pub struct Session {
+    held: Held,
+    ended: bool,
+}
+
+impl Model for Session {
+    ghost use Rattle.std.specs.Prelude.{◌≡◌, false};
+    ghost use Rattle.eo_session.specs.Held.{state_of, IsSettled};
+    ghost use Rattle.eo_session.specs.StateCode.{standing_code};
+    ghost use Rattle.eo_session.specs.Stepping.{Standing};
+
+    ghost Value = { Standing };
+
+    ghost coded = { standing_code };
+
+    ghost view = { λ a. record { ended = a.ended; state = state_of a.held } };
+
+    ghost invariant = { λ a. a.ended ≡ false → IsSettled a.held };
+}
+
+impl Session {
+    /// A session in which only `Type`, `Bool`, `true` and `false` are declared, without a reference
+    /// file. `closed` says that the proof may declare no rules and programs.
+    pub fn new(alloc: Global, closed: bool) -> Result<Session, AllocError>
+        ensures { IfOk result (λ s. s ≡ record { ended = false; state = first_state closed }) }
+    {
+        let held = Held::new(alloc, closed)?;
+        Ok(Session { held, ended: false })
+    }
+
+    /// Begins the reference file.
+    ///
+    /// `SecondReference`: there is one. `Ended`: the session is ended.
+    pub fn begin_reference(&mut self) -> Result<(), Refused>
+        ensures steps { Steps result (begin_reference self.old.state) self.old self.new }
+    {
+        if self.ended {
+            return Err(Refused::Ended);
+        }
+        if self.held.has_reference {
+            self.ended = true;
+            return Err(Refused::Fault(FaultName::SecondReference));
+        }
+        self.held.has_reference = true;
+        Ok(())
+    }
+
+    /// Checks a command, and does what it says. A fault is that of the command's shape
+    /// (`BadCommand`, `UnknownCommand`), then `InScope`: a scope is open, and the command is none
+    /// of `define`, `assume-push`, `step` and `step-pop`; and then the first of its own checks, in
+    /// this order:
+    ///
+    /// - `declare-const`, `declare-fun`, `declare-sort`: `Redeclared`; the terms; `BadPattern`; the
+    ///   evaluation of the type, whose value is what is declared; `IllTyped`: the type of the value
+    ///   is not `Type`, or `NumberRange`, `TermHeight`; `Redeclared`: another constant than that of
+    ///   the reference file.
+    /// - `declare-parameterized-const`: `Redeclared`; `Parameters`; the terms; `TermHeight`;
+    ///   `BadPattern`; `UnboundParam`.
+    /// - `declare-consts`: `Redeclared`: the class has a type; the term; `BadPattern`.
+    /// - `define`: `Redeclared`; `Parameters`; the terms; `Redeclared`: another macro than that of
+    ///   the reference file.
+    /// - `program`: `ProofDeclares`: the session is closed, and the command stands in the proof;
+    ///   `Redeclared`; `Parameters`; the terms; `BadPattern`: a pattern holds an operator;
+    ///   `UnboundParam`: a body uses a parameter that the patterns of its case lack.
+    /// - `declare-rule`: `ProofDeclares`, as of `program`; `Redeclared`: a rule has the name, or it
+    ///   is reserved; `Parameters`; the terms; `BadPattern`: a pattern holds an operator, or nothing
+    ///   joins the premises; `UnboundParam`: the requirements or the conclusion use a parameter that
+    ///   gets no value.
+    /// - `assume`: `Redeclared`: a fact has the name, or it is reserved; the term; its evaluation,
+    ///   whose value is the formula; `IllTyped`, `NumberRange`, `TermHeight`: it has no type that is
+    ///   a value; `NotBool`: its type is not `Bool`; `NoReference`; `NotAsserted`.
+    /// - `assume-push`: `ScopeDepth`: 1,000 scopes are open; `Redeclared` and the formula, as of
+    ///   `assume`.
+    /// - `step`: `Redeclared`, as of `assume`; `UnknownRule`: no rule has the name;
+    ///   `UnknownPremise`: no fact has the name of a premise; the value of the formula that is
+    ///   stated; those of the arguments; a fault of the rule's use ([`eo_rule::conclude`]).
+    /// - `step-pop`: `NoScope`: no scope is open; `Redeclared`: a fact outside the innermost scope
+    ///   has the name, or it is reserved; then as of `step`.
+    /// - `include`: `BadPath`: the path is not UTF-8.
+    /// - `reference`: `SecondReference`: there is a reference file; `BadPath`, as of `include`.
+    ///
+    /// In a reference file, whose commands are others (SMT-LIB 2.6, section 4.2 "Commands"):
+    ///
+    /// - `declare-const`, `declare-fun`, `declare-sort`: as above.
+    /// - `define-fun`: as of `define`; its type is read before its body.
+    /// - `define-sort`: as of `define`.
+    /// - `assert`: the term, where a name that a term gives itself and that may not be declared is
+    ///   `Redeclared`; its evaluation, whose value is what is asserted; `IllTyped`, `NumberRange`,
+    ///   `TermHeight`, `NotBool`, as of `assume`. Then the names are macros of the reference file.
+    /// - `exit`: nothing behind it is read. The other commands say nothing.
+    ///
+    /// The faults of a term are those that [`eo_elab::term`] answers. An evaluation has one fault,
+    /// which says how it ends ([`eo_eval::Evaluator::evaluate`]):
+    ///
+    /// - `Stuck`: it has no value.
+    /// - `EvalDepth`: more than 1000 calls of programs are open at once.
+    /// - `EvalCalls`: more than 1,000,000 different calls are begun.
+    /// - `NumberRange`: a number is out of range.
+    /// - `TermHeight`: a term is too tall.
+    ///
+    /// It answers what is done before the next command: a file that the command names is opened, or
+    /// the file of the command ends, which is no part of this call.
+    ///
+    /// `Ended`: an earlier call was refused. `Memory`: want of memory.
+    pub fn command(&mut self, s: &Sexp<'_>, from: Origin) -> Result<Next, Refused>
+        ensures steps { StepsTo result (step self.old.state (origin_of from) s.now) self.old self.new }
+        ensures present { result ≢ Err (Fault FileAbsent) }
+    {
+        if self.ended {
+            return Err(Refused::Ended);
+        }
+        match run_command(&mut self.held, s, from) {
+            Ok(next) => {
+                self.held.commands = self.held.commands.saturating_add(1);
+                Ok(next)
+            }
+            Err(e) => {
+                self.ended = true;
+                Err(e)
+            }
+        }
+    }
+
+    /// The check at the end of a proof, in a session that is not ended: `ScopeOpen` where a scope
+    /// is open, then `NoReference` where there is no reference file, and then `NoRefutation` where
+    /// `false` is no fact.
+    pub fn end(&self) -> EndAnswer
+        requires { self.now.ended ≡ false }
+        ensures { EndsWith (end_fault self.now.state) self.now.state.sorry result }
+    {
+        if self.held.is_in_scope() {
+            return EndAnswer::Fault(FaultName::ScopeOpen);
+        }
+        if !self.held.has_reference {
+            return EndAnswer::Fault(FaultName::NoReference);
+        }
+        if !self.held.refutes() {
+            return EndAnswer::Fault(FaultName::NoRefutation);
+        }
+        if self.held.sorry {
+            return EndAnswer::Incomplete;
+        }
+        EndAnswer::Correct
+    }
+
+    /// How many terms are alive, in a session that is not ended: the different subtrees of what is
+    /// declared and asserted and of the facts. The table holds no others.
+    pub fn live(&self) -> usize
+        requires { self.now.ended ≡ false }
+        ensures { result ≡ live_count self.now.state }
+    {
+        self.held.live()
+    }
+
+    /// How many commands were accepted, or 2^64 - 1 where there were more.
+    pub fn commands(&self) -> u64
+        ensures { result ≡ self.now.state.commands }
+    {
+        self.held.commands
+    }
+}
+
+// Checks a command, and does what it says.
+fn run_command(held: &mut Held, s: &Sexp<'_>, from: Origin) -> Result<Next, Refused>
+    requires { IsWhole held.old }
+    ensures settled { OnOk result (IsSettled held.new) }
+    ensures does { DoesNext result (uncounted (state_of held.old) (origin_of from) s.now) held.new }
+{
+    let command = command_of(s, from.is_reference())?;
+    let next = run_placed(held, &command, from)?;
+    held.release();
+    Ok(next)
+}
+
+// Does what a command says, and answers what is done next.
+fn run_placed(held: &mut Held, command: &Command<'_>, from: Origin) -> Result<Next, Refused>
+    requires { IsWhole held.old }
+    ensures whole { OnOk result (IsWhole held.new) }
+    ensures does { DoesNext result (placed_command (state_of held.old) (origin_of from) (read_command command.now)) held.new }
+{
+    run_scoped(held, command, from)?;
+    held.next_by(command)
+}
+
+// Does what a command says, where it may stand.
+fn run_scoped(held: &mut Held, command: &Command<'_>, from: Origin) -> Result<(), Refused>
+    requires { IsWhole held.old }
+    ensures whole { OnOk result (IsWhole held.new) }
+    ensures does { Does result (scoped_command (state_of held.old) (origin_of from) (read_command command.now)) held.new }
+{
+    if !may_stand(held, command) {
+        return Err(Refused::Fault(FaultName::InScope));
+    }
+    run_shape(held, command, from)
+}
+
+// Whether a command may stand here: no scope is open, or it may stand in one.
+fn may_stand(held: &Held, command: &Command<'_>) -> bool
+    ensures { result ≡ (not (is_in_scope (state_of held.now)) || definition.may_be_in_scope (read_command command.now)) }
+{
+    !held.is_in_scope() || may_be_in_scope(command)
+}
+
+// Whether a command may stand in a scope.
+fn may_be_in_scope(command: &Command<'_>) -> bool
+    ensures { result ≡ definition.may_be_in_scope (read_command command.now) }
+{
+    match command {
+        Command::Define { .. } => true,
+        Command::AssumePush { .. } => true,
+        Command::Step(_) => true,
+        Command::StepPop(_) => true,
+        _ => false,
+    }
+}
+
+// Does what a command says, which may stand here.
+fn run_shape(held: &mut Held, command: &Command<'_>, from: Origin) -> Result<(), Refused>
+    requires whole { IsWhole held.old }
+    requires stands { (not (is_in_scope (state_of held.old)) || definition.may_be_in_scope (read_command command.now)) ≡ true }
+    ensures whole { OnOk result (IsWhole held.new) }
+    ensures does { Does result (by_command (state_of held.old) (origin_of from) (read_command command.now)) held.new }
+{
+    match command {
+        Command::DeclareConst {
+            name,
+            ty,
+            attribute,
+        } => held.declare_const(from.setting(), name, ty, attribute),
+        Command::DeclareFun {
+            name,
+            inputs,
+            output,
+        } => held.declare_fun(from.setting(), name, inputs, output),
+        Command::DeclareSort { name, arity } => held.declare_sort(from.setting(), name, *arity),
+        Command::DeclareParameterized {
+            name,
+            params,
+            ty,
+            attribute,
+        } => held.declare_parameterized(name, params, ty, attribute),
+        Command::DeclareLiterals { class, ty } => held.declare_literals(*class, ty),
+        Command::Define { name, params, body } => held.define(name, params, body),
+        Command::Program(shape) => held.define_program(from, shape),
+        Command::DeclareRule(shape) => held.declare_rule(from, shape),
+        Command::Assume { name, formula } => held.assume(name, formula),
+        Command::AssumePush { name, formula } => held.assume_push(name, formula),
+        Command::Step(shape) => held.step(shape),
+        Command::StepPop(shape) => held.step_pop(shape),
+        Command::Include { .. } => Ok(()),
+        Command::Refer { .. } => Ok(()),
+        Command::DefineFun {
+            name,
+            params,
+            output,
+            body,
+        } => held.define_fun(name, params, output, body),
+        Command::DefineSort { name, params, ty } => held.define_sort(name, params, ty),
+        Command::Assert { formula } => held.assert(formula),
+        Command::Exit => Ok(()),
+        Command::Skip => Ok(()),
+    }
+}

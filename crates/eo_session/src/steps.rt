@@ -1,0 +1,184 @@
+//! Steps, which add what a rule concludes to the facts.
+ghost use Rattle.std.specs.Prelude.{◌≡◌, ◌<◌, length, true, Some, Ok, IfOk, option_map, OnOk};
+ghost use Rattle.eo_eval.specs.Outcomes.{IsValueOf};
+ghost use Rattle.eo_proof.specs.Scopes.{innermost_hypothesis};
+ghost use Rattle.eo_rule.specs.Answers.{GivesTerm as GivesConclusion};
+ghost use Rattle.eo_rule.specs.Reading.{AreValuesIn, UseBelow, conclusion_in, read_use};
+ghost use Rattle.eo_shape.specs.Reading.{read_step};
+ghost use Rattle.eo_sig.specs.Reading.{rules_of};
+ghost use Rattle.eo_term.specs.Growth.{tree_in};
+ghost use Rattle.eo_session.specs.Held.{state_of, IsWhole, Keeps};
+ghost use Rattle.eo_session.specs.Step as step;
+ghost use Rattle.eo_session.specs.Step.{step_plain, step_pop as popped, is_free_fact, is_free_outer_fact, with_conclusion};
+ghost use Rattle.eo_session.specs.Stepping.{Does};
+ghost use Rattle.eo_session.specs.Using.{MayDischarge, GivesConcluded, concluded_from, read_conclusion};
+ghost use Rattle.eo_session.specs.Using.{conclusion_with, conclusion_outside};
+
+use crate::Refused;
+use crate::held::Held;
+use eo_base::FaultName;
+use eo_rule::{RuleRefused, RuleUse, conclude};
+use eo_shape::StepShape;
+use eo_sig::is_reserved;
+use eo_term::Id;
+
+/// What a rule concludes.
+#[derive(Clone, Copy, Debug)]
+pub(crate) struct Conclusion {
+    /// The formula.
+    pub(crate) formula: Id,
+    /// Whether the rule is marked as unproved.
+    pub(crate) sorry: bool,
+}
+
+impl Held {
+    /// Adds what a rule concludes to the facts of the innermost scope, by a name that is free.
+    pub(crate) fn step(&mut self, shape: &StepShape<'_>) -> Result<(), Refused>
+        requires { IsWhole self.old }
+        ensures whole { OnOk result (IsWhole self.new) }
+        ensures does { Does result (step_plain (state_of self.old) (read_step shape.now)) self.new }
+    {
+        if self.is_taken(shape.name) {
+            return Err(Refused::Fault(FaultName::Redeclared));
+        }
+        self.step_free(shape)
+    }
+
+    /// Closes the innermost scope, and adds what a rule concludes from its assumption to the facts
+    /// around it, by a name that is free there.
+    pub(crate) fn step_pop(&mut self, shape: &StepShape<'_>) -> Result<(), Refused>
+        requires { IsWhole self.old }
+        ensures whole { OnOk result (IsWhole self.new) }
+        ensures does { Does result (popped (state_of self.old) (read_step shape.now)) self.new }
+    {
+        let Some(assumed) = self.facts.hypothesis() else {
+            return Err(Refused::Fault(FaultName::NoScope));
+        };
+        if !self.is_free_outside(shape.name) {
+            return Err(Refused::Fault(FaultName::Redeclared));
+        }
+        self.step_outside(assumed, shape)
+    }
+
+    // A step whose name is free.
+    fn step_free(&mut self, shape: &StepShape<'_>) -> Result<(), Refused>
+        requires whole { IsWhole self.old }
+        requires free { is_free_fact (state_of self.old) shape.now.name.now ≡ true }
+        ensures whole { OnOk result (IsWhole self.new) }
+        ensures does { Does result (conclusion_with (state_of self.old) (read_step shape.now)) self.new }
+    {
+        let concluded = self.concluded(None, shape)?;
+        self.add_conclusion(shape.name, concluded)
+    }
+
+    // A step out of the innermost scope, which has this assumption. Its name is free outside.
+    fn step_outside(&mut self, assumed: Id, shape: &StepShape<'_>) -> Result<(), Refused>
+        requires whole { IsWhole self.old }
+        requires live { assumed < length self.old.table.trees }
+        requires assumed { innermost_hypothesis (state_of self.old).scopes ≡ Some (tree_in self.old.table assumed) }
+        requires free { is_free_outer_fact (state_of self.old) shape.now.name.now ≡ true }
+        ensures whole { OnOk result (IsWhole self.new) }
+        ensures does { Does result
+            (conclusion_outside (state_of self.old) (tree_in self.old.table assumed) (read_step shape.now)) self.new }
+    {
+        let concluded = self.concluded(Some(assumed), shape)?;
+        self.close_scope();
+        self.add_conclusion(shape.name, concluded)
+    }
+
+    // Whether a fact may get the name once the innermost scope is closed: it is not reserved, and
+    // no fact outside has it.
+    fn is_free_outside(&self, name: &[u8]) -> bool
+        ensures { result ≡ is_free_outer_fact (state_of self.now) name.now }
+    {
+        !is_reserved(name) && self.facts.is_free_outside(name)
+    }
+
+    // Adds a conclusion to the facts, by a name that is free.
+    fn add_conclusion(&mut self, name: &[u8], concluded: Conclusion) -> Result<(), Refused>
+        requires whole { IsWhole self.old }
+        requires value { IsValueOf self.old.table concluded.formula }
+        requires free { is_free_fact (state_of self.old) name.now ≡ true }
+        ensures whole { OnOk result (IsWhole self.new) }
+        ensures does { Does result (Ok (with_conclusion (state_of self.old) name.now (read_conclusion self.old.table concluded))) self.new }
+    {
+        self.add_fact(name, concluded.formula)?;
+        self.sorry |= concluded.sorry;
+        Ok(())
+    }
+
+    // What a step's rule concludes, from the assumption that it discharges, if it does.
+    fn concluded(
+        &mut self,
+        assumed: Option<Id>,
+        shape: &StepShape<'_>,
+    ) -> Result<Conclusion, Refused>
+        requires whole { IsWhole self.old }
+        requires assumed { MayDischarge self.old.table assumed }
+        ensures gives { GivesConcluded self.new result
+            (step.concluded (state_of self.old) (option_map (tree_in self.old.table) assumed) (read_step shape.now)) }
+        ensures keeps { Keeps self.old self.new }
+    {
+        match self.signature.rule(shape.rule) {
+            Some(rule) => self.concluded_by(rule, assumed, shape),
+            None => Err(Refused::Fault(FaultName::UnknownRule)),
+        }
+    }
+
+    // What the rule of this number concludes.
+    fn concluded_by(
+        &mut self,
+        rule: usize,
+        assumed: Option<Id>,
+        shape: &StepShape<'_>,
+    ) -> Result<Conclusion, Refused>
+        requires whole { IsWhole self.old }
+        requires rule { rule < length (rules_of self.old.signature) }
+        requires assumed { MayDischarge self.old.table assumed }
+        ensures gives { GivesConcluded self.new result
+            (step.concluded_by (state_of self.old) rule (option_map (tree_in self.old.table) assumed) (read_step shape.now)) }
+        ensures keeps { Keeps self.old self.new }
+    {
+        let given = self.use_of(assumed, shape)?;
+        self.concluded_from(rule, &given)
+    }
+
+    // What the rule of this number concludes from what is given.
+    fn concluded_from(&mut self, rule: usize, given: &RuleUse) -> Result<Conclusion, Refused>
+        requires whole { IsWhole self.old }
+        requires rule { rule < length (rules_of self.old.signature) }
+        requires live { UseBelow (length self.old.table.trees) given.now }
+        requires values { AreValuesIn self.old.table given.now }
+        ensures gives { GivesConcluded self.new result
+            (concluded_from (state_of self.old) rule (read_use self.old.table.trees given.now)) }
+        ensures keeps { Keeps self.old self.new }
+    {
+        let formula = self.conclusion(rule, given)?;
+        let sorry = self.signature.rule_of(rule).sorry;
+        Ok(Conclusion { formula, sorry })
+    }
+
+    // The formula that the rule of this number concludes.
+    fn conclusion(&mut self, rule: usize, given: &RuleUse) -> Result<Id, RuleRefused>
+        requires whole { IsWhole self.old }
+        requires rule { rule < length (rules_of self.old.signature) }
+        requires live { UseBelow (length self.old.table.trees) given.now }
+        requires values { AreValuesIn self.old.table given.now }
+        ensures gives { GivesConclusion self.new.table result (conclusion_in self.old.signature self.old.table rule given.now) }
+        ensures value { IfOk result (IsValueOf self.new.table) }
+        ensures keeps { Keeps self.old self.new }
+    {
+        let formula = conclude(
+            self.alloc,
+            &self.signature,
+            &mut self.table,
+            &mut self.types,
+            &mut self.evaluator,
+            &mut self.subst,
+            rule,
+            given,
+        );
+        self.types.laws();
+        formula
+    }
+}

@@ -1,6 +1,0 @@
-//! Tests of a session (`eo_run`), in a crate of their own: with them in its own crate the layer would be
-//! proved once more.
-#![tactic(auto)]
-
-#[cfg(test)]
-mod tests;

@@ -1,0 +1,120 @@
+//! A session that is fed commands as texts.
+use eo_base::FaultName;
+use eo_session::{Origin, Refused, Session};
+use eo_sexp::{Collector, Fed, Sexp};
+use std::alloc::{AllocError, Global};
+use std::marker::Model;
+use std::test::Fail;
+
+/// The greatest number of bytes of a text.
+const TEXT: usize = 1_000;
+
+/// What a session answers.
+#[derive(Clone, Copy, Debug, PartialEq, Eq)]
+pub(super) enum Answer {
+    /// It is accepted, and so many terms are alive then.
+    Done(usize),
+    Fault(FaultName),
+    Ended,
+}
+
+/// A session.
+#[derive(Drop)]
+pub(super) struct Run {
+    alloc: Global,
+    session: Session,
+}
+
+impl Model for Run {
+    ghost use Rattle.std.specs.Prelude.{ℕ};
+
+    ghost Value = { ℕ };
+
+    ghost view = { λ a. 0 };
+}
+
+impl Run {
+    // Nothing is declared yet.
+    fn new(alloc: Global) -> Result<Run, AllocError> {
+        let session = Session::new(alloc, false)?;
+        Ok(Run { alloc, session })
+    }
+
+    /// The first row whose text, as a command of the proof, is answered in another way than the row
+    /// says, if one is.
+    pub(super) fn wrong(&mut self, rows: &[(&[u8], Answer)]) -> Result<Option<usize>, Fail> {
+        for i in 0..rows.len() {
+            let (text, want) = rows[i];
+            if self.answer(text)? != want {
+                return Ok(Some(i));
+            }
+        }
+        Ok(None)
+    }
+
+    // What the command of a text is answered.
+    fn answer(&mut self, text: &[u8]) -> Result<Answer, Fail> {
+        let Some(text) = read(self.alloc, text)? else {
+            return Err(Fail::new("no command"));
+        };
+        told(&mut self.session, &text)
+    }
+}
+
+/// What a function tells of a new session. It alone owns one: each way out of a function that does
+/// is dear to prove.
+pub(super) fn tell<T, F: FnOnce(&mut Run) -> Result<T, Fail>>(
+    alloc: Global,
+    f: F,
+) -> Result<T, Fail>
+    requires { F.IsAlwaysCallable f }
+{
+    let mut run = Run::new(alloc)?;
+    f(&mut run)
+}
+
+// What a session answers to the command of a text.
+fn told(session: &mut Session, text: &Text) -> Result<Answer, Fail> {
+    match session.command(&text.sexp(), Origin::Proof(0)) {
+        Ok(_) => Ok(Answer::Done(session.live())),
+        Err(Refused::Fault(name)) => Ok(Answer::Fault(name)),
+        Err(Refused::Ended) => Ok(Answer::Ended),
+        Err(Refused::Memory(e)) => Err(e.into()),
+    }
+}
+
+/// A text that is one list, read.
+#[derive(Drop)]
+struct Text {
+    collector: Collector,
+}
+
+impl Model for Text {
+    ghost use Rattle.std.specs.Prelude.{ℕ};
+    ghost use Rattle.eo_sexp.specs.Collecting.{IsAtCommand};
+
+    ghost Value = { ℕ };
+
+    ghost view = { λ a. 0 };
+
+    ghost invariant = { λ a. IsAtCommand a.collector };
+}
+
+impl Text {
+    fn sexp(&self) -> Sexp<'_> {
+        self.collector.command()
+    }
+}
+
+// The text, where it is one list.
+fn read(alloc: Global, text: &[u8]) -> Result<Option<Text>, AllocError> {
+    let mut collector = Collector::new(alloc, false)?;
+    let here = collector.here();
+    if here.offset > TEXT as u64 || text.len() > TEXT {
+        return Ok(None);
+    }
+    match collector.feed(text) {
+        Fed::Command { used: _ } => Ok(Some(Text { collector })),
+        _ => Ok(None),
+    }
+}
