@@ -16,7 +16,7 @@ use eo_base::Name;
 use eo_elab::{Locals, Names, reference_law, reference_term};
 use eo_sexp::Sexp;
 use eo_sig::{MacroDecl, Params, growth_law};
-use eo_term::Id;
+use eo_term::{Id, equality_law};
 use std::alloc::{AllocError, Global};
 
 impl Held {
@@ -103,6 +103,7 @@ impl Held {
             (Ok (with_labels (with_assertion (state_of self.old) (tree_in self.old.table value))
             (labels_in self.old.table names.now))) self.new }
     {
+        equality_law();
         growth_law();
         self.add_assertion(value)?;
         self.add_names(names)?;

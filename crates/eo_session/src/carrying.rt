@@ -12,7 +12,7 @@ use crate::moving::{
     push_program, push_rule,
 };
 use eo_sig::{ConstDecl, MacroDecl, ProgramDecl, RuleDecl, growth_law};
-use eo_term::{Id, Node, TermRefused};
+use eo_term::{Id, Node, TermRefused, equality_law};
 use std::alloc::AllocError;
 
 impl Held {
@@ -33,6 +33,7 @@ impl Held {
         requires { IsSettled self.now }
         ensures { result ≡ live_count (state_of self.now) }
     {
+        equality_law();
         growth_law();
         self.table.laws();
         self.table.len()

@@ -4,7 +4,6 @@ use Rattle.std.proofs.Math.Path.{transport}
 use Rattle.eo_base.proofs.ChecksLemmas.{ok_injective}
 use Rattle.eo_elab.specs.Worlds.{labels_in}
 use Rattle.eo_names.specs.Names.{BindingsBelow}
-use Rattle.eo_term.proofs.Equality.{tree_decides}
 use Rattle.eo_term.specs.Growth.{tree_in}
 use Rattle.eo_term.specs.Terms.{Terms, IsMark}
 use Rattle.eo_session.specs.Asserting.{MayBeNames}
@@ -39,7 +38,7 @@ returns-clause-whole c =
     let at = c.mark-self.ensures.mark in
     let mark = subst (λ (u : Terms). IsMark u (now u)) table (subst (IsMark new.table) at c.mark-self.ensures.holds) in
     subst (λ (k : ℕ × ℕ). IsWhole (record new { kept = k })) (sym at)
-    (whole_put_asserted h c.requires.whole c.growth_law.ensures.stays mark (λ x y. (tree_decides x y).0) c.requires.outside new two.whole table t labels st c.requires.only)
+    (whole_put_asserted h c.requires.whole c.growth_law.ensures.stays mark (λ x y. (c.equality_law.ensures.trees x y).0) c.requires.outside new two.whole table t labels st c.requires.only)
 
 pub returns-clause-does : goal.returns-clause-does
 returns-clause-does c =
