@@ -13,6 +13,9 @@ pair_local p = record { name = p.0; tree = p.1; list = false }
 abbrev pub variable : List ℕ × Tree → List ℕ × Tree
 variable p = (p.0, Var p.0 p.1)
 
+abbrev pub variables_of : List (List ℕ × Tree) → List Tree
+variables_of ps = map (λ (v : List ℕ × Tree). v.1) (map variable ps)
+
 -- the list of these variables, which another constant makes
 abbrev pub list_of : Signature → (Tree → Bool) → ℕ → List (List ℕ × Tree) → Reader Tree
 list_of S is_list collector vs = read (folded S is_list collector (map (λ v. v.1) vs)) >>= built

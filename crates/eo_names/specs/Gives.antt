@@ -24,14 +24,9 @@ use Rattle.eo_names.specs.Worlds.{World, Read, turns_in, turned_in, grouped_in, 
 abbrev pub AddsAll : (old new : Terms) → (before after : List ℕ) → Result (Unit {0}) TermRefused → List Tree → Type 0
 AddsAll old new before after r us = OrTall (λ (x : Unit {0}). AreTerms new (trees_in old before ++ us) after) (list_any is_tall us) r
 
--- variables of the same names in place of types
-pub record AreVariables (old new : Terms) (before after : List Binding) : Type 0 where
-  pub below : BindingsBelow (length new.trees) after
-  pub names : seen_in new after ≡ map variable (seen_in old before)
-
-abbrev pub BindsVariables : (old new : Terms) → (before after : List Binding) → Result (Unit {0}) TermRefused → Type 0
-BindsVariables old new before after r =
-    OrTall (λ (x : Unit {0}). AreVariables old new before after) (list_any is_tall (map (λ (v : List ℕ × Tree). v.1) (map variable (seen_in old before)))) r
+-- the ids of these variables
+abbrev pub MakesVariables : Terms → List ℕ → Result (Unit {0}) TermRefused → List Tree → Type 0
+MakesVariables t is r us = OrTall (λ (x : Unit {0}). AreTerms t us is) (list_any is_tall us) r
 
 -- what a term with an attribute makes of arguments, whatever folds what it joins
 pub record IsTurnBy (t : Terms) (o : (ℕ → List Tree → Checked Tree) → Checked Tree) (turn : Turn) : Type 0 where

@@ -50,3 +50,9 @@ abbrev pub with_term : List Binding → ℕ → ℕ → List Binding
 with_term [] i t = []
 with_term (b ∷ bs) zero t = (b.0, t) ∷ bs
 with_term (b ∷ bs) (suc i) t = b ∷ with_term bs i t
+
+-- other terms, in order
+abbrev pub with_terms : List Binding → List ℕ → List Binding
+with_terms [] is = []
+with_terms (b ∷ bs) [] = b ∷ bs
+with_terms (b ∷ bs) (i ∷ is) = (b.0, i) ∷ with_terms bs is

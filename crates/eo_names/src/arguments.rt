@@ -1,5 +1,5 @@
 //! What is made of arguments that were read.
-ghost use Rattle.std.specs.Prelude.{◌<◌, ◌≤◌, length, slice_get, All};
+ghost use Rattle.std.specs.Prelude.{◌≡◌, ◌<◌, ◌≤◌, length, slice_get, All, OnErr};
 ghost use Rattle.eo_base.specs.Limits.{parameters_limit};
 ghost use Rattle.eo_pattern.specs.Matching.{put};
 ghost use Rattle.eo_term.specs.Tree.{Op, to_trees};
@@ -30,7 +30,36 @@ use std::alloc::Global;
 /// - `BadArity`: a constant that is folded over them asks for more.
 /// - `Tall`: the term, or one that goes into it, is taller than the limit.
 /// - `Memory`: want of memory.
+///
+/// A refused call leaves the table as it was.
 pub fn use_arguments(
+    alloc: Global,
+    used: Use,
+    args: &[Id],
+    scope: &Scope<'_>,
+    sig: &SignatureView<'_>,
+    table: &mut Table,
+) -> Result<Id, ElabRefused>
+    requires ready { IsReady (length table.old.trees) sig.now (bound_in scope.now) }
+    requires args { All (λ a. a < length table.old.trees) args.now }
+    requires below { UseBelow (length table.old.trees) used }
+    requires suits { Suits used (length args.now) }
+    ensures gives { GivesTerm table.new result (made_in (world table.old sig.now scope.now) table.old used (trees_in table.old args.now)) }
+    ensures refused { OnErr result (table.new ≡ table.old) }
+    ensures grows { Grows table.old table.new }
+{
+    let mark = table.mark();
+    match use_or_leave(alloc, used, args, scope, sig, table) {
+        Ok(made) => Ok(made),
+        Err(e) => {
+            table.release(mark);
+            Err(e)
+        }
+    }
+}
+
+// The same, but that a refused call leaves the terms that it made.
+fn use_or_leave(
     alloc: Global,
     used: Use,
     args: &[Id],
@@ -64,7 +93,7 @@ fn use_plainly(alloc: Global, used: Use, args: &[Id], table: &mut Table) -> Resu
     match used {
         Use::Plainly(f) => apply_to_all(table, f, args),
         Use::Underscore => apply_to_all(table, args[0], &args[1..]),
-        Use::Arrow => function_type(table, args),
+        Use::Arrow => arrow_or_leave(table, args),
         Use::Fold(k) => apply_constant(table, k, args),
         Use::Bind { binder, .. } => apply_constant(table, binder, args),
         Use::Macro(tree) => put_in(alloc, tree, args, table),
@@ -85,8 +114,27 @@ fn apply_operator(table: &mut Table, code: OpCode, args: &[Id]) -> Result<Id, Te
 
 /// The function type of one or more types, of which the last is that of its values.
 ///
-/// `Tall`: the type is taller than the limit. `Memory`: want of memory.
+/// `Tall`: the type is taller than the limit. `Memory`: want of memory. A refused call leaves the
+/// table as it was.
 pub fn function_type(table: &mut Table, types: &[Id]) -> Result<Id, TermRefused>
+    requires types { All (λ a. a < length table.old.trees) types.now }
+    requires some { 1 ≤ length types.now }
+    ensures gives { Builds table.new result (arrow (trees_in table.old types.now)) }
+    ensures refused { OnErr result (table.new ≡ table.old) }
+    ensures grows { Grows table.old table.new }
+{
+    let mark = table.mark();
+    match arrow_or_leave(table, types) {
+        Ok(made) => Ok(made),
+        Err(e) => {
+            table.release(mark);
+            Err(e)
+        }
+    }
+}
+
+// The same, but that a refused call leaves the types that it made.
+fn arrow_or_leave(table: &mut Table, types: &[Id]) -> Result<Id, TermRefused>
     requires types { All (λ a. a < length table.old.trees) types.now }
     requires some { 1 ≤ length types.now }
     ensures gives { Builds table.new result (arrow (trees_in table.old types.now)) }

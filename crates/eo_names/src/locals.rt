@@ -6,7 +6,7 @@ ghost use Rattle.std.specs.List.{list_any};
 ghost use Rattle.eo_term.specs.Tree.{Tree, tree_eq};
 ghost use Rattle.eo_term.specs.Terms.{tree_at};
 ghost use Rattle.eo_names.specs.Contexts.{local_named, is_list};
-ghost use Rattle.eo_names.specs.Names.{local, read_locals, AreBelow, BindingsBelow, names_in, with_term, ReadsOneMore};
+ghost use Rattle.eo_names.specs.Names.{local, read_locals, AreBelow, BindingsBelow, names_in, with_term, with_terms, ReadsOneMore};
 ghost use Rattle.eo_names.specs.Names.{read_bindings, read_pairs};
 
 use eo_base::{Name, NameRef};
@@ -203,6 +203,16 @@ impl Bindings {
         *at = id;
     }
 
+    /// Puts these terms in the places of those that are there, in order. The names stay.
+    pub(crate) fn set_all(&mut self, ids: &[Id])
+        requires { length ids.now ≡ length self.old }
+        ensures { self.new ≡ with_terms self.old ids.now }
+    {
+        for (i, id) in ids.iter().enumerate() {
+            self.set(i, *id);
+        }
+    }
+
     /// Binds a name that is not bound. `Err` is want of memory, and the names stay as they are.
     pub fn push(&mut self, name: &[u8], id: Id) -> Result<(), AllocError>
         requires { names_in self.old name.now ≡ false }
@@ -214,6 +224,7 @@ impl Bindings {
         self.names.insert(key, id)?;
         Ok(())
     }
+
     /// Drops the names behind the first n.
     pub fn truncate(&mut self, n: usize)
         ensures { self.new ≡ take n self.old }

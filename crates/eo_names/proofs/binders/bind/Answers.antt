@@ -1,56 +1,25 @@
-use Rattle.std.proofs.Common.{◌≡◌, ℕ, ◌<◌, ◌≤◌, List, length, map, ap, sym, subst, ◌∙◌, arith, [], All}
-use Rattle.eo_base.proofs.Answering.{gives_fault, ok_always}
-use Rattle.eo_term.specs.Tree.{Tree}
-use Rattle.eo_term.specs.Growth.{trees_in}
-use Rattle.eo_names.specs.Binders.{variable}
-use Rattle.eo_names.specs.Folding.{attribute_at, least}
-use Rattle.eo_names.specs.Gives.{GivesTerm}
-use Rattle.eo_names.specs.Readers.{with_labels}
-use Rattle.eo_names.specs.Scopes.{bound_in}
-use Rattle.eo_names.specs.Worlds.{world, folded_in, bound_list_in, seen_in}
-use Rattle.eo_names.proofs.BinderLemmas.{list_few, list_tall, seen_list, ids_below, ids_trees, length_pairs}
-use Rattle.eo_names.proofs.BindingLemmas.{pairs_grown}
-use Rattle.eo_names.proofs.Giving.{labelled, tall_told}
+use Rattle.std.proofs.Common.{◌≡◌, length, ap, subst, sym, ◌∙◌}
+use Rattle.eo_names.specs.Names.{Binding, BindingsBelow, read_pairs, with_terms}
+use Rattle.eo_names.proofs.BinderLemmas.{all_terms, as_many, as_variables}
 use Rattle.eo_names.proofs.binders.bind.Goals as goal
 
-pub returns-then-len-least_of-clause-gives : goal.returns-then-len-least_of-clause-gives
-returns-then-len-least_of-clause-gives c =
-    let w = world c.args.table.now c.args.sig.now c.args.scope.now in
-    let ts = c.args.table.now.trees in
-    list_few w.names.signature w.locals c.args.collector (seen_in c.args.table.now c.args.names.now) (omega (arith, length_pairs ts c.args.names.now, c.least_of.ensures ts))
+pub set_all-requires : goal.set_all-requires
+set_all-requires c =
+    ap length c.as_slice.ensures ∙ as_many c.args.table.now.trees c.list_or_leave.new.table.trees c.args.names.now c.list_or_leave.new.variables c.in-Ok.ensures.variables.trees
 
-pub returns-in_err-make_variables-clause-gives : goal.returns-in_err-make_variables-clause-gives
-returns-in_err-make_variables-clause-gives c =
-    let w = world c.args.table.now c.args.sig.now c.args.scope.now in
-    let ts = c.args.table.now.trees in
-    let ps = seen_in c.args.table.now c.args.names.now in
-    let enough : least (attribute_at w.names.signature c.args.collector) ≤ length ps = omega (arith, length_pairs ts c.args.names.now, c.least_of.ensures ts) in
-    gives_fault _ _ _ _ _ _ c.from_residual.ensures.1
-    (tall_told c.in_err-make_variables.field-0.0 _ (bound_list_in w c.args.collector ps) (list_tall w.names.signature w.locals c.args.collector ps enough) c.in_err-make_variables.ensures.binds)
+pub returns-in-Ok-clause-below : goal.returns-in-Ok-clause-below
+returns-in-Ok-clause-below c =
+    let bs = c.args.names.now in
+    let is = c.list_or_leave.new.variables in
+    let made = c.in-Ok.ensures.variables in
+    let us = c.list_or_leave.new.table.trees in
+    let same : c.set_all.new.self ≡ with_terms bs is = c.set_all.ensures ∙ ap (with_terms bs) c.as_slice.ensures in
+    subst (BindingsBelow (length us)) (sym same) (all_terms bs is (as_many c.args.table.now.trees us bs is made.trees) (length us) made.live)
 
-pub fold_constant-requires-clause-args : goal.fold_constant-requires-clause-args
-fold_constant-requires-clause-args c =
-    let n = length c.make_variables.new.table.trees in
-    subst (λ is. All (λ i. i < n) is) (sym (c.as_slice.ensures ∙ c.in_ok-ids.ensures)) (ids_below n c.make_variables.new.names c.in_ok-make_variables.ensures.binds.below)
-
-pub returns-clause-names : goal.returns-clause-names
-returns-clause-names c =
-    let ts = c.make_variables.new.table.trees in
-    let us = c.fold_constant.new.table.trees in
-    let made = c.in_ok-make_variables.ensures.binds in
-    ok_always _ c.fold_constant.result (λ x. pairs_grown ts us (length ts) c.make_variables.new.names made.below c.fold_constant.ensures.grows.now.tree ∙ made.names)
-
-pub returns-clause-gives : goal.returns-clause-gives
-returns-clause-gives c =
-    let w = world c.args.table.now c.args.sig.now c.args.scope.now in
-    let next = c.make_variables.new.table in
-    let v = world next c.args.sig.now c.args.scope.now in
-    let collector = c.args.collector in
-    let ps = seen_in c.args.table.now c.args.names.now in
-    let same : v ≡ w = (c.names_law.ensures.stays c.args.sig.now (bound_in c.args.scope.now) c.args.table.now next c.requires.ready c.make_variables.ensures.grows).world in
-    let given = trees_in next c.as_slice.result.now in
-    let args : given ≡ map (λ (v : List ℕ × Tree). v.1) (map variable ps) =
-    ap (trees_in next) (c.as_slice.ensures ∙ c.in_ok-ids.ensures) ∙ ids_trees next.trees c.make_variables.new.names ∙ ap (map (λ (v : List ℕ × Tree). v.1)) c.in_ok-make_variables.ensures.binds.names in
-    let step : bound_list_in w collector ps ≡ with_labels [] (folded_in v collector given) =
-    seen_list w.names.signature w.locals collector ps ∙ ap (with_labels []) (sym (λ i. folded_in (same i) collector (args i))) in
-    subst (GivesTerm c.fold_constant.new.table c.fold_constant.result) (sym step) (labelled c.fold_constant.new.table c.fold_constant.result (folded_in v collector given) c.fold_constant.ensures.gives)
+pub returns-in-Ok-clause-names : goal.returns-in-Ok-clause-names
+returns-in-Ok-clause-names c =
+    let bs = c.args.names.now in
+    let is = c.list_or_leave.new.variables in
+    let us = c.list_or_leave.new.table.trees in
+    let same : c.set_all.new.self ≡ with_terms bs is = c.set_all.ensures ∙ ap (with_terms bs) c.as_slice.ensures in
+    ap (read_pairs us) same ∙ as_variables c.args.table.now.trees us bs is c.in-Ok.ensures.variables.trees

@@ -1,36 +1,62 @@
-use Rattle.std.proofs.Common.{◌≡◌, length, ap, sym, subst, ◌∙◌, arith, add-one, rules}
+use Rattle.std.proofs.Common.{◌≡◌, ◌+◌, ◌<◌, List, [], ◌∷◌, ◌++◌, length, map, All, drop, sym, subst, ◌∙◌, arith, rules}
 use Rattle.std.proofs.lemmas.Result.{err_from_is_err_and}
-use Rattle.eo_names.specs.Names.{read_pairs, BindingsBelow}
-use Rattle.eo_names.proofs.BinderLemmas.{turned, one_turned, all_turned, one_tall, length-with_term, with_term_below, length_pairs}
-use Rattle.eo_names.proofs.BindingLemmas.{pairs_grown, bindings_more}
+use Rattle.eo_base.proofs.Elements.{push_below}
+use Rattle.eo_term.specs.Tree.{Tree, Var, is_tall}
+use Rattle.eo_term.specs.Terms.{tree_at}
+use Rattle.eo_names.specs.Binders.{variables_of}
+use Rattle.eo_names.specs.Names.{read_pairs}
+use Rattle.eo_names.proofs.BinderLemmas.{variable_at, no_variable, type_at}
+use Rattle.eo_names.proofs.JoinLemmas.{push_grown, one_more, one_tall, all_made}
 use Rattle.eo_names.proofs.binders.make_variables.Goals as goal
 
-pub returns-in_err-id-clause-binds : goal.returns-in_err-id-clause-binds
-returns-in_err-id-clause-binds c =
+pub returns-in_err-id-clause-makes : goal.returns-in_err-id-clause-makes
+returns-in_err-id-clause-makes c =
+    let ts = c.args.table.now.trees in
+    let v = c.loop-i.invariant in
+    let i = c.loop-i.i in
+    let bs = c.args.names.now in
+    let name = c.get-ty.result.0.now in
+    let ty = c.get-ty.result.1 in
+    let live : ty < length ts = type_at (length ts) bs i name ty c.requires.types c.get-ty.ensures in
+    let now : List Tree = map (tree_at c.loop-i.table.trees) c.loop-i.variables in
+    let rest : List Tree = variables_of (read_pairs ts (drop (i + 1) bs)) in
     let e = err_from_is_err_and c.from_residual.result c.from_residual.ensures.1 in
     rw (e.1, e.2)
-    (c.builds_law.ensures.taller c.in_err-id.field-0.0 _ _ (λ h. one_tall c.loop-i.table.trees c.get-ty.result.0.now c.get-ty.result.1 c.loop-i.i c.loop-i.names (read_pairs c.args.table.now.trees c.args.names.now) c.get-ty.ensures c.loop-i.invariant.names (h)) c.in_err-id.ensures.gives)
+    (c.builds_law.ensures.taller c.in_err-id.field-0.0 _ _ (λ h. one_tall now (Var name (tree_at ts ty)) rest (variables_of (read_pairs ts bs))
+    ((λ k. now ++ sym (variable_at ts bs i name ty c.get-ty.ensures) k) ∙ v.trees)
+    ((λ k. is_tall (Var name (sym (v.grows.now.tree ty live) k))) ∙ h)) c.in_err-id.ensures.gives)
 
 pub loop-i-preserved : goal.loop-i-preserved
 loop-i-preserved c =
-    let ts = c.loop-i.table.trees in
-    let us = c.variable.new.table.trees in
-    let bs = c.loop-i.names in
-    let same : read_pairs us bs ≡ read_pairs ts bs = pairs_grown ts us (length ts) bs c.loop-i.invariant.below c.variable.ensures.grows.now.tree in
-    let more = bindings_more (length ts) (length us) bs c.variable.ensures.grows.now.more_trees c.loop-i.invariant.below in
+    let ts = c.args.table.now.trees in
+    let v = c.loop-i.invariant in
+    let i = c.loop-i.i in
+    let bs = c.args.names.now in
+    let name = c.get-ty.result.0.now in
+    let ty = c.get-ty.result.1 in
+    let live : ty < length ts = type_at (length ts) bs i name ty c.requires.types c.get-ty.ensures in
+    let t : Tree = Var name (tree_at ts ty) in
+    let now = c.loop-i.table.trees in
+    let next = c.variable.new.table.trees in
+    let g = c.variable.ensures.grows.now in
+    let id = c.in_ok-id.id in
+    let own : tree_at next id ≡ t = c.in_ok-id.ensures.gives.tree ∙ (λ k. Var name (v.grows.now.tree ty live k)) in
+    let rest : List Tree = variables_of (read_pairs ts (drop (i + 1) bs)) in
+    let pushed : c.push.new.self ≡ c.loop-i.variables ++ id ∷ [] = c.in_ok-push.ensures.pushed in
     record {
-      names = ap (read_pairs us) c.set.ensures ∙ one_turned ts us c.get-ty.result.0.now c.get-ty.result.1 c.in_ok-id.id c.loop-i.i bs (read_pairs c.args.table.now.trees c.args.names.now) c.get-ty.ensures c.in_ok-id.ensures.gives.tree same c.loop-i.invariant.names ∙ ap (λ n. turned n (read_pairs c.args.table.now.trees c.args.names.now)) (sym (add-one c.loop-i.i));
-      count = ap length c.set.ensures ∙ length-with_term bs c.loop-i.i c.in_ok-id.id ∙ c.loop-i.invariant.count;
-      below = subst (BindingsBelow (length us)) (sym c.set.ensures) (with_term_below (length us) bs c.loop-i.i c.in_ok-id.id c.in_ok-id.ensures.gives.live more);
+      live = subst (All (λ j. j < length next)) (sym pushed) (push_below (length now) (length next) id c.loop-i.variables g.more_trees c.in_ok-id.ensures.gives.live v.live);
       grows = search rules;
+      trees = (λ k. map (tree_at next) (pushed k) ++ rest)
+          ∙ (λ k. push_grown (length now) now next g.tree c.loop-i.variables id t v.live own k ++ rest)
+          ∙ one_more (map (tree_at now) c.loop-i.variables) t rest (variables_of (read_pairs ts bs))
+          ((λ k. map (tree_at now) c.loop-i.variables ++ sym (variable_at ts bs i name ty c.get-ty.ensures) k) ∙ v.trees);
     }
 
-pub returns-clause-binds : goal.returns-clause-binds
-returns-clause-binds c =
-    let ps = read_pairs c.args.table.now.trees c.args.names.now in
-    let long = length_pairs c.args.table.now.trees c.args.names.now in
-    let end : c.loop-i.i ≡ length ps = omega (arith, long, c.len-i-end.ensures) in
+pub returns-clause-makes : goal.returns-clause-makes
+returns-clause-makes c =
+    let ts = c.args.table.now.trees in
+    let bs = c.args.names.now in
     record {
-      below = c.loop-i.invariant.below;
-      names = c.loop-i.invariant.names ∙ ap (λ n. turned n ps) end ∙ all_turned (read_pairs c.args.table.now.trees c.args.names.now);
+      live = c.loop-i.invariant.live;
+      trees = all_made (map (tree_at c.loop-i.table.trees) c.loop-i.variables) (variables_of (read_pairs ts (drop c.loop-i.i bs))) (variables_of (read_pairs ts bs)) (no_variable ts bs c.loop-i.i (omega (arith, c.len-i-end.ensures))) c.loop-i.invariant.trees;
     }

@@ -2,7 +2,7 @@ use Rattle.std.proofs.Common.{◌≡◌, ◌<◌, length, map, drop}
 use Rattle.eo_term.specs.Terms.{tree_at}
 use Rattle.eo_term.specs.Growth.{Grows}
 use Rattle.eo_names.specs.Folding.{arrow}
-use Rattle.eo_names.proofs.arguments.function_type.Given as goal
+use Rattle.eo_names.proofs.arguments.arrow_or_leave.Given as goal
 
 abbrev pub invariant-loop-left : goal.invariant-loop-left
 invariant-loop-left l = record {

@@ -4,7 +4,7 @@ use Rattle.eo_term.specs.Tree.{Tree, Arr, is_tall}
 use Rattle.eo_term.specs.Terms.{tree_at}
 use Rattle.eo_names.specs.Folding.{arrow}
 use Rattle.eo_names.proofs.FoldLemmas.{right_step, right_step_tall, tall_values}
-use Rattle.eo_names.proofs.arguments.function_type.Goals as goal
+use Rattle.eo_names.proofs.arguments.arrow_or_leave.Goals as goal
 
 pub returns-in_err-made-clause-gives : goal.returns-in_err-made-clause-gives
 returns-in_err-made-clause-gives c =
