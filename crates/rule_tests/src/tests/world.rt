@@ -12,7 +12,7 @@ ghost use Rattle.eo_sig.specs.declared.records.Param.{Param};
 ghost use Rattle.eo_sig.specs.declared.records.RuleDecl.{RuleDecl};
 ghost use Rattle.eo_sig.specs.Signature.{are_ordered};
 ghost use Rattle.eo_sig.specs.Usable.{AreOrdered, IsUsable};
-ghost use Rattle.eo_rule.specs.Reading.{AreValuesIn, UseBelow};
+ghost use Rattle.eo_rule.specs.Reading.{IsUseOf};
 
 use super::rows::{Form, Given, RuleRow, Told, UseRow, Want};
 use eo_base::Name;
@@ -370,8 +370,7 @@ fn told_by(
     given: &RuleUse,
 ) -> Result<Told, Fail>
     requires rule { rule < length (rules_of sig.now) }
-    requires live { UseBelow (length table.old.trees) given.now }
-    requires values { AreValuesIn table.old given.now }
+    requires given { IsUseOf table.old given.now }
     requires below { IsBelow (length table.old.trees) sig.now }
     requires usable { IsUsable (signature table.old.trees sig.now) }
     ensures grows { GrowsUnder sig.now table.old table.new }
@@ -638,8 +637,7 @@ fn requirements(alloc: Global, table: &Table, pair: Option<(Id, Id)>) -> Result<
 
 // What is given to a rule, if that are values.
 fn values_given(alloc: Global, table: &Table, given: &Given) -> Result<RuleUse, Fail>
-    ensures live { IfOk result (UseBelow (length table.now.trees)) }
-    ensures values { IfOk result (AreValuesIn table.now) }
+    ensures { IfOk result (IsUseOf table.now) }
 {
     Ok(RuleUse {
         assumption: value_or_none(table, given.assumption)?,
