@@ -11,46 +11,31 @@ mod loads;
 mod opened;
 mod programs;
 mod rules;
+mod running;
 mod scopes;
 mod shared;
 mod suite;
 
-use crate::{ethos_main, run_in_memory};
-use eo_base::{Status, Text};
-use eo_io::{HonestLibrary, MemoryLibrary, MemorySink};
+use eo_base::Status;
+use eo_io::MemorySink;
+use running::{CHECK, File, ROOM, honest_into, honest_library, honest_run, run};
 use std::alloc::{AllocError, Global};
-
-/// Room for each line.
-const ROOM: usize = 256;
-
-/// The words `ethos check --reference=r.smt2 p.eo`.
-fn words(alloc: Global) -> Result<Vec<Text>, AllocError> {
-    let mut words = Vec::new(alloc);
-    for word in ["ethos", "check", "--reference=r.smt2", "p.eo"] {
-        words.push(Text::new(alloc, word)?)?;
-    }
-    Ok(words)
-}
 
 /// Whether the two files give this line and status, over a library that never fails.
 fn gives(alloc: Global, reference: &[u8], proof: &[u8], line: &[u8], status: Status) -> bool {
-    match honest_run(alloc, reference, proof) {
+    match check_run(alloc, reference, proof) {
         Ok((got, out)) => got == status && out.bytes() == line,
         Err(AllocError) => false,
     }
 }
 
-fn honest_run(
+fn check_run(
     alloc: Global,
     reference: &[u8],
     proof: &[u8],
 ) -> Result<(Status, MemorySink), AllocError> {
-    let mut files = HonestLibrary::new(alloc)?;
-    files.add(b"r.smt2", reference)?;
-    files.add(b"p.eo", proof)?;
-    let mut out = MemorySink::new(alloc, ROOM)?;
-    let status = run_in_memory(alloc, words(alloc)?.as_slice(), &mut files, &mut out);
-    Ok((status, out))
+    let mut files = honest_library(alloc, reference, proof)?;
+    honest_run(alloc, CHECK, &mut files)
 }
 
 #[test]
@@ -189,28 +174,26 @@ fn declarations_of_a_proof(rt: HostRuntime) {
     assert!(&rt; gives(rt.alloc(), asserts_false, proof, b"correct\n", Status::Ok));
 }
 
-/// The first check, with a library whose file of the proof may be absent, with reads of at most 8
-/// bytes, and with one call of the library that fails, if its number is one of a call.
+/// The first check, with a library that may have a proof, with reads of at most 8 bytes, and with
+/// one call of the library that fails, if its number is one of a call.
 fn library_run(
     alloc: Global,
-    with_proof: bool,
+    proofs: &[File<'_>],
     failing: u64,
 ) -> Result<(Status, MemorySink), AllocError> {
-    let mut files = MemoryLibrary::new(alloc)?;
-    files.add(b"r.smt2", b"(assert false)\n")?;
-    if with_proof {
-        files.add(b"p.eo", b"(assume @p1 false)\n")?;
-    }
-    files.piece(8);
-    files.fail(failing)?;
-    let mut out = MemorySink::new(alloc, ROOM)?;
-    let status = ethos_main(alloc, words(alloc)?.as_slice(), &mut files, &mut out);
-    Ok((status, out))
+    run(
+        alloc,
+        CHECK,
+        (b"r.smt2", b"(assert false)\n"),
+        proofs,
+        8,
+        failing,
+    )
 }
 
 #[test]
 fn absent_file(rt: HostRuntime) {
-    match library_run(rt.alloc(), false, 0) {
+    match library_run(rt.alloc(), &[], 0) {
         Ok((status, out)) => {
             assert!(&rt; status == Status::Refused);
             assert!(&rt; out.bytes() == b"refused F35 FileAbsent p.eo:1:0\n".as_slice());
@@ -221,8 +204,9 @@ fn absent_file(rt: HostRuntime) {
 
 #[test]
 fn failing_calls_of_the_library(rt: HostRuntime) {
+    let proofs: [File<'_>; 1] = [(b"p.eo", b"(assume @p1 false)\n")];
     for call in 1..11u64 {
-        match library_run(rt.alloc(), true, call) {
+        match library_run(rt.alloc(), &proofs, call) {
             Ok((status, out)) => {
                 let fails = call <= 9;
                 let line = if fails {
@@ -238,18 +222,24 @@ fn failing_calls_of_the_library(rt: HostRuntime) {
     }
 }
 
-/// The first check, with a sink whose writes take at most so many bytes, and one of them fails, if
-/// its number is one of a write.
-fn sink_run(alloc: Global, piece: usize, failing: u64) -> Result<(Status, MemorySink), AllocError>
+/// A sink whose writes take at most so many bytes, and one of them fails, if its number is one of a
+/// write.
+fn sink_of(alloc: Global, piece: usize, failing: u64) -> Result<MemorySink, AllocError>
     requires { 1 ≤ piece }
 {
-    let mut files = HonestLibrary::new(alloc)?;
-    files.add(b"r.smt2", b"(assert false)\n")?;
-    files.add(b"p.eo", b"(assume @p1 false)\n")?;
     let mut out = MemorySink::new(alloc, ROOM)?;
     out.piece(piece);
     out.fail(failing)?;
-    let status = run_in_memory(alloc, words(alloc)?.as_slice(), &mut files, &mut out);
+    Ok(out)
+}
+
+/// The first check, with such a sink.
+fn sink_run(alloc: Global, piece: usize, failing: u64) -> Result<(Status, MemorySink), AllocError>
+    requires { 1 ≤ piece }
+{
+    let mut files = honest_library(alloc, b"(assert false)\n", b"(assume @p1 false)\n")?;
+    let mut out = sink_of(alloc, piece, failing)?;
+    let status = honest_into(alloc, CHECK, &mut files, &mut out)?;
     Ok((status, out))
 }
 
@@ -271,29 +261,30 @@ fn failing_and_short_writes(rt: HostRuntime) {
     }
 }
 
-/// The line for a reference file and a proof, with reads of at most so many bytes.
-fn pieced_line(
+/// What is printed for a reference file and a proof, with reads of at most so many bytes.
+fn pieced_run(
     alloc: Global,
     piece: usize,
     reference: &[u8],
     proof: &[u8],
-) -> Result<MemorySink, AllocError>
+) -> Result<(Status, MemorySink), AllocError>
     requires { 1 ≤ piece }
 {
-    let mut files = MemoryLibrary::new(alloc)?;
-    files.add(b"r.smt2", reference)?;
-    files.add(b"p.eo", proof)?;
-    files.piece(piece);
-    let mut out = MemorySink::new(alloc, ROOM)?;
-    ethos_main(alloc, words(alloc)?.as_slice(), &mut files, &mut out);
-    Ok(out)
+    run(
+        alloc,
+        CHECK,
+        (b"p.eo", proof),
+        &[(b"r.smt2", reference)],
+        piece,
+        0,
+    )
 }
 
 /// Whether the two files give this line, whole and with reads of 1 and of 3 bytes.
 fn prints(alloc: Global, reference: &[u8], proof: &[u8], line: &[u8]) -> bool {
     for piece in [1usize, 3, 65_536] {
-        match pieced_line(alloc, piece, reference, proof) {
-            Ok(out) if out.bytes() == line => {}
+        match pieced_run(alloc, piece, reference, proof) {
+            Ok((_status, out)) if out.bytes() == line => {}
             _ => return false,
         }
     }

@@ -1,11 +1,8 @@
 //! Checks against reference files, which are SMT-LIB benchmarks.
 ghost use Rattle.std.specs.Prelude.{◌≤◌};
 
-use super::ROOM;
-use super::command_line::words_of;
-use crate::ethos_main;
+use super::running::run;
 use eo_cpc::suite;
-use eo_io::{MemoryLibrary, MemorySink};
 use std::alloc::{AllocError, Global};
 
 /// A reference file, a proof, and the line that is printed.
@@ -410,7 +407,7 @@ fn the_first_fault_of_a_reference_file(rt: HostRuntime) {
 
 /// The first row that gives another line, with reads of at most one byte, of three, or of any
 /// number, where a signature of this text comes first.
-fn wrong(alloc: Global, signature: &[u8], rows: &[Row<'_>]) -> Option<usize> {
+fn wrong<'a>(alloc: Global, signature: &'a [u8], rows: &[Row<'a>]) -> Option<usize> {
     for (i, row) in rows.iter().enumerate() {
         for piece in [1usize, 3, 65_536] {
             if !is_right(alloc, signature, piece, row).unwrap_or(false) {
@@ -422,25 +419,20 @@ fn wrong(alloc: Global, signature: &[u8], rows: &[Row<'_>]) -> Option<usize> {
 }
 
 /// Whether a row's line is printed with reads of at most so many bytes.
-fn is_right(
+fn is_right<'a>(
     alloc: Global,
-    signature: &[u8],
+    signature: &'a [u8],
     piece: usize,
-    row: &Row<'_>,
+    row: &Row<'a>,
 ) -> Result<bool, AllocError>
     requires { 1 ≤ piece }
 {
-    let (reference, proof, line) = *row;
-    let mut files = MemoryLibrary::new(alloc)?;
-    files.add(b"cpc.eo", signature)?;
-    files.add(b"r.smt2", reference)?;
-    files.add(b"p.eo", proof)?;
-    files.piece(piece);
-    let mut out = MemorySink::new(alloc, ROOM)?;
-    let words = words_of(
-        alloc,
-        "ethos check --include=cpc.eo --reference=r.smt2 p.eo",
-    )?;
-    ethos_main(alloc, words.as_slice(), &mut files, &mut out);
-    Ok(out.bytes() == line)
+    let (reference, proof, answer) = *row;
+    let line = "ethos check --include=cpc.eo --reference=r.smt2 p.eo";
+    let others = [
+        (b"cpc.eo".as_slice(), signature),
+        (b"r.smt2".as_slice(), reference),
+    ];
+    let (_status, out) = run(alloc, line, (b"p.eo", proof), &others, piece, 0)?;
+    Ok(out.bytes() == answer)
 }

@@ -1,47 +1,43 @@
 //! Words of the command line, over files in memory.
 ghost use Rattle.std.specs.Prelude.{◌≤◌};
 
-use super::ROOM;
-use crate::ethos_main;
-use eo_base::{Status, Text};
-use eo_io::{MemoryLibrary, MemorySink};
+use super::running::{self, File};
+use eo_base::Status;
+use eo_io::MemorySink;
 use std::alloc::{AllocError, Global};
 
 const USAGE: &[u8] =
     b"usage: ethos check [--include=F] [--reference=F] [--closed] PROOF | ethos load FILE | ethos bench N\n";
 
-/// The words of a line: what stands between two spaces is one, also where it is empty.
-pub(crate) fn words_of(alloc: Global, line: &str) -> Result<Vec<Text>, AllocError> {
-    let mut words = Vec::new(alloc);
-    for word in line.split(' ') {
-        words.push(Text::new(alloc, word)?)?;
-    }
-    Ok(words)
+/// The files that a line may name, but for `p.eo`, each with its path.
+const FILES: [(&[u8], &[u8]); 5] = [
+    (b"r.smt2", b"(assert false)\n"),
+    (b"c.eo", b"(declare-const p Bool)\n"),
+    (b"-p.eo", b"(assume @p1 false)\n"),
+    (b"empty.eo", b""),
+    (
+        b"bad.eo",
+        b"(declare-rule bad () :args () :conclusion false)\n(step @p1 false :rule bad)\n",
+    ),
+];
+
+// A function that calls this does not unfold the table in its proof.
+fn files() -> &'static [File<'static>] {
+    &FILES
 }
 
 /// What is printed for the words of a line, with reads of at most so many bytes.
 fn run(alloc: Global, line: &str, piece: usize) -> Result<(Status, MemorySink), AllocError>
     requires { 1 ≤ piece }
 {
-    let mut files = MemoryLibrary::new(alloc)?;
-    files.add(b"r.smt2", b"(assert false)\n")?;
-    files.add(b"c.eo", b"(declare-const p Bool)\n")?;
-    files.add(b"p.eo", b"(assume @p1 false)\n")?;
-    files.add(b"-p.eo", b"(assume @p1 false)\n")?;
-    files.add(b"empty.eo", b"")?;
-    files.add(
-        b"bad.eo",
-        b"(declare-rule bad () :args () :conclusion false)\n(step @p1 false :rule bad)\n",
-    )?;
-    files.piece(piece);
-    let mut out = MemorySink::new(alloc, ROOM)?;
-    let status = ethos_main(
+    running::run(
         alloc,
-        words_of(alloc, line)?.as_slice(),
-        &mut files,
-        &mut out,
-    );
-    Ok((status, out))
+        line,
+        (b"p.eo", b"(assume @p1 false)\n"),
+        files(),
+        piece,
+        0,
+    )
 }
 
 /// Whether the words of a line give this answer, whole and with reads of 1 and of 3 bytes.

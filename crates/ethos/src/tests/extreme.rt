@@ -1,12 +1,8 @@
 //! Files at the limits, and one beyond them.
 ghost use Rattle.std.specs.Prelude.{◌<◌};
 
-use super::ROOM;
-use super::command_line::words_of;
-use super::opened::library;
-use crate::ethos_main;
+use super::running::{File, library, run_over};
 use eo_cpc::suite;
-use eo_io::MemorySink;
 use std::alloc::{AllocError, Global};
 
 /// Whether the words give this line, over a proof and other files with their paths.
@@ -14,13 +10,11 @@ fn prints(
     alloc: Global,
     words: &str,
     proof: &[u8],
-    texts: &[(&[u8], &[u8])],
+    texts: &[File<'_>],
     line: &[u8],
 ) -> Result<bool, AllocError> {
-    let mut files = library(alloc, proof, texts)?;
-    let mut out = MemorySink::new(alloc, ROOM)?;
-    let words = words_of(alloc, words)?;
-    ethos_main(alloc, words.as_slice(), &mut files, &mut out);
+    let mut files = library(alloc, (b"p.eo", proof), texts)?;
+    let (_status, out) = run_over(alloc, words, &mut files)?;
     Ok(out.bytes() == line)
 }
 

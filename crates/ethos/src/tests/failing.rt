@@ -1,29 +1,20 @@
 //! Checks during which calls of the library or of the sink fail, and checks of a proof that is cut.
 ghost use Rattle.std.specs.Prelude.{◌≤◌};
 
-use super::ROOM;
-use super::command_line::words_of;
-use super::opened::library;
-use crate::ethos_main;
+use super::running::{self, CHECK, File, ROOM, library, run_into};
 use eo_base::Status;
 use eo_cpc::suite;
 use eo_io::MemorySink;
 use std::alloc::{AllocError, Global};
 
 /// The words, the proof, the other files with their paths, and the line that is printed.
-type Job<'a> = (&'a str, &'a [u8], &'a [(&'a [u8], &'a [u8])], &'a [u8]);
+type Job<'a> = (&'a str, &'a [u8], &'a [File<'a>], &'a [u8]);
 
 /// A job with reads of at most 8 bytes, and with one call of the library that fails, if its number
 /// is one of a call.
 fn run(alloc: Global, job: &Job<'_>, failing: u64) -> Result<(Status, MemorySink), AllocError> {
-    let (words, proof, texts, _line) = *job;
-    let mut files = library(alloc, proof, texts)?;
-    files.piece(8);
-    files.fail(failing)?;
-    let mut out = MemorySink::new(alloc, ROOM)?;
-    let words = words_of(alloc, words)?;
-    let status = ethos_main(alloc, words.as_slice(), &mut files, &mut out);
-    Ok((status, out))
+    let (line, proof, texts, _printed) = *job;
+    running::run(alloc, line, (b"p.eo", proof), texts, 8, failing)
 }
 
 /// How many calls of the library a job makes: each run in which one of them fails ends with a read
@@ -74,10 +65,9 @@ fn each_call_in_turn_fails_in_a_load(rt: HostRuntime) {
 
 /// What is printed for a check of this proof against the assertion of `false`, into a sink of so much room.
 fn printed(alloc: Global, proof: &[u8], room: usize) -> Result<(Status, MemorySink), AllocError> {
-    let mut files = library(alloc, proof, &[(b"r.smt2", b"(assert false)\n")])?;
+    let mut files = library(alloc, (b"p.eo", proof), &[(b"r.smt2", b"(assert false)\n")])?;
     let mut out = MemorySink::new(alloc, room)?;
-    let words = words_of(alloc, "ethos check --reference=r.smt2 p.eo")?;
-    let status = ethos_main(alloc, words.as_slice(), &mut files, &mut out);
+    let status = run_into(alloc, CHECK, &mut files, &mut out)?;
     Ok((status, out))
 }
 

@@ -1,32 +1,33 @@
 //! Signature files that are run alone, with the files that they include.
 ghost use Rattle.std.specs.Prelude.{◌≤◌};
 
-use super::ROOM;
-use super::command_line::words_of;
-use crate::ethos_main;
+use super::running::{self, File, add_chain, library, run_over};
 use eo_base::Status;
-use eo_io::{MemoryLibrary, MemorySink};
+use eo_io::MemorySink;
 use std::alloc::{AllocError, Global};
+
+/// The files that `a.eo` may include, each with its path.
+const FILES: [(&[u8], &[u8]); 8] = [
+    (b"b.eo", b"(include \"d.eo\")\n"),
+    (b"c.eo", b"(include \"x/../d.eo\")\n(include \"c.eo\")\n"),
+    (b"d.eo", b"(declare-const p Bool)\n"),
+    (b"e.eo", b"(declare-const q Bool)\n(declare-const q Bool)\n"),
+    (b"x/f.eo", b"(include \"../d.eo\")\n(include \"g.eo\")\n"),
+    (b"x/g.eo", b"(declare-const g Bool)\n"),
+    (b"h\"i.eo", b"(declare-const h Bool)\n"),
+    (b"r.smt2", b"(assert false)\n"),
+];
+
+// A function that calls this does not unfold the table in its proof.
+fn files() -> &'static [File<'static>] {
+    &FILES
+}
 
 /// What is printed for `load a.eo`, with reads of at most so many bytes.
 fn run(alloc: Global, a: &[u8], piece: usize) -> Result<(Status, MemorySink), AllocError>
     requires { 1 ≤ piece }
 {
-    let mut files = MemoryLibrary::new(alloc)?;
-    files.add(b"a.eo", a)?;
-    files.add(b"b.eo", b"(include \"d.eo\")\n")?;
-    files.add(b"c.eo", b"(include \"x/../d.eo\")\n(include \"c.eo\")\n")?;
-    files.add(b"d.eo", b"(declare-const p Bool)\n")?;
-    files.add(b"e.eo", b"(declare-const q Bool)\n(declare-const q Bool)\n")?;
-    files.add(b"x/f.eo", b"(include \"../d.eo\")\n(include \"g.eo\")\n")?;
-    files.add(b"x/g.eo", b"(declare-const g Bool)\n")?;
-    files.add(b"h\"i.eo", b"(declare-const h Bool)\n")?;
-    files.add(b"r.smt2", b"(assert false)\n")?;
-    files.piece(piece);
-    let mut out = MemorySink::new(alloc, ROOM)?;
-    let words = words_of(alloc, "ethos load a.eo")?;
-    let status = ethos_main(alloc, words.as_slice(), &mut files, &mut out);
-    Ok((status, out))
+    running::run(alloc, "ethos load a.eo", (b"a.eo", a), files(), piece, 0)
 }
 
 /// Whether `load a.eo` gives this answer, whole and with reads of 1 and of 3 bytes.
@@ -113,24 +114,16 @@ fn lists_that_are_nested_too_deep(rt: HostRuntime) {
 }
 
 /// What is printed for `load n0.eo`, over files `n0.eo` to `n17.eo` of which each includes the next.
-fn chain_run(alloc: Global) -> Result<MemorySink, AllocError> {
-    let mut files = MemoryLibrary::new(alloc)?;
-    for i in 0..18u32 {
-        let next = i + 1;
-        let path = format!(in alloc; "n{i}.eo")?;
-        let bytes = format!(in alloc; "(include \"n{next}.eo\")\n")?;
-        files.add(path.as_bytes(), bytes.as_bytes())?;
-    }
-    let mut out = MemorySink::new(alloc, ROOM)?;
-    let words = words_of(alloc, "ethos load n0.eo")?;
-    ethos_main(alloc, words.as_slice(), &mut files, &mut out);
-    Ok(out)
+fn chain_run(alloc: Global) -> Result<(Status, MemorySink), AllocError> {
+    let mut files = library(alloc, (b"n0.eo", b"(include \"n1.eo\")\n"), &[])?;
+    add_chain(alloc, &mut files, 1, 18)?;
+    run_over(alloc, "ethos load n0.eo", &mut files)
 }
 
 #[test]
 fn files_are_included_sixteen_deep(rt: HostRuntime) {
     match chain_run(rt.alloc()) {
-        Ok(out) => {
+        Ok((_status, out)) => {
             assert!(&rt; out.bytes() == b"refused F34 IncludeDepth n16.eo:1:0\n".as_slice())
         }
         Err(AllocError) => assert!(&rt; false),

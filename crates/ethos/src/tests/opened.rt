@@ -1,10 +1,9 @@
 //! Checks of files whose commands open other files.
-ghost use Rattle.std.specs.Prelude.{◌≡◌, ◌≤◌, [], IfOk};
+ghost use Rattle.std.specs.Prelude.{◌≤◌};
 
-use super::ROOM;
-use super::command_line::words_of;
-use crate::ethos_main;
-use eo_io::{Library, MemoryLibrary, MemorySink};
+use super::running::{self, File, add_chain, library, run_over};
+use eo_base::Status;
+use eo_io::MemorySink;
 use std::alloc::{AllocError, Global};
 
 /// The files that a proof may open, each with its path.
@@ -25,21 +24,9 @@ const FILES: [(&[u8], &[u8]); 14] = [
     (b"o.eo", b"(declare-const o Bool"),
 ];
 
-/// A library of a proof and of these files, of which none is open.
-pub(crate) fn library(
-    alloc: Global,
-    proof: &[u8],
-    texts: &[(&[u8], &[u8])],
-) -> Result<MemoryLibrary, AllocError>
-    ensures { IfOk result (λ files. ⟦<MemoryLibrary as Library>⟧.open_files files ≡ []) }
-{
-    let mut files = MemoryLibrary::new(alloc)?;
-    files.add(b"p.eo", proof)?;
-    for i in 0..texts.len() {
-        let (path, text) = texts[i];
-        files.add(path, text)?;
-    }
-    Ok(files)
+// A function that calls this does not unfold the table in its proof.
+fn files() -> &'static [File<'static>] {
+    &FILES
 }
 
 /// What is printed for the words of a line and this proof, with reads of at most so many bytes, and
@@ -50,16 +37,10 @@ fn run(
     proof: &[u8],
     piece: usize,
     failing: u64,
-) -> Result<MemorySink, AllocError>
+) -> Result<(Status, MemorySink), AllocError>
     requires { 1 ≤ piece }
 {
-    let mut files = library(alloc, proof, &FILES)?;
-    files.piece(piece);
-    files.fail(failing)?;
-    let mut out = MemorySink::new(alloc, ROOM)?;
-    let words = words_of(alloc, line)?;
-    ethos_main(alloc, words.as_slice(), &mut files, &mut out);
-    Ok(out)
+    running::run(alloc, line, (b"p.eo", proof), files(), piece, failing)
 }
 
 /// Whether the words of a line and this proof give this answer, whole and with reads of 1 and of 3
@@ -67,7 +48,7 @@ fn run(
 fn gives(alloc: Global, line: &str, proof: &[u8], answer: &[u8]) -> bool {
     for piece in [1usize, 3, 65_536] {
         match run(alloc, line, proof, piece, 0) {
-            Ok(out) if out.bytes() == answer => {}
+            Ok((_status, out)) if out.bytes() == answer => {}
             _ => return false,
         }
     }
@@ -252,22 +233,16 @@ fn jobs_that_are_refused(rt: HostRuntime) {
 
 /// What is printed for a proof that includes `n1.eo`, over files `n1.eo` to `n16.eo` of which each
 /// includes the next, but for the last one.
-fn chain_run(alloc: Global, last: &[u8]) -> Result<MemorySink, AllocError> {
-    let mut files = MemoryLibrary::new(alloc)?;
-    files.add(b"r.smt2", b"(assert false)\n")?;
-    files.add(b"p.eo", b"(include \"n1.eo\")\n(assume a false)\n")?;
-    for i in 1..16u32 {
-        let next = i + 1;
-        let path = format!(in alloc; "n{i}.eo")?;
-        let bytes = format!(in alloc; "(include \"n{next}.eo\")\n")?;
-        files.add(path.as_bytes(), bytes.as_bytes())?;
-    }
-    files.add(b"n16.eo", last)?;
+fn chain_run(alloc: Global, last: &[u8]) -> Result<(Status, MemorySink), AllocError> {
+    let proof: File<'_> = (b"p.eo", b"(include \"n1.eo\")\n(assume a false)\n");
+    let mut files = library(
+        alloc,
+        proof,
+        &[(b"r.smt2", b"(assert false)\n"), (b"n16.eo", last)],
+    )?;
+    add_chain(alloc, &mut files, 1, 16)?;
     files.piece(3);
-    let mut out = MemorySink::new(alloc, ROOM)?;
-    let words = words_of(alloc, "ethos check p.eo")?;
-    ethos_main(alloc, words.as_slice(), &mut files, &mut out);
-    Ok(out)
+    run_over(alloc, "ethos check p.eo", &mut files)
 }
 
 #[test]
@@ -283,7 +258,7 @@ fn the_sixteenth_file_may_still_name_the_reference_file(rt: HostRuntime) {
     ];
     for (last, answer) in rows {
         match chain_run(rt.alloc(), last) {
-            Ok(out) => assert!(&rt; out.bytes() == answer),
+            Ok((_status, out)) => assert!(&rt; out.bytes() == answer),
             Err(AllocError) => assert!(&rt; false),
         }
     }
@@ -295,7 +270,7 @@ fn failing_calls_in_an_included_file(rt: HostRuntime) {
     let proof = b"(include \"s.eo\")(assume a false)".as_slice();
     for call in 1..11u64 {
         match run(rt.alloc(), line, proof, 65_536, call) {
-            Ok(out) => {
+            Ok((_status, out)) => {
                 let answer = if call <= 9 {
                     b"read fault\n".as_slice()
                 } else {

@@ -1,9 +1,7 @@
 //! A signature of propositional rules, and what is printed of commands behind it.
-use super::command_line::words_of;
-use super::{ROOM, honest_run};
-use crate::run_in_memory;
+use super::check_run;
+use super::running::{honest_library, honest_run};
 use eo_cpc::suite;
-use eo_io::{HonestLibrary, MemorySink};
 use std::alloc::{AllocError, Global};
 
 const ASSERTS_TRUE: &[u8] = b"(assert true)\n";
@@ -30,22 +28,16 @@ fn behind_suite(alloc: Global, commands: &[u8]) -> Result<Vec<u8>, AllocError> {
 // With all of them in the proof.
 fn proof_begins(alloc: Global, commands: &[u8], start: &[u8]) -> Result<bool, AllocError> {
     let proof = behind_suite(alloc, commands)?;
-    let (_status, out) = honest_run(alloc, ASSERTS_TRUE, &proof)?;
+    let (_status, out) = check_run(alloc, ASSERTS_TRUE, &proof)?;
     Ok(out.bytes().starts_with(start))
 }
 
 // With the suite as the include file, and the formulas in the reference file.
 fn check_begins(alloc: Global, commands: &[u8], start: &[u8]) -> Result<bool, AllocError> {
-    let mut files = HonestLibrary::new(alloc)?;
+    let line = "ethos check --include=cpc.eo --reference=r.smt2 p.eo";
+    let mut files = honest_library(alloc, REFERENCE, commands)?;
     files.add(b"cpc.eo", suite())?;
-    files.add(b"r.smt2", REFERENCE)?;
-    files.add(b"p.eo", commands)?;
-    let words = words_of(
-        alloc,
-        "ethos check --include=cpc.eo --reference=r.smt2 p.eo",
-    )?;
-    let mut out = MemorySink::new(alloc, ROOM)?;
-    run_in_memory(alloc, words.as_slice(), &mut files, &mut out);
+    let (_status, out) = honest_run(alloc, line, &mut files)?;
     Ok(out.bytes().starts_with(start))
 }
 
