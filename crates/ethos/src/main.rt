@@ -6,6 +6,8 @@ mod words;
 
 use eo_base::{Status, Text};
 use eo_io::{DiskLibrary, StdSink};
+use eo_run::print_line;
+use program::OUT_OF_MEMORY;
 pub use program::{completeness_law, ethos_main, run_in_memory};
 use std::alloc::AllocError;
 use std::env;
@@ -13,14 +15,25 @@ use std::io::ErrorKind;
 use std::process::ExitCode;
 
 /// Runs the program on the command line's words, the system's files and the standard output, and
-/// ends with its status. Where there is no memory for these, it writes nothing and ends with
-/// status 6.
+/// ends with its status.
 fn main(rt: HostRuntime) -> ExitCode {
     let status = match run(&rt) {
         Ok(status) => status,
-        Err(AllocError) => Status::OutOfMemory,
+        Err(AllocError) => without_memory(&rt),
     };
     ExitCode::from(status.code())
+}
+
+/// Says that there is no memory for the words, the library or the sink, and answers the status of
+/// that. Where there is none to reach the output either, it writes nothing.
+fn without_memory(rt: &HostRuntime) -> Status {
+    match rt.clone() {
+        Ok(host) => {
+            let mut out = StdSink::new(host);
+            print_line(&mut out, Status::OutOfMemory, &[OUT_OF_MEMORY])
+        }
+        Err(AllocError) => Status::OutOfMemory,
+    }
 }
 
 /// Runs the program. `Err` is want of memory for the words, the library or the sink.

@@ -21,7 +21,7 @@ const USAGE: &[u8] =
     b"usage: ethos check [--include=F] [--reference=F] [--closed] PROOF | ethos load FILE | ethos bench N\n";
 
 /// The line for want of memory.
-const OUT_OF_MEMORY: &[u8] = b"out of memory\n";
+pub(crate) const OUT_OF_MEMORY: &[u8] = b"out of memory\n";
 
 /// Runs the program on the words of its command line, the first of which is the program's name and
 /// is ignored, over a library of files and a sink for what it writes.
