@@ -117,3 +117,58 @@ fn closing(i: u16) -> [u8; 43] {
 fn digit(i: u16) -> u8 {
     b'0' + (i % 10) as u8
 }
+
+#[test]
+fn a_shared_term_is_counted_once(rt: HostRuntime) -> Result<(), Fail> {
+    assert_eq!(rt; tell(rt.alloc(), with_shared_terms)?, None);
+    Ok(())
+}
+
+// Conjunctions of the one before with itself, 64 times: each has three terms more, though as a tree
+// the last has 2^64 leaves and more.
+fn with_shared_terms(run: &mut Run) -> Result<Option<usize>, Fail> {
+    let first = run.wrong(&[
+        (b"(declare-const p Bool)", Done(5)),
+        (
+            b"(declare-const and (-> Bool Bool Bool) :right-assoc-nil true)",
+            Done(8),
+        ),
+        (
+            b"(declare-parameterized-const = ((A Type :implicit)) (-> A A Bool))",
+            Done(12),
+        ),
+        (
+            b"(declare-rule refl ((A Type) (x A)) :args (x) :conclusion (= x x))",
+            Done(15),
+        ),
+        (b"(define @t00 () p)", Done(15)),
+    ])?;
+    if first.is_some() {
+        return Ok(first);
+    }
+    for k in 1..65_u16 {
+        let text = doubled(k);
+        let wrong = run.wrong(&[(&text, Done(15 + 3 * k as usize))])?;
+        if wrong.is_some() {
+            return Ok(Some(k as usize));
+        }
+    }
+    run.wrong(&[(
+        b"(step @s (= @t64 @t64) :rule refl :args (@t64))",
+        Done(15 + 192 + 2),
+    )])
+}
+
+// The command that defines a conjunction by the one before, with names of two digits.
+fn doubled(k: u16) -> [u8; 32]
+    requires { 1 ≤ k }
+{
+    let mut text = *b"(define @t00 () (and @t00 @t00))";
+    text[10] = digit(k / 10);
+    text[11] = digit(k);
+    text[23] = digit((k - 1) / 10);
+    text[24] = digit(k - 1);
+    text[28] = digit((k - 1) / 10);
+    text[29] = digit(k - 1);
+    text
+}
