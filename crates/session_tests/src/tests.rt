@@ -146,9 +146,9 @@ fn with_shared_terms(run: &mut Run) -> Result<Option<usize>, Fail> {
     if first.is_some() {
         return Ok(first);
     }
-    for k in 1..65_u16 {
-        let text = doubled(k);
-        let wrong = run.wrong(&[(&text, Done(15 + 3 * k as usize))])?;
+    for k in 0..64_u16 {
+        let text = doubled(k, k + 1);
+        let wrong = run.wrong(&[(&text, Done(18 + 3 * k as usize))])?;
         if wrong.is_some() {
             return Ok(Some(k as usize));
         }
@@ -160,15 +160,13 @@ fn with_shared_terms(run: &mut Run) -> Result<Option<usize>, Fail> {
 }
 
 // The command that defines a conjunction by the one before, with names of two digits.
-fn doubled(k: u16) -> [u8; 32]
-    requires { 1 ≤ k }
-{
+fn doubled(before: u16, k: u16) -> [u8; 32] {
     let mut text = *b"(define @t00 () (and @t00 @t00))";
     text[10] = digit(k / 10);
     text[11] = digit(k);
-    text[23] = digit((k - 1) / 10);
-    text[24] = digit(k - 1);
-    text[28] = digit((k - 1) / 10);
-    text[29] = digit(k - 1);
+    text[23] = digit(before / 10);
+    text[24] = digit(before);
+    text[28] = digit(before / 10);
+    text[29] = digit(before);
     text
 }
