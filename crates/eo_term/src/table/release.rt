@@ -24,8 +24,25 @@ impl Table {
     }
 
     /// Releases to the mark, but keeps the trees of some terms, whose numbers are replaced by new ones.
-    /// `Err` is want of memory, and all stays as it is.
+    /// It costs what was made after the mark, and nothing where nothing was. `Err` is want of memory,
+    /// and all stays as it is.
+    #[tactic(auto, using(crate::proofs::Carried::nothing_carried))]
     pub fn carry_all(&mut self, mark: Mark, ids: &mut [Id]) -> Result<(), AllocError>
+        requires mark { IsMark self.old mark }
+        requires live { All (λ j. j < length self.old.trees) ids.old }
+        ensures ok { OnOk result (Carried self.old mark.0 ids.old ids.new self.new) }
+        ensures err { OnErr result (self.new ≡ self.old) }
+        ensures ids_err { OnErr result (ids.new ≡ ids.old) }
+    {
+        self.laws();
+        if self.nodes.len() == mark.terms {
+            return Ok(());
+        }
+        self.carry_newer(mark, ids)
+    }
+
+    // The same where terms were made after the mark.
+    fn carry_newer(&mut self, mark: Mark, ids: &mut [Id]) -> Result<(), AllocError>
         requires mark { IsMark self.old mark }
         requires live { All (λ j. j < length self.old.trees) ids.old }
         ensures ok { OnOk result (Carried self.old mark.0 ids.old ids.new self.new) }
