@@ -3,6 +3,7 @@ use Rattle.std.proofs.Common.{◌≡◌, ℕ, ℤ, All, suc, pos, ◌<◌, ◌�
 use Rattle.std.specs.Map.{keys_of, lookup}
 use Rattle.std.proofs.lemmas.List.{get_or-take, length-map, length-take-le, map-append, take-map}
 use Rattle.std.proofs.lemmas.List.Elements.{All-take}
+use Rattle.std.proofs.Math.Seq.{take-length}
 use Rattle.std.proofs.lemmas.Option.{slice_get-get_or, get_or_from_slice_get}
 use Rattle.eo_term.specs.declared.OpCode.{OpCode}
 use Rattle.eo_term.specs.declared.node.Node.{Node}
@@ -174,6 +175,9 @@ module _ (m n : Nodes) (k : IsKept m) (g : IsMore m n) where
 
 pub length-entries : (n : Nodes) → length (entries_of n) ≡ length n.keys.entries
 length-entries n = length-map n.keys.entries (λ (e : Key × Info). (root_of (literals_of n) (lists_of n) e.0, e.1))
+
+pub nothing_cut : (n : Nodes) (k : ℕ) → k ≡ length (entries_of n) → entries_of n ≡ take k (entries_of n)
+nothing_cut n k e = sym (ap (λ j. take j (entries_of n)) e ∙ take-length (entries_of n))
 
 module _ (n : Nodes) (h : IsKept n) where
   abbrev roots : Key → Root

@@ -170,8 +170,24 @@ impl Nodes {
         self.lists.reserve(more)
     }
 
-    // Drops the terms from a place on, and the literals and the arguments that only they have.
+    // Drops the terms from a place on, and the literals and the arguments that only they have. It costs
+    // nothing where no term stands there.
+    #[tactic(auto, using(crate::proofs::Keys::nothing_cut))]
     pub(crate) fn cut(&mut self, terms: usize)
+        requires kept { IsKept self.old }
+        requires within { terms ≤ length (entries_of self.old) }
+        ensures kept { IsKept self.new }
+        ensures entries { entries_of self.new ≡ take terms (entries_of self.old) }
+        ensures room { (n : ℕ) → HasRoom n self.old → HasRoom n self.new }
+    {
+        if terms == self.len() {
+            return;
+        }
+        self.cut_newer(terms);
+    }
+
+    // The same where terms stand there.
+    fn cut_newer(&mut self, terms: usize)
         requires kept { IsKept self.old }
         requires within { terms ≤ length (entries_of self.old) }
         ensures kept { IsKept self.new }

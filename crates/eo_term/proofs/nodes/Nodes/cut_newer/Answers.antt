@@ -1,7 +1,7 @@
 use Rattle.std.proofs.Common.{arith}
 use Rattle.eo_term.specs.declared.nodes.Nodes.{Nodes}
 use Rattle.eo_term.proofs.Keys.{length-entries, kept_cut, entries_cut}
-use Rattle.eo_term.proofs.nodes.Nodes.cut.Goals as goal
+use Rattle.eo_term.proofs.nodes.Nodes.cut_newer.Goals as goal
 
 pub returns-clause-kept : goal.returns-clause-kept
 returns-clause-kept c =
