@@ -1,5 +1,6 @@
 -- Numbers beside the entries that are kept, where one is added and where only older ones stay.
-use Rattle.std.proofs.Common.{◌≡◌, ◌≢◌, ℕ, zero, suc, ◌+◌, ◌-◌, ◌<◌, ◌≤◌, ◌⊎◌, ⊎_elim, cond, true, List, [], ◌∷◌, ◌++◌, length, length-append, length-set, take, drop, filter, replicate, set, get_or, get_or-set_same, get_or-set_other, All, refl, sym, ap, ◌∙◌, subst₂, arith, Bool, nat_lt, ltb-true, lt-ltb, take-take, length-take-le, get_or-take}
+use Rattle.std.proofs.Common.{◌≡◌, ◌≢◌, ℕ, zero, suc, ◌+◌, ◌-◌, ◌<◌, ◌≤◌, ◌⊎◌, ⊎_elim, cond, true, List, [], ◌∷◌, ◌++◌, length, length-append, length-set, take, drop, filter, replicate, set, get_or, get_or-set_same, get_or-set_other, All, refl, sym, ap, ◌∙◌, subst, subst₂, arith, Bool, nat_lt, ltb-true, lt-ltb, take-take, length-take-le, get_or-take}
+use Rattle.std.proofs.Math.Seq.{take-length}
 use Rattle.std.specs.Prelude.{slice_index_or, swap}
 use Rattle.std.specs.List.{SwappedAt}
 use Rattle.std.proofs.lemmas.List.Edits.{swap_is}
@@ -99,3 +100,8 @@ greatest_before ns es fs n start g within h same from = record {
 pub all_before : (ns : List ℕ) (es : List (ℕ × ℕ)) (n i : ℕ) → AreGreatest ns es → i < length es → slice_index_or ns i 0 < n → All (λ e. is_before n e ≡ true) (take (i + 1) es)
 all_before ns es n i g l m =
     All-weaker (IsUpTo (slice_index_or ns i 0)) (λ e. is_before n e ≡ true) (λ e u. and_from (nat_lt e.0 n) (nat_lt e.1 n) (lt-ltb e.0 n (omega (arith, u.term, m))) (lt-ltb e.1 n (omega (arith, u.type, m)))) (take (i + 1) es) (g.upto i l)
+
+-- where all entries are before a mark, none is forgotten
+pub nothing_forgotten : (n start : ℕ) (es : List (ℕ × ℕ)) → start ≡ length es → All (λ e. is_before n e ≡ true) (take start es) → es ≡ filter (is_before n) es
+nothing_forgotten n start es long before =
+    sym (filter_all (is_before n) es (subst (All (λ e. is_before n e ≡ true)) (ap (λ k. take k es) long ∙ take-length es) before))

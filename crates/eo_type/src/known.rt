@@ -63,10 +63,23 @@ impl Known {
 
     /// Keeps the entries alone whose terms are both among the first so many terms. It costs no more
     /// than was found since there were no more terms than that.
+    #[tactic(auto, using(crate::proofs::Greatest::nothing_forgotten))]
     pub(crate) fn forget(&mut self, terms: usize)
         ensures { self.new ≡ filter (is_before terms) self.old }
     {
         let start = self.older(terms);
+        if start == self.types.len() {
+            return;
+        }
+        self.forget_from(start, terms);
+    }
+
+    // The same, where the terms of those at the front are among them.
+    fn forget_from(&mut self, start: usize, terms: usize)
+        requires within { start ≤ length self.old }
+        requires before { All (λ e. is_before terms e ≡ true) (take start self.old) }
+        ensures { self.new ≡ filter (is_before terms) self.old }
+    {
         let end = gather(&mut self.types, start, terms);
         self.types.truncate(end);
         cut(&mut self.greatest, start, end, terms.saturating_sub(1));

@@ -2,7 +2,7 @@ use Rattle.std.proofs.Common.{◌≡◌, ℕ, ◌-◌, ◌≤◌, ◌++◌, All,
 use Rattle.eo_type.specs.Known.{is_before}
 use Rattle.eo_type.specs.Greatest.{AreGreatest}
 use Rattle.eo_type.proofs.Greatest.{greatest_before}
-use Rattle.eo_type.proofs.known.Known.forget.Goals as goal
+use Rattle.eo_type.proofs.known.Known.forget_from.Goals as goal
 
 pub invariant_of-self : goal.invariant_of-self
 invariant_of-self c =
@@ -10,11 +10,11 @@ invariant_of-self c =
     let es = c.self.inside.types.entries in
     let fs = c.truncate.new.self.entries in
     let n = c.args.terms in
-    let start = c.older-start.result in
+    let start = c.args.start in
     let end = c.gather-end.result in
     let long : length fs ≡ end = ap length c.truncate.ensures.entries ∙ length-take-le end c.gather-end.new.types.entries (omega (arith, c.gather-end.ensures.within, c.gather-end.ensures.long)) in
-    let within : start ≤ length es = subst (λ xs. start ≤ length xs) (sym c.self.view_is) c.older-start.ensures.within in
-    let before : All (λ e. is_before n e ≡ true) (take start es) = subst (λ xs. All (λ e. is_before n e ≡ true) (take start xs)) (sym c.self.view_is) c.older-start.ensures.before in
+    let within : start ≤ length es = subst (λ xs. start ≤ length xs) (sym c.self.view_is) c.requires.within in
+    let before : All (λ e. is_before n e ≡ true) (take start es) = subst (λ xs. All (λ e. is_before n e ≡ true) (take start xs)) (sym c.self.view_is) c.requires.before in
     let same : fs ≡ filter (is_before n) es = c.truncate.ensures.entries ∙ c.gather-end.ensures.gathered in
     let less : n - 1 ≡ c.saturating_sub.result = sym c.saturating_sub.ensures in
     let numbers : take start ns ++ replicate (length fs - start) (n - 1) ≡ c.cut.new.greatest.items = (λ j. take start ns ++ replicate (long j - start) (less j)) ∙ sym c.cut.ensures in
