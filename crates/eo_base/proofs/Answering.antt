@@ -34,3 +34,8 @@ tells_through told f h e o = by (told e)
 pub ok_always : {A E : Type 0} (P : A → Type 0) (r : Result A E) → ((x : A) → P x) → IfOk r P
 ok_always P (Ok x) f = f x
 ok_always P (Err e) f = tt
+
+-- what a `?` returns is the error
+pub at_exit : {A E : Type 0} (P : Result A E → Type 0) (r : Result A E) (x : E) → IsErrAnd r (λ e. e ≡ x) → P (Err x) → P r
+at_exit P (Ok y) x e h = absurd e
+at_exit P (Err y) x e h = subst (λ z. P (Err z)) (sym e) h

@@ -1,9 +1,9 @@
 -- Elements by their places, and bounds of numbers.
-use Rattle.std.proofs.Common.{◌≡◌, ℕ, zero, suc, ◌<◌, ◌≤◌, List, [], ◌∷◌, ◌++◌, nat_eq, length, map, slice_get, get_or, if◌then◌else◌, Bool, true, false, Option, Some, All, refl, sym, subst, ◌∙◌, arith}
+use Rattle.std.proofs.Common.{◌≡◌, ℕ, zero, suc, ◌<◌, ◌≤◌, List, [], ◌∷◌, ◌++◌, nat_eq, length, map, slice_get, get_or, if◌then◌else◌, Bool, true, false, Option, Some, All, Contains, ◌⊎◌, inl, inr, refl, sym, ap, subst, ◌∙◌, arith}
 use Rattle.std.proofs.lemmas.Bool.{eqb-true}
 use Rattle.std.proofs.lemmas.Option.{none-some, same_Some}
 use Rattle.std.proofs.lemmas.List.{map-append}
-use Rattle.std.proofs.lemmas.List.Elements.{All-nil, All-cons, All-head, All-tail, All-push, All-weaker}
+use Rattle.std.proofs.lemmas.List.Elements.{All-nil, All-cons, All-head, All-tail, All-push, All-weaker, Contains-append_right, Contains-append_cases}
 
 -- what stands at a place stands there still when more comes at the end
 pub slice_get_left : {X : Type 0} (xs ys : List X) (i : ℕ) (x : X) → slice_get xs i ≡ Some x → slice_get (xs ++ ys) i ≡ Some x
@@ -53,3 +53,26 @@ all_first P (x ∷ xs) ys h = All-cons P x xs (All-head P x (xs ++ ys) h) (all_f
 pub all_last : {X : Type 0} (P : X → Type 0) (xs : List X) (y : X) → All P (xs ++ y ∷ []) → P y
 all_last P [] y h = All-head P y [] h
 all_last P (x ∷ xs) y h = all_last P xs y (All-tail P x (xs ++ y ∷ []) h)
+
+-- what a function makes of the element at a place
+pub get_or-at : {X Y : Type 0} (f : X → Y) (xs : List X) (i : ℕ) (x : X) (d : Y) → i < length xs → x ≡ get_or xs i x → get_or (map f xs) i d ≡ f x
+get_or-at f [] i x d l e = absurd (omega arith)
+get_or-at f (y ∷ ys) zero x d l e = ap f (sym e)
+get_or-at f (y ∷ ys) (suc i) x d l e = get_or-at f ys i x d (omega arith) e
+
+-- an element of a list is its first or a later one, and an empty list has none
+pub contains_later : {X : Type 0} (y : X) (xs : List X) (x : X) → Contains xs x → Contains (y ∷ xs) x
+contains_later y xs x h = Contains-append_right (y ∷ []) xs x h
+
+pub contains_split : {X : Type 0} (y : X) (xs : List X) (x : X) → Contains (y ∷ xs) x → (y ≡ x) ⊎ Contains xs x
+contains_split y xs x h = elim (Contains-append_cases (y ∷ []) xs x h) [ inl c ↦ inl (one c) | inr c ↦ inr c ]
+  where
+    one : Contains (y ∷ []) x → y ≡ x
+    one c = at c.0 c.1 c.2
+      where
+        at : (k : ℕ) → k < length (y ∷ []) → get_or (y ∷ []) k x ≡ x → y ≡ x
+        at zero l e = e
+        at (suc k) l e = absurd (omega (arith, l))
+
+pub contains_none : {X : Type 0} (x : X) {A : Type 0} → Contains {X = X} [] x → A
+contains_none x c = absurd (omega (arith, c.1))

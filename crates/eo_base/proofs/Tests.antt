@@ -36,3 +36,8 @@ clash h = absurd (true≢false (sym h))
 -- what is above a limit has only what is above it over it
 pub still_above : (limit m n : ℕ) → m ≤ n → nat_lt limit m ≡ true → nat_lt limit n ≡ true
 still_above limit m n l e = let h = ltb-true limit m e in lt-ltb limit n (omega (arith, h, l))
+
+-- one of two tests holds
+pub from_either : {P : Type 0} (a b : Bool) → (a ≡ true → P) → (b ≡ true → P) → (a || b) ≡ true → P
+from_either true b f g h = f refl
+from_either false b f g h = g h

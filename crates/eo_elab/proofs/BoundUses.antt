@@ -4,7 +4,7 @@ use Rattle.std.specs.List.{list_all}
 use Rattle.std.proofs.Common.{subst, ap, arith}
 use Rattle.std.proofs.lemmas.Bool.Decides.{Decides-ltb}
 use Rattle.eo_base.proofs.ChecksLemmas.{ok_injective, bind_ok, require_then}
-use Rattle.eo_base.proofs.Tests.{both}
+use Rattle.eo_base.proofs.Tests.{both, join}
 use Rattle.eo_sexp.specs.Sexp.{Sexp}
 use Rattle.eo_shape.specs.Shapes.{ParameterShape, RuleShape}
 use Rattle.eo_sig.specs.Signature.{Parameter, Macro, Rule, are_ordered}
@@ -14,7 +14,7 @@ use Rattle.eo_names.specs.Readers.{Label}
 use Rattle.eo_elab.specs.Meaning.{meaning, means}
 use Rattle.eo_elab.specs.Declarations.{Bound, unbound, with_parameter, bind, bind_types, defined, defined_fun, defined_sort, declared_rule}
 use Rattle.eo_elab.specs.Fitting.{FitsTerms, macro_is_bound, label_is_closed, are_free}
-use Rattle.eo_elab.proofs.Uses.{join, uses_more}
+use Rattle.eo_elab.proofs.Uses.{uses_more}
 use Rattle.eo_elab.proofs.SymbolUses.{LocalsWithin}
 use Rattle.eo_elab.proofs.MeansUses.{meaning_uses, means_reads}
 use Rattle.eo_elab.proofs.ReadingUses.{no_labels}

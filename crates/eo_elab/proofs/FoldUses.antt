@@ -7,11 +7,11 @@ use Rattle.eo_base.specs.declared.FaultName.{FaultName}
 use Rattle.eo_base.specs.declared.FaultName.TheVariants.{BadArity}
 use Rattle.eo_base.specs.Checks.{Checked}
 use Rattle.eo_base.proofs.ChecksLemmas.{ok_injective, err_is_not_ok}
-use Rattle.eo_base.proofs.Tests.{both}
+use Rattle.eo_base.proofs.Tests.{both, join}
 use Rattle.eo_term.specs.Tree.{Tree, Con, App, uses_only}
 use Rattle.eo_sig.specs.Signature.{Signature, Attribute, Plain, RightNil, LeftNil, Right, Left, Chain, Pairs, Binder, Constant, constant_at, may_fold}
 use Rattle.eo_names.specs.Folding.{applied, applied_to_two, list_onto, last_onto, right_nil, left_nil, right, left, links, all_pairs, least, attribute_at, joined_by, by_attribute, folded_within, folded}
-use Rattle.eo_elab.proofs.Uses.{join, value_uses, all_in_both}
+use Rattle.eo_elab.proofs.Uses.{value_uses, all_in_both}
 
 module _ (known : ℕ → Bool) where
   -- it uses known parameters alone

@@ -5,7 +5,7 @@ use Rattle.std.proofs.Common.{subst, sym, ◌∙◌}
 use Rattle.std.proofs.lemmas.Bool.{eqb-true}
 use Rattle.eo_base.specs.declared.FaultName.TheVariants.{BadCommand, BadArity}
 use Rattle.eo_base.specs.Checks.{Checked}
-use Rattle.eo_base.proofs.Tests.{both}
+use Rattle.eo_base.proofs.Tests.{both, join}
 use Rattle.eo_lit.specs.Literals.{numeral}
 use Rattle.eo_pattern.specs.Matching.{put}
 use Rattle.eo_sexp.specs.Sexp.{Sexps, NoSexp, Next}
@@ -18,7 +18,7 @@ use Rattle.eo_names.specs.Meanings.{Meant, ATree, AMacro, AnOperator, Nothing, m
 use Rattle.eo_names.specs.Readers.{Reader, ◌>>=◌, read, built}
 use Rattle.eo_elab.specs.Fitting.{FitsTerms}
 use Rattle.eo_elab.specs.Meaning.{count, is_let, begins_with_pairs, is_annotated, bits_of, bit_vector, Application, Wrong, Binds, Uses, ListForm, ALet, AnAnnotation, ABitString, AnApplication, ATermFirst, where_many, at_least, exactly, plain_use, folded_use, constant_use, tree_use, meant_use, underscore_form, word_form, head_form, counted_form, list_form, used}
-use Rattle.eo_elab.proofs.Uses.{join, arguments_use}
+use Rattle.eo_elab.proofs.Uses.{arguments_use}
 use Rattle.eo_elab.proofs.PutUses.{macro_uses}
 use Rattle.eo_elab.proofs.FoldUses.{Within, AllWithin, PassesWithin, ok_within, applied_uses, folded_uses}
 use Rattle.eo_elab.proofs.SymbolUses.{LocalsWithin, MeantWithin, meant_within}

@@ -5,7 +5,7 @@ use Rattle.std.proofs.Common.{subst, ap}
 use Rattle.eo_base.specs.declared.FaultName.TheVariants.{BadCommand, Redeclared, BadArity}
 use Rattle.eo_base.specs.Checks.{Checked}
 use Rattle.eo_base.proofs.ChecksLemmas.{ok_injective, err_is_not_ok}
-use Rattle.eo_base.proofs.Tests.{both}
+use Rattle.eo_base.proofs.Tests.{both, join}
 use Rattle.eo_sexp.specs.Sexp.{Sexp, Atom, Listed, Sexps, NoSexp, Next}
 use Rattle.eo_term.specs.Tree.{Tree, uses_only}
 use Rattle.eo_names.specs.Binders.{pair_local, variable, list_of}
@@ -14,7 +14,7 @@ use Rattle.eo_names.specs.Folding.{folded}
 use Rattle.eo_names.specs.Readers.{Label, ◌>>=◌, give, read, built}
 use Rattle.eo_elab.specs.Fitting.{FitsTerms}
 use Rattle.eo_elab.specs.Meaning.{atom, ListForm, ALet, AnAnnotation, ABitString, AnApplication, ATermFirst, tree_use, list_form, used, label, labels_of, means, means_list, means_all, in_let, in_binder, pair_list, pairs_after, annotated, without_labels, meaning}
-use Rattle.eo_elab.proofs.Uses.{join, all_in_both}
+use Rattle.eo_elab.proofs.Uses.{all_in_both}
 use Rattle.eo_elab.proofs.FoldUses.{Within, AllWithin, folded_uses}
 use Rattle.eo_elab.proofs.SymbolUses.{LocalsWithin, atom_within}
 use Rattle.eo_elab.proofs.ReadingUses.{EndsIn, no_labels, Reads, ends_ok, ends_err, bind_reads, first_reads, labelled_ends, read_reads, unless_reads, built_reads, label_reads}

@@ -3,10 +3,9 @@ use Rattle.std.specs.Prelude.{◌≡◌, ◌<◌, ℕ, zero, suc, Bool, true, na
 use Rattle.std.specs.List.{list_all}
 use Rattle.std.proofs.Common.{arith}
 use Rattle.std.proofs.lemmas.Bool.Decides.{Decides-ltb}
-use Rattle.eo_base.proofs.Tests.{both}
+use Rattle.eo_base.proofs.Tests.{both, join}
 use Rattle.eo_term.specs.Tree.{Tree, Con, Num, Bits, Str, Par, Var, App, Arr, Qar, Op, Trees, NoTree, More, uses_only, all_use_only}
 use Rattle.eo_pattern.specs.Matching.{Assignment, value_or_par, put, put_all}
-use Rattle.eo_elab.proofs.Uses.{join}
 
 -- each parameter that the tree uses becomes a tree that uses only the known ones
 module _ (inner known : ℕ → Bool) (σ : Assignment) (each : (j : ℕ) → inner j ≡ true → uses_only known (value_or_par j (σ j)) ≡ true) where

@@ -3,7 +3,7 @@ use Rattle.std.specs.Prelude.{◌≡◌, ℕ, Bool, true, false, not, if◌then�
 use Rattle.std.specs.List.{list_all}
 use Rattle.std.proofs.Common.{subst, sym}
 use Rattle.std.proofs.lemmas.List.{append-nil, append_assoc}
-use Rattle.eo_base.proofs.Tests.{both}
+use Rattle.eo_base.proofs.Tests.{both, join}
 use Rattle.eo_base.specs.declared.FaultName.{FaultName}
 use Rattle.eo_base.specs.declared.FaultName.TheVariants.{Redeclared, TermHeight}
 use Rattle.eo_base.specs.Checks.{Checked}
@@ -13,7 +13,7 @@ use Rattle.eo_names.specs.Contexts.{Context}
 use Rattle.eo_names.specs.Readers.{Label, Reader, go_on, ◌>>=◌, give, fail, with_labels, read, unless, built}
 use Rattle.eo_elab.specs.Fitting.{are_free}
 use Rattle.eo_elab.specs.Meaning.{is_free_label, label}
-use Rattle.eo_elab.proofs.Uses.{join, all_in_both}
+use Rattle.eo_elab.proofs.Uses.{all_in_both}
 use Rattle.eo_elab.proofs.FoldUses.{Within}
 
 -- one name more, which is free behind those before it

@@ -4,11 +4,8 @@ use Rattle.std.specs.List.{list_all}
 use Rattle.std.proofs.Common.{subst, ◌∙◌}
 use Rattle.std.proofs.lemmas.Bool.{and_from}
 use Rattle.std.proofs.lemmas.List.Folds.{list_all-append}
-use Rattle.eo_base.proofs.Tests.{both, clash}
+use Rattle.eo_base.proofs.Tests.{both, clash, join}
 use Rattle.eo_term.specs.Tree.{Tree, Con, Num, Bits, Str, Par, Var, App, Arr, Qar, Op, Trees, NoTree, More, is_value, uses_only, all_use_only, to_trees}
-
-pub join : {a b : Bool} → a ≡ true → b ≡ true → (a && b) ≡ true
-join {a} {b} h k = and_from a b h k
 
 -- what uses some parameters alone uses no others than more of them
 module _ (known more : ℕ → Bool) (all : (j : ℕ) → known j ≡ true → more j ≡ true) where

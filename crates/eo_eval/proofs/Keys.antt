@@ -14,11 +14,7 @@ use Rattle.eo_eval.specs.Reading.{read_call, begun}
 use Rattle.eo_eval.specs.declared.calls.CallKey.{CallKey}
 use Rattle.eo_eval.specs.declared.stack.Known as code_known
 use Rattle.eo_eval.specs.contracts.calls.CallKeyPartialEq.TheImpl as key_eq
-
-alike : (a b : Bool) → (a ≡ true → b ≡ true) → (b ≡ true → a ≡ true) → a ≡ b
-alike true b f g = sym (f refl)
-alike false true f g = g refl
-alike false false f g = refl
+use Rattle.eo_base.proofs.Tests.{same_tests}
 
 module _ (ts : List Tree) (same : (i j : ℕ) → i < length ts → j < length ts → tree_at ts i ≡ tree_at ts j → i ≡ j) where
   abbrev Below : ℕ → Type 0
@@ -40,7 +36,7 @@ module _ (ts : List Tree) (same : (i j : ℕ) → i < length ts → j < length t
 
   args_alike : (xs ys : List ℕ) → All (λ i. i < length ts) xs → All (λ i. i < length ts) ys → bytes_eq xs ys ≡ pointwise tree_eq (map (tree_at ts) xs) (map (tree_at ts) ys)
   args_alike xs ys p q =
-      alike (bytes_eq xs ys) (pointwise tree_eq (map (tree_at ts) xs) (map (tree_at ts) ys))
+      same_tests (bytes_eq xs ys) (pointwise tree_eq (map (tree_at ts) xs) (map (tree_at ts) ys))
       (λ h. (tree_list_decides (map (tree_at ts) xs) (map (tree_at ts) ys)).1 (ap (map (tree_at ts)) ((bytes_decides xs ys).0 h)))
       (λ h. (bytes_decides xs ys).1 (ids_same xs ys p q ((tree_list_decides (map (tree_at ts) xs) (map (tree_at ts) ys)).0 h)))
 

@@ -3,7 +3,7 @@ use Rattle.std.specs.Prelude.{◌≡◌, ℕ, zero, suc, ◌≤◌, Bool, true, 
 use Rattle.std.specs.List.{list_any}
 use Rattle.std.proofs.Common.{sym, ◌∙◌, ap, subst, arith, true≢false, eq-eqb}
 use Rattle.std.proofs.lemmas.List.Folds.{list_any-append}
-use Rattle.eo_base.proofs.Tests.{join}
+use Rattle.eo_base.proofs.Tests.{join, or_first, or_second}
 use Rattle.eo_term.specs.Tree.{Tree}
 use Rattle.eo_term.proofs.Equality.{tree_list_decides}
 use Rattle.eo_sig.specs.Signature.{Signature}
@@ -32,18 +32,10 @@ begin_again most x c h = ap (λ (b : Bool). if b then (Value tt, c) else (if nat
 pub begin_gives : (most : ℕ) (x : Call) (c d : Begun) (o : Outcome (Unit {0})) → begin most x c ≡ (o, d) → is_done o ≡ true → Covers d c × IsBegun d x
 begin_gives most x c d o e done = by_member (list_any (call_eq x) c) refl e
   where
-    or_left : (a b : Bool) → a ≡ true → (a || b) ≡ true
-    or_left true b h = refl
-    or_left false b h = absurd (true≢false (sym h))
-
-    or_right : (a b : Bool) → b ≡ true → (a || b) ≡ true
-    or_right true b h = refl
-    or_right false b h = h
-
     by_room : (r : Bool) → ◌≡◌ {A = Ended (Unit {0})} (if r then (Value tt, c ++ x ∷ []) else (Calls, c)) (o, d) → Covers d c × IsBegun d x
     by_room true q =
         let same : c ++ x ∷ [] ≡ d = ap (λ (r : Ended (Unit {0})). r.1) q in
-        (λ y h. subst (λ (b : Begun). IsBegun b y) same (list_any-append (call_eq y) c (x ∷ []) ∙ or_left (list_any (call_eq y) c) (list_any (call_eq y) (x ∷ [])) h), subst (λ (b : Begun). IsBegun b x) same (list_any-append (call_eq x) c (x ∷ []) ∙ or_right (list_any (call_eq x) c) (list_any (call_eq x) (x ∷ [])) (or_left (call_eq x x) false (call_refl x))))
+        (λ y h. subst (λ (b : Begun). IsBegun b y) same (list_any-append (call_eq y) c (x ∷ []) ∙ or_first (list_any (call_eq y) c) (list_any (call_eq y) (x ∷ [])) h), subst (λ (b : Begun). IsBegun b x) same (list_any-append (call_eq x) c (x ∷ []) ∙ or_second (list_any (call_eq x) c) (list_any (call_eq x) (x ∷ [])) (or_first (call_eq x x) false (call_refl x))))
     by_room false q = absurd (not_done refl q done)
 
     by_member : (m : Bool) → list_any (call_eq x) c ≡ m → ◌≡◌ {A = Ended (Unit {0})} (if m then (Value tt, c) else (if nat_lt (length c) most then (Value tt, c ++ x ∷ []) else (Calls, c))) (o, d) → Covers d c × IsBegun d x

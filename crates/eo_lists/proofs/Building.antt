@@ -10,6 +10,7 @@ use Rattle.eo_term.specs.Terms.{Terms, tree_at}
 use Rattle.eo_term.specs.Tree.{Tree, Con, height, is_tall}
 use Rattle.eo_lists.specs.Lists.{link, spell}
 use Rattle.eo_lists.specs.Parts.{onto}
+use Rattle.eo_base.proofs.Elements.{get_or-at}
 
 -- a table that has grown twice has grown
 pub grows_on : (a b c : Terms) → Grows a b → Grows b c → Grows a c
@@ -17,11 +18,6 @@ grows_on a b c g h = record { now = h.since a g.now; since = λ t s. h.since t (
 
 pub tall_rest : (f a t : Tree) → is_tall t ≡ true → is_tall (link f a t) ≡ true
 tall_rest f a t e = still_above height_limit (height t) (height (link f a t)) (omega arith) e
-
-pub get_or-at : {X Y : Type 0} (f : X → Y) (xs : List X) (i : ℕ) (x : X) (d : Y) → i < length xs → x ≡ get_or xs i x → get_or (map f xs) i d ≡ f x
-get_or-at f [] i x d l e = absurd (omega arith)
-get_or-at f (y ∷ ys) zero x d l e = ap f (sym e)
-get_or-at f (y ∷ ys) (suc i) x d l e = get_or-at f ys i x d (omega arith) e
 
 -- ---- from the back
 

@@ -10,6 +10,7 @@ use Rattle.std.proofs.lemmas.List.{length-map}
 use Rattle.eo_names.specs.declared.locals.LocalName.{LocalName}
 use Rattle.eo_names.specs.Names.{read_locals, AreBelow}
 use Rattle.eo_names.specs.Folding.{applied_to_two, list_onto, last_onto, right_nil}
+use Rattle.eo_base.proofs.Elements.{get_or-at}
 
 pub higher : (t u : Tree) → height t ≤ height u → is_tall t ≡ true → is_tall u ≡ true
 higher t u h e = still_above height_limit (height t) (height u) h e
@@ -49,11 +50,6 @@ module _ (g : Tree → Tree → Tree) (ts : List Tree) (args : List ℕ) where
     pub left_tall : (i a : ℕ) (now next whole : Tree) → i < length args → a ≡ get_or args i a → Left i now whole → next ≡ g now (tree_at ts a) → is_tall next ≡ true → is_tall whole ≡ true
     left_tall i a now next whole l e h n t =
         ap is_tall (sym (left_turn i a now next whole l e h n)) ∙ tall_fold (map (tree_at ts) (drop (i + 1) args)) next t
-
-pub get_or-at : {X Y : Type 0} (f : X → Y) (xs : List X) (i : ℕ) (x : X) (d : Y) → i < length xs → x ≡ get_or xs i x → get_or (map f xs) i d ≡ f x
-get_or-at f [] i x d l e = absurd (omega arith)
-get_or-at f (y ∷ ys) zero x d l e = ap f (sym e)
-get_or-at f (y ∷ ys) (suc i) x d l e = get_or-at f ys i x d (omega arith) e
 
 -- from the right: a grouping by what is put before a list that is not empty
 module _ (grouped : List Tree → Tree) (onto : Tree → Tree → Tree)

@@ -5,11 +5,10 @@ use Rattle.std.proofs.lemmas.List.{append-nil, at_drop_more, drop-map, take_all}
 use Rattle.std.proofs.Common.{append_assoc, length-drop, take}
 use Rattle.std.proofs.lemmas.List.Elements.{All-drop}
 use Rattle.std.proofs.lemmas.List.{length-map}
-use Rattle.eo_base.proofs.Elements.{map_same, push_same}
+use Rattle.eo_base.proofs.Elements.{map_same, push_same, get_or-at}
 use Rattle.eo_term.specs.Tree.{Tree, Con, is_tall}
 use Rattle.eo_term.specs.Terms.{tree_at}
 use Rattle.eo_names.specs.Folding.{applied_to_two, links, all_pairs}
-use Rattle.eo_names.proofs.FoldLemmas.{get_or-at}
 use Rattle.eo_names.proofs.FoldTall.{HasTall, any_at, any_first, any_second}
 
 -- numbers keep their trees where a table grows

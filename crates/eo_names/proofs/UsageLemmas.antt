@@ -9,7 +9,6 @@ use Rattle.std.proofs.lemmas.List.{length-map}
 use Rattle.eo_term.specs.Tree.{Tree, More, to_trees}
 use Rattle.eo_term.specs.Terms.{tree_at, trees_at}
 use Rattle.eo_pattern.specs.Matching.{assign}
-use Rattle.eo_names.proofs.FoldLemmas.{get_or-at}
 use Rattle.eo_pattern.specs.Matching.{put}
 use Rattle.eo_names.specs.declared.usage.Use.{Use}
 use Rattle.eo_names.specs.declared.usage.Use.TheVariants as use_
@@ -17,6 +16,7 @@ use Rattle.eo_names.specs.Folding.{applied}
 use Rattle.eo_names.specs.Contexts.{Context, Local}
 use Rattle.eo_names.specs.Readers.{built}
 use Rattle.eo_names.specs.Usage.{made_of, UseBelow}
+use Rattle.eo_base.proofs.Elements.{get_or-at}
 
 -- arguments as the trees of an operator
 pub to_trees-at : (ts : List Tree) (is : List ℕ) → to_trees (map (tree_at ts) is) ≡ trees_at ts is

@@ -24,16 +24,9 @@ use Rattle.std.specs.Option.{option_flatten, option_map}
 use Rattle.eo_term.specs.Terms.{Terms, Since, SameTrees, tree_at, trees_at}
 use Rattle.eo_pattern.proofs.Match.{matches_unique}
 use Rattle.eo_pattern.proofs.Put.{put_agree, put_list_agree}
+use Rattle.std.proofs.Math.Bool.{or_assoc, or-false}
 
 -- Booleans
-
-or_assoc : (a b c : Bool) → ((a || b) || c) ≡ (a || (b || c))
-or_assoc true b c = refl
-or_assoc false b c = refl
-
-or_false : (a : Bool) → (a || false) ≡ a
-or_false true = refl
-or_false false = refl
 
 -- closed trees
 
@@ -96,7 +89,7 @@ put_missed ts s set own t a same small apart =
 pub closed_equal : (σ : Assignment) (p t : Tree) → is_closed p ≡ true → p ≡ t → Matches σ (p ∷ []) (t ∷ []) σ
 closed_equal σ p t h e = record {
   extends = λ i u q. q;
-  names = λ i. sym (ap (λ b. is_some (σ i) || (b || false)) (closed_none i p h) ∙ or_false (is_some (σ i)));
+  names = λ i. sym (ap (λ b. is_some (σ i) || (b || false)) (closed_none i p h) ∙ or-false (is_some (σ i)));
   equal = ap (λ u. u ∷ []) (put_closed σ p h ∙ e);
 }
 
@@ -128,7 +121,7 @@ par_new σ i t n = record { extends = more; names = named; equal = ap (λ u. u �
       where
         by : (b : Bool) → nat_eq i j ≡ b → is_some (if b then Some t else σ j) ≡ (is_some (σ j) || (nat_eq j i || false))
         by true q = sym (or_second (is_some (σ j)) (nat_eq j i || false) (ap (λ b. b || false) ((Decides-eqb j i).1 (sym ((Decides-eqb i j).0 q)))))
-        by false q = sym (ap (λ b. is_some (σ j) || (b || false)) (other (nat_eq j i) refl) ∙ or_false (is_some (σ j)))
+        by false q = sym (ap (λ b. is_some (σ j) || (b || false)) (other (nat_eq j i) refl) ∙ or-false (is_some (σ j)))
           where
             other : (b : Bool) → nat_eq j i ≡ b → b ≡ false
             other true r = absurd (true≢false (sym ((Decides-eqb i j).1 (sym ((Decides-eqb j i).0 r))) ∙ q))
@@ -147,7 +140,7 @@ pub matches_cons : (σ τ ρ : Assignment) (p t : Tree) (ps ts : List Tree) → 
 matches_cons σ τ ρ p t ps ts m n = record {
   extends = λ i u e. n.extends i u (m.extends i u e);
   names = λ i.
-      n.names i ∙ ap (λ b. b || occurs_in i ps) (m.names i ∙ ap (λ b. is_some (σ i) || b) (or_false (occurs i p))) ∙ or_assoc (is_some (σ i)) (occurs i p) (occurs_in i ps);
+      n.names i ∙ ap (λ b. b || occurs_in i ps) (m.names i ∙ ap (λ b. is_some (σ i) || b) (or-false (occurs i p))) ∙ or_assoc (is_some (σ i)) (occurs i p) (occurs_in i ps);
   equal =
       let one : put τ p ∷ [] ≡ t ∷ [] = m.equal in
       let same : map (put ρ) (p ∷ []) ≡ map (put τ) (p ∷ []) = more_put τ ρ (p ∷ []) n.extends (λ i o. m.names i ∙ or_second (is_some (σ i)) (occurs i p || false) o) in
@@ -183,7 +176,7 @@ module _ (σ ρ : Assignment) (p t : Tree) (ps ts : List Tree) (m : Matches σ (
   pub first_matches : Matches σ (p ∷ []) (t ∷ []) between
   first_matches = record {
     extends = λ i u e. ap (λ b. if b then ρ i else None) (ap (λ o. is_some o || occurs i p) e) ∙ m.extends i u e;
-    names = λ i. between_some i ∙ ap (λ b. is_some (σ i) || b) (sym (or_false (occurs i p)));
+    names = λ i. between_some i ∙ ap (λ b. is_some (σ i) || b) (sym (or-false (occurs i p)));
     equal =
         let agree : put between p ≡ put ρ p = put_agree between ρ p (λ j o. ap (λ b. if b then ρ j else None) (or_second (is_some (σ j)) (occurs j p) o)) in
         let e : put ρ p ∷ map (put ρ) ps ≡ t ∷ ts = m.equal in
@@ -215,7 +208,7 @@ matches_later σ τ p t more m = record {
 
     by : (i : ℕ) (b : Bool) → (occurs i p || false) ≡ b → is_some (τ i) ≡ (is_some (τ i) || b)
     by i true e = let own : is_some (τ i) ≡ true = some i (σ i) refl (m.names i ∙ or_second (is_some (σ i)) (occurs i p || false) e) in own ∙ sym (or_second (is_some (τ i)) true refl)
-    by i false e = sym (or_false (is_some (τ i)))
+    by i false e = sym (or-false (is_some (τ i)))
 
 -- what was matched is matched from there
 pub matches_again : (σ τ : Assignment) (p t : Tree) → Matches σ (p ∷ []) (t ∷ []) τ → Matches τ (p ∷ []) (t ∷ []) τ
@@ -223,7 +216,7 @@ matches_again σ τ p t m = record { extends = λ i u e. e; names = λ i. by i (
   where
     by : (i : ℕ) (b : Bool) → (occurs i p || false) ≡ b → is_some (τ i) ≡ (is_some (τ i) || b)
     by i true e = let own : is_some (τ i) ≡ true = m.names i ∙ or_second (is_some (σ i)) (occurs i p || false) e in own ∙ sym (or_second (is_some (τ i)) true refl)
-    by i false e = sym (or_false (is_some (τ i)))
+    by i false e = sym (or-false (is_some (τ i)))
 
 pub still_matched : (ts : List Tree) (σ τ : Assignment) (m : List (Option (ℕ × ℕ))) → ((i : ℕ) (u : Tree) → σ i ≡ Some u → τ i ≡ Some u) → AreMatched ts σ m → AreMatched ts τ m
 still_matched ts σ τ m more h = record { each = λ p t k. matches_later σ τ (tree_at ts p) (tree_at ts t) more (h.each p t k) }
@@ -242,7 +235,7 @@ more_matched ts σ m n p t f h own = record {
 -- loops
 
 pub matches_nil : (σ : Assignment) → Matches σ [] [] σ
-matches_nil σ = record { extends = λ i u e. e; names = λ i. sym (or_false (is_some (σ i))); equal = refl }
+matches_nil σ = record { extends = λ i u e. e; names = λ i. sym (or-false (is_some (σ i))); equal = refl }
 
 pub leads_refl : (σ : Assignment) (ps ts : List Tree) → Leads σ ps ts σ ps ts
 leads_refl σ ps ts = record { fwd = λ ρ m. m; back = λ ρ m. m }
@@ -287,12 +280,12 @@ pub op_leads : (σ : Assignment) (c : OpCode) (ts us : Trees) → Leads σ (Op c
 op_leads σ c ts us = record {
   fwd = λ ρ m. record {
     extends = m.extends;
-    names = λ i. m.names i ∙ ap (λ b. is_some (σ i) || b) (sym (or_false (occurs_in_all i ts) ∙ occurs_listed i ts));
+    names = λ i. m.names i ∙ ap (λ b. is_some (σ i) || b) (sym (or-false (occurs_in_all i ts) ∙ occurs_listed i ts));
     equal = ap (λ vs. Op c vs ∷ []) (unlisted (put_all ρ ts) us (listed ρ ts ∙ m.equal));
   };
   back = λ ρ m. record {
     extends = m.extends;
-    names = λ i. m.names i ∙ ap (λ b. is_some (σ i) || b) (or_false (occurs_in_all i ts) ∙ occurs_listed i ts);
+    names = λ i. m.names i ∙ ap (λ b. is_some (σ i) || b) (or-false (occurs_in_all i ts) ∙ occurs_listed i ts);
     equal = let e : Op c (put_all ρ ts) ∷ [] ≡ Op c us ∷ [] = m.equal in let q : put_all ρ ts ≡ us = cc in sym (listed ρ ts) ∙ ap to_list q;
   };
 }

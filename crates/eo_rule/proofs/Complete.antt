@@ -6,7 +6,7 @@ use Rattle.std.proofs.lemmas.List.Folds.{list_any-append}
 use mathlib.Core.Path.{fun_ext}
 use Rattle.eo_base.specs.declared.FaultName.TheVariants.{IllTyped, PremiseMismatch, NotBool}
 use Rattle.eo_base.specs.Checks.{require}
-use Rattle.eo_base.proofs.Tests.{clash, join}
+use Rattle.eo_base.proofs.Tests.{clash, join, or_first, or_second}
 use Rattle.eo_term.specs.Tree.{Tree, Con, is_value, is_plain, occurs, occurs_in, occurs_openly, bool_tree}
 use Rattle.eo_term.proofs.Equality.{tree_decides}
 use Rattle.eo_term.proofs.Values.{plain_occurs}
@@ -26,6 +26,7 @@ use Rattle.eo_rule.proofs.HeldValues.{put_list_named, matching_values}
 use Rattle.eo_rule.proofs.Openly.{settled_openly}
 use Rattle.eo_rule.proofs.Sound.{Fit, Fits, restricted_same, IsUse}
 use Rattle.eo_rule.proofs.Steps.{formula-tested, typed-from, typed-ok, joined-low, require-passes, stated-agrees, value-some}
+use Rattle.std.proofs.Math.Bool.{or_assoc}
 
 -- Restrictions of one assignment.
 
@@ -42,10 +43,6 @@ match_restricted σ k ps ts e named =
       equal = put_list_agree (restricted (λ j. k j || occurs_in j ps) σ) σ ps (λ j o. ap (λ (b : Bool). if b then σ j else None) (or_second (k j) (occurs_in j ps) o)) ∙ e;
     })
   where
-    or_second : (a b : Bool) → b ≡ true → (a || b) ≡ true
-    or_second true b h = refl
-    or_second false b h = h
-
     by_known : (j : ℕ) (t : Tree) (b : Bool) → k j ≡ b → (if b then σ j else None) ≡ Some t → (if (k j || occurs_in j ps) then σ j else None) ≡ Some t
     by_known j t true p h = ap (λ (b : Bool). if (b || occurs_in j ps) then σ j else None) p ∙ h
     by_known j t false p h = clash (ap is_some h)
@@ -82,10 +79,6 @@ module _ (S : Signature) (patterns : List Tree) (σ : Assignment) where
       let s = step h.1 (known patterns (suc i) ps i) refl in
       (types-more S (restricted (λ j. occurs_in j patterns) σ) i p ps ρ h.0 ∙ s.0, s.1)
     where
-      or_first : (a b : Bool) → a ≡ true → (a || b) ≡ true
-      or_first true b h = refl
-      or_first false b h = clash h
-
       inner : (j : ℕ) → known patterns (suc i) ps j ≡ true → is_some (σ j) ≡ true
       inner j h = named j (or_first (known patterns (suc i) ps j) (known patterns (suc i) ps i && occurs_openly j p.type) h)
 
@@ -158,10 +151,6 @@ match_use_complete r hypothesis ts arguments σ ha hp hg ea ep eg =
 
     v3 : HoldsValues (restricted (λ j. k2 j || occurs_in j r.arguments) σ)
     v3 = matching_values (restricted k2 σ) r.arguments arguments (restricted (λ j. k2 j || occurs_in j r.arguments) σ) (matching_values (restricted k1 σ) ps ts (restricted k2 σ) v1 hp m2) hg m3
-
-    or_assoc : (a b c : Bool) → ((a || b) || c) ≡ (a || (b || c))
-    or_assoc true b c = refl
-    or_assoc false b c = refl
 
     same : restricted (λ j. k2 j || occurs_in j r.arguments) σ ≡ restricted (λ j. occurs_in j (rule_patterns r)) σ
     same = ap (λ (k : ℕ → Bool). restricted k σ) (fun_ext (λ j. or_assoc (occurs_in j as') (occurs_in j ps) (occurs_in j r.arguments) ∙ sym (list_any-append (occurs j) as' (ps ++ r.arguments) ∙ ap (λ (b : Bool). occurs_in j as' || b) (list_any-append (occurs j) ps r.arguments))))

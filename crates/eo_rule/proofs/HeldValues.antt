@@ -4,7 +4,7 @@ use Rattle.std.specs.List.{list_all}
 use Rattle.std.specs.Option.{option_or}
 use Rattle.std.specs.Cmp.Lexicographic.{pointwise}
 use Rattle.std.proofs.Common.{sym, ap, subst, true≢false}
-use Rattle.eo_base.proofs.Tests.{clash, both}
+use Rattle.eo_base.proofs.Tests.{clash, both, from_either}
 use Rattle.eo_term.specs.Tree.{Tree, Par, Var, App, Arr, Qar, Op, is_value, occurs, occurs_in, tree_eq}
 use Rattle.eo_pattern.specs.Matching.{Assignment, put, met, met_in, tried, matching}
 use Rattle.eo_pattern.proofs.Put.{HoldsValues, put_named}
@@ -56,10 +56,6 @@ matching_values before ps ts σ v h e = by_test (pointwise tree_eq (map (put (tr
     by_test : (b : Bool) → (if b then Some τ else None) ≡ Some σ → HoldsValues σ
     by_test true q = subst HoldsValues (ap or_τ q) (λ i t f. from_or (before i) (met_in i ps ts) IsValue (v i) (met_in_value i ps ts h) t f)
     by_test false q = absurd (true≢false (sym (ap is_some q)))
-
-from_either : {P : Type 0} (a b : Bool) → (a ≡ true → P) → (b ≡ true → P) → (a || b) ≡ true → P
-from_either true b f g h = f refl
-from_either false b f g h = g h
 
 pub put_list_named : (σ : Assignment) (ps ts : List Tree) → list_all is_value ts ≡ true → map (put σ) ps ≡ ts → (j : ℕ) → occurs_in j ps ≡ true → is_some (σ j) ≡ true
 put_list_named σ ps ts h e = by_list ps (subst (λ (us : List Tree). list_all is_value us ≡ true) (sym e) h)

@@ -14,6 +14,7 @@ use Rattle.eo_eval.specs.Evaluation.{Outcome, Value, Stuck, Deep, Calls, Range, 
 use Rattle.eo_eval.specs.Faults.{value_or_fault}
 use Rattle.eo_rule.specs.Instance.{guarded_conclusion}
 use Rattle.eo_rule.specs.Uses.{Use, typed_or, typed, joined, join_premises, match_use, matched, check_kind, check_value, check_type, check_types, conclude_value, check_formula, is_stated, check_stated, kind_conclusion, rule_conclusion, conclusion}
+use Rattle.std.proofs.lemmas.Bool.{not-true}
 
 typed_is : (o : TypeOutcome Tree) (t : Tree) → typed_or o ≡ Ok t → o ≡ Typed t
 typed_is (Typed u) t e = ap Typed (ok_injective u t e)
@@ -28,10 +29,6 @@ value_is Deep t e = absurd (err_is_not_ok _ t e)
 value_is Calls t e = absurd (err_is_not_ok _ t e)
 value_is Range t e = absurd (err_is_not_ok _ t e)
 value_is Tall t e = absurd (err_is_not_ok _ t e)
-
-not_true : (b : Bool) → not b ≡ true → b ≡ false
-not_true true e = clash e
-not_true false e = refl
 
 map_some : (g : Tree → Tree) (o : Option Tree) (u : Tree) → option_map g o ≡ Some u → (n : Tree) × (o ≡ Some n) × (g n ≡ u)
 map_some g None u e = cc e
@@ -48,7 +45,7 @@ joined_parts S f ps t e =
     let a = bind_ok (value_or PremiseMismatch (list_by S f ps)) _ t e in
     let o = map_some (λ n. spell (Con f) n ps) (terminator S f) a.0 (value_or_ok PremiseMismatch (list_by S f ps) a.0 a.1) in
     let b = bind_ok (require (not (is_tall a.0)) TermHeight) _ t a.2 in
-    let low = not_true (is_tall a.0) (require_ok (not (is_tall a.0)) TermHeight b.0 b.1) in
+    let low = not-true (is_tall a.0) (require_ok (not (is_tall a.0)) TermHeight b.0 b.1) in
     (o.0, o.1, ap is_tall o.2 ∙ low, o.2 ∙ ok_injective a.0 t b.2)
 
 pub list_parts : (S : Signature) (f : ℕ) (ps ts : List Tree) → (joined S f ps >>= λ t. Ok (t ∷ [])) ≡ Ok ts → (t : Tree) × (joined S f ps ≡ Ok t) × (t ∷ [] ≡ ts)
@@ -109,7 +106,7 @@ pub conclude_parts : (S : Signature) (w t : Tree) → conclude_value S w ≡ Ok 
 unfolding conclude_value
 conclude_parts S w t e =
     let a = bind_ok (require (not (is_tall w)) TermHeight) _ t e in
-    (not_true (is_tall w) (require_ok (not (is_tall w)) TermHeight a.0 a.1), value_is (eval0 S w) t a.2)
+    (not-true (is_tall w) (require_ok (not (is_tall w)) TermHeight a.0 a.1), value_is (eval0 S w) t a.2)
 
 pub formula_parts : (S : Signature) (t : Tree) (x : Passed) → check_formula S t ≡ Ok x → (u : Tree) × (value_type S t ≡ Typed u) × (tree_eq u bool_tree ≡ true)
 unfolding check_formula

@@ -6,7 +6,7 @@ use Rattle.std.proofs.lemmas.Bool.Decides.{Decides-ltb}
 use Rattle.std.proofs.lemmas.List.Folds.{list_any-append}
 use mathlib.Core.Path.{fun_ext}
 use Rattle.eo_base.proofs.ChecksLemmas.{ok_injective}
-use Rattle.eo_base.proofs.Tests.{clash, both, join}
+use Rattle.eo_base.proofs.Tests.{clash, both, join, or_first}
 use Rattle.eo_term.specs.Tree.{Tree, Con, is_tall, is_value, is_plain, occurs, occurs_in, occurs_openly, uses_only, bool_tree}
 use Rattle.eo_term.proofs.Equality.{tree_same}
 use Rattle.eo_term.proofs.Values.{value_plain, plain_occurs, unused_openly}
@@ -24,6 +24,7 @@ use Rattle.eo_rule.specs.Uses.{Use, join_premises, match_use, check_type, check_
 use Rattle.eo_rule.proofs.Openly.{settled_openly, value_type_is_type}
 use Rattle.eo_rule.proofs.Parts.{value_parts, types_none, types_parts, use_parts, list_parts, joined_parts, conclude_parts, formula_parts, stated_parts, rule_parts}
 use Rattle.eo_rule.proofs.HeldValues.{matching_values}
+use Rattle.std.proofs.Math.Bool.{or_assoc, or-false}
 
 some_or : {A : Type 0} → Option A → A → A
 some_or None d = d
@@ -70,14 +71,6 @@ same_value τ σ e j v n p = by_value (τ j) refl
     by_value None q = clash (sym (ap is_some q) ∙ (sym n ∙ ap is_some p))
     by_value (Some w) q = q ∙ ap Some (some_inj (sym (e j w q) ∙ p))
 
-or_left : (a b : Bool) → a ≡ true → (a || b) ≡ true
-or_left true b h = refl
-or_left false b h = clash h
-
-or_false : (a : Bool) → (a || false) ≡ a
-or_false true = refl
-or_false false = refl
-
 new_or_old : (a o : Bool) → (a || ((o && not a) || false)) ≡ (a || o)
 new_or_old true o = refl
 new_or_old false true = refl
@@ -104,7 +97,7 @@ module _ (S : Signature) (patterns : List Tree) where
       (λ v q. fit_alike τ σ (known patterns (suc m) ps) inner e p.type v (f.0 v (same_value τ σ e m v (same m above) q)), fits_alike τ σ i e same (suc m) (omega arith) ps inner f.1)
     where
       inner : (j : ℕ) → known patterns (suc m) ps j ≡ true → is_some (τ j) ≡ true
-      inner j h = named j (or_left (known patterns (suc m) ps j) (known patterns (suc m) ps m && occurs_openly j p.type) h)
+      inner j h = named j (or_first (known patterns (suc m) ps j) (known patterns (suc m) ps m && occurs_openly j p.type) h)
 
   -- a type that uses earlier parameters makes no later one known
   known_later : (i : ℕ) (p : Parameter) (ps : List Parameter) → uses_only (λ k. nat_lt k i) p.type ≡ true → (j : ℕ) → i ≤ j → known patterns i (p ∷ ps) j ≡ known patterns (suc i) ps j
@@ -139,7 +132,7 @@ module _ (S : Signature) (patterns : List Tree) where
           subst (λ (ρ : Assignment). Step τ ρ i p ps) same (record {
             extends = λ j t h. h;
             values = vals;
-            names = λ j. named j ∙ (sym (or_false (known patterns (suc i) ps j)) ∙ ap (λ (b : Bool). known patterns (suc i) ps j || (b && occurs_openly j p.type)) (sym (ap is_some q) ∙ named i));
+            names = λ j. named j ∙ (sym (or-false (known patterns (suc i) ps j)) ∙ ap (λ (b : Bool). known patterns (suc i) ps j || (b && occurs_openly j p.type)) (sym (ap is_some q) ∙ named i));
             fit = λ v h. clash (sym (ap is_some q) ∙ ap is_some h);
           })
       by_value (Some w) q c =
@@ -234,10 +227,6 @@ record MatchedUse (r : Rule) (hypothesis : Option Tree) (premises arguments : Li
   hypothesis_fits : map (put σ) (option_to_list r.assumed) ≡ option_to_list hypothesis
   premises_fit : map (put σ) (premise_patterns r.premises) ≡ premises
   arguments_fit : map (put σ) r.arguments ≡ arguments
-
-or_assoc : (a b c : Bool) → ((a || b) || c) ≡ (a || (b || c))
-or_assoc true b c = refl
-or_assoc false b c = refl
 
 match_use_sound : (r : Rule) (hypothesis : Option Tree) (premises arguments : List Tree) (σ : Assignment) → list_all is_value (option_to_list hypothesis) ≡ true → list_all is_value premises ≡ true → list_all is_value arguments ≡ true → match_use r hypothesis premises arguments ≡ Ok σ → MatchedUse r hypothesis premises arguments σ
 match_use_sound r hypothesis premises arguments σ ha hp hg e =

@@ -17,11 +17,6 @@ use Rattle.eo_run.specs.declared.reading.Stop.TheVariants as stop
 use Rattle.eo_run.proofs.Running.{on-fails, on-asks, command-fails, command-asks}
 use Rattle.eo_session.specs.Origin.{Origin}
 
--- what a `?` returns is the error
-pub at_exit : {A E : Type 0} (P : Result A E → Type 0) (r : Result A E) (x : E) → IsErrAnd r (λ e. e ≡ x) → P (Err x) → P r
-at_exit P (Ok y) x e h = absurd e
-at_exit P (Err y) x e h = subst (λ z. P (Err z)) (sym e) h
-
 module _ (from : Origin) (old st new : State) (r t s : Continuation) (k : Placed) (leads : LeadsOn from old r st t) (gives : (closes : Bool) (more : List ℕ) → t closes more ≡ Then k (s closes more)) where
   -- a refused command refuses the run
   pub refused-fails : (name : FaultName) (at : Spot) → ChecksCommand from (Err (stop.Fault name at)) st new k → FailsAt from old r name at

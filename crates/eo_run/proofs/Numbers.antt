@@ -20,17 +20,13 @@ use Rattle.eo_run.specs.declared.Verdict.{Verdict}
 use Rattle.eo_run.specs.Verdict.{Refusal}
 use Rattle.eo_run.specs.declared.opening.Source.{Source}
 use Rattle.eo_run.proofs.Pieces.{stops-weaker}
+use Rattle.eo_base.proofs.Elements.{slice_get_left}
 
 -- ---- numbers of paths
 
-get_more : {X : Type 0} (xs ys : List X) (i : ℕ) (x : X) → slice_get xs i ≡ Some x → slice_get (xs ++ ys) i ≡ Some x
-get_more [] ys i x e = absurd (none-some x e)
-get_more (y ∷ xs) ys zero x e = e
-get_more (y ∷ xs) ys (suc i) x e = get_more xs ys i x e
-
 -- a path keeps its number
 pub numbered-later : (old new : List (List ℕ)) (i : ℕ) (path : List ℕ) → Extends old new → slice_get old i ≡ Some path → slice_get new i ≡ Some path
-numbered-later old new i path h e = subst (λ (ps : List (List ℕ)). slice_get ps i ≡ Some path) (sym h.1) (get_more old h.0 i path e)
+numbered-later old new i path h e = subst (λ (ps : List (List ℕ)). slice_get ps i ≡ Some path) (sym h.1) (slice_get_left old h.0 i path e)
 
 pub denotes-here : (paths : List (List ℕ)) (s : Source) (name : FaultName) (at : Spot) → IsNumbered paths s → Denotes paths (record { name = name; place = place_in s at }) (refusal_at s.path.now at name)
 denotes-here paths s name at h = record { name = refl; file = h; line = refl; offset = refl }

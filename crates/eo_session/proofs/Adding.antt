@@ -31,8 +31,9 @@ use Rattle.eo_shape.specs.Shapes.{AttributeShape, ProgramShape}
 use Rattle.eo_session.specs.Origin.{Origin}
 use Rattle.eo_session.specs.State.{State, context, with_entry, with_macro}
 use Rattle.eo_session.specs.Step.{is_plain, repeats_constant, repeats_macro, type_value, added_constant, checked_constant, typed_constant, added_macro, is_in_proof, added_program, define_program}
-use Rattle.eo_session.proofs.Exits.{at_exit}
+use Rattle.eo_base.proofs.Answering.{at_exit}
 use Rattle.eo_session.proofs.Sessions.{refuses_on, refuses_elab}
+use Rattle.std.proofs.lemmas.Bool.{and_parts}
 
 -- ---- checks
 
@@ -44,10 +45,6 @@ module _ {A : Type 0} (fault : Option FaultName) (go : Passed → Checked A) whe
   pub no_fault-passes : fault ≡ None → (no_fault fault >>= go) ≡ go tt
   unfolding no_fault ◌>>=◌
   no_fault-passes e = ap (λ f. no_fault f >>= go) e
-
-both : (a b : Bool) → (a && b) ≡ true → (a ≡ true) × (b ≡ true)
-both true b e = (refl, e)
-both false b e = absurd (true≢false (sym e))
 
 -- ---- refusals
 
@@ -140,14 +137,14 @@ may_be_declared (Bits w v) h = refl
 may_be_declared (Str s) h = refl
 may_be_declared (Par i) h = absurd (true≢false (sym h))
 may_be_declared (Var s t) h = may_be_declared t h
-may_be_declared (App f x) h = let b = both (is_value f) (is_value x) h in (λ i. may_be_declared f b.0 i && may_be_declared x b.1 i)
-may_be_declared (Arr f x) h = let b = both (is_value f) (is_value x) h in (λ i. may_be_declared f b.0 i && may_be_declared x b.1 i)
+may_be_declared (App f x) h = let b = and_parts (is_value f) (is_value x) h in (λ i. may_be_declared f b.0 i && may_be_declared x b.1 i)
+may_be_declared (Arr f x) h = let b = and_parts (is_value f) (is_value x) h in (λ i. may_be_declared f b.0 i && may_be_declared x b.1 i)
 may_be_declared (Qar i t b) h = absurd (true≢false (sym h))
 may_be_declared (Op c ts) h = absurd (true≢false (sym h))
 
 -- what a sound constant may hold
 may_hold : (d : Constant) → constant_fault d ≡ None → (may_be_type d.type ≡ true) × ((may_type d.parameters && may_fold d.attribute) ≡ true)
-may_hold d sound = both (may_be_type d.type) (may_type d.parameters && may_fold d.attribute) (holds (constant_may_hold d) (implicit_occur (argument_types d.type) 0 d.parameters) sound)
+may_hold d sound = and_parts (may_be_type d.type) (may_type d.parameters && may_fold d.attribute) (holds (constant_may_hold d) (implicit_occur (argument_types d.type) 0 d.parameters) sound)
   where
     holds : (a b : Bool) → first_wrong a b ≡ None → a ≡ true
     holds true b e = refl
@@ -155,7 +152,7 @@ may_hold d sound = both (may_be_type d.type) (may_type d.parameters && may_fold 
 
 -- its terminator is a value
 pub fold_of : (d : Constant) → constant_fault d ≡ None → may_fold d.attribute ≡ true
-fold_of d sound = (both (may_type d.parameters) (may_fold d.attribute) (may_hold d sound).1).1
+fold_of d sound = (and_parts (may_type d.parameters) (may_fold d.attribute) (may_hold d sound).1).1
 
 -- it stays sound with a value for its type
 pub sound-value : (d : Constant) (v : Tree) → d.parameters ≡ [] → is_value v ≡ true → constant_fault d ≡ None → constant_fault (record d { type = v }) ≡ None

@@ -19,10 +19,11 @@ use Rattle.eo_session.specs.declared.held.Held.{Held}
 use Rattle.eo_session.specs.declared.marks.ScopeMark.{ScopeMark}
 use Rattle.eo_session.specs.Held.{state_of, macro_marks, Holding, holding, cut, outside, roots_in, HoldsOnly, IsExact, AreExact, AreMarked, AreMarks, IsLive}
 use Rattle.eo_session.specs.Roots.{roots, roots_of, live_count}
-use Rattle.eo_session.proofs.Counting.{first, later, count_is}
+use Rattle.eo_session.proofs.Counting.{first, count_is}
 use Rattle.eo_session.proofs.Members.{in_flat, more_flat, in_front, all_among}
 use Rattle.eo_session.proofs.Rooted.{of_roots}
 use Rattle.eo_session.proofs.Scoping.{map_grown, scopes_grown}
+use Rattle.eo_base.proofs.Elements.{contains_later}
 
 -- ---- tables that have grown from one
 
@@ -311,7 +312,7 @@ module _ (h : Held) (live : IsLive h) where
 has_at : (f : ℕ → Tree) (is : List ℕ) (i : ℕ) → i < length is → Contains (map f is) (f (get_or is i 0))
 has_at f [] i l = absurd (omega (arith, l))
 has_at f (j ∷ js) zero l = first (f j) (map f js) (f j) refl
-has_at f (j ∷ js) (suc i) l = later (f j) (map f js) (f (get_or js i 0)) (has_at f js i (omega (arith, l)))
+has_at f (j ∷ js) (suc i) l = contains_later (f j) (map f js) (f (get_or js i 0)) (has_at f js i (omega (arith, l)))
 
 -- behind the mark there are only subtrees of what was carried
 pub carried_only : (old : Terms) (n : ℕ) (is js : List ℕ) (new : Terms) → Carried old n is js new → All (Contains (flat_map subtrees (map (tree_in old) is))) (drop n new.trees)

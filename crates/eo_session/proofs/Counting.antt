@@ -5,28 +5,12 @@ use Rattle.std.proofs.lemmas.List.Elements.{Contains-append_left, Contains-appen
 use Rattle.eo_term.specs.Terms.{AreApart}
 use Rattle.eo_term.specs.Tree.{Tree, tree_eq}
 use Rattle.eo_session.specs.Roots.{distinct}
+use Rattle.eo_base.proofs.Elements.{contains_later, contains_split, contains_none}
 
 -- ---- elements of a list
 
 pub first : {X : Type 0} (y : X) (xs : List X) (x : X) → y ≡ x → Contains (y ∷ xs) x
 first y xs x e = (0, omega arith, e)
-
-pub later : {X : Type 0} (y : X) (xs : List X) (x : X) → Contains xs x → Contains (y ∷ xs) x
-later y xs x h = Contains-append_right (y ∷ []) xs x h
-
--- an element is the first or a later one
-pub split : {X : Type 0} (y : X) (xs : List X) (x : X) → Contains (y ∷ xs) x → (y ≡ x) ⊎ Contains xs x
-split y xs x h = elim (Contains-append_cases (y ∷ []) xs x h) [ inl c ↦ inl (one c) | inr c ↦ inr c ]
-  where
-    one : Contains (y ∷ []) x → y ≡ x
-    one c = at c.0 c.1 c.2
-      where
-        at : (k : ℕ) → k < length (y ∷ []) → get_or (y ∷ []) k x ≡ x → y ≡ x
-        at zero l e = e
-        at (suc k) l e = absurd (omega (arith, l))
-
-pub none : {X : Type 0} (x : X) {A : Type 0} → Contains {X = X} [] x → A
-none x c = absurd (omega (arith, c.1))
 
 -- ---- different trees
 
@@ -46,9 +30,9 @@ module _ (decides : (t u : Tree) → Decides (tree_eq t u) (t ≡ u)) where
   rest t ts = filter (λ u. not (tree_eq t u)) ts
 
   rest_keeps : (t : Tree) (ts : List Tree) (u : Tree) → tree_eq t u ≡ false → Contains ts u → Contains (rest t ts) u
-  rest_keeps t [] u n c = none u c
+  rest_keeps t [] u n c = contains_none u c
   rest_keeps t (x ∷ xs) u n c =
-      elim (split x xs u c) [
+      elim (contains_split x xs u c) [
         | inl e ↦ one (tree_eq t x) (ap (tree_eq t) e ∙ n) e
         | inr d ↦ by (tree_eq t x) (rest_keeps t xs u n d)
       ]
@@ -59,24 +43,24 @@ module _ (decides : (t u : Tree) → Decides (tree_eq t u) (t ≡ u)) where
 
       by : (b : Bool) → Contains (rest t xs) u → Contains (cond (not b) (x ∷ rest t xs) (rest t xs)) u
       by true h = h
-      by false h = later x (rest t xs) u h
+      by false h = contains_later x (rest t xs) u h
 
   rest_within : (t : Tree) (ts : List Tree) (u : Tree) → Contains (rest t ts) u → Contains ts u
   rest_within t [] u c = c
   rest_within t (x ∷ xs) u c = by (tree_eq t x) c (rest_within t xs u)
     where
       by : (b : Bool) → Contains (cond (not b) (x ∷ rest t xs) (rest t xs)) u → (Contains (rest t xs) u → Contains xs u) → Contains (x ∷ xs) u
-      by true h r = later x xs u (r h)
-      by false h r = elim (split x (rest t xs) u h) [ inl e ↦ first x xs u e | inr d ↦ later x xs u (r d) ]
+      by true h r = contains_later x xs u (r h)
+      by false h r = elim (contains_split x (rest t xs) u h) [ inl e ↦ first x xs u e | inr d ↦ contains_later x xs u (r d) ]
 
   rest_lacks : (t : Tree) (ts : List Tree) → Contains (rest t ts) t → ⊥
-  rest_lacks t [] c = none t c
+  rest_lacks t [] c = contains_none t c
   rest_lacks t (x ∷ xs) c = by (tree_eq t x) refl c (rest_lacks t xs)
     where
       by : (b : Bool) → tree_eq t x ≡ b → Contains (cond (not b) (x ∷ rest t xs) (rest t xs)) t → (Contains (rest t xs) t → ⊥) → ⊥
       by true h c r = r c
       by false h c r =
-          elim (split x (rest t xs) t c) [ inl e ↦ true≢false (sym ((decides t x).1 (sym e)) ∙ h) | inr d ↦ r d ]
+          elim (contains_split x (rest t xs) t c) [ inl e ↦ true≢false (sym ((decides t x).1 (sym e)) ∙ h) | inr d ↦ r d ]
 
   rest_fewer : (t : Tree) (ts : List Tree) → length (rest t ts) ≤ length ts
   rest_fewer t [] = omega arith
@@ -87,9 +71,9 @@ module _ (decides : (t u : Tree) → Decides (tree_eq t u) (t ≡ u)) where
       by false h = omega (arith, h)
 
   rest_less : (t : Tree) (ts : List Tree) → Contains ts t → length (rest t ts) < length ts
-  rest_less t [] c = none t c
+  rest_less t [] c = contains_none t c
   rest_less t (x ∷ xs) c =
-      elim (split x xs t c) [
+      elim (contains_split x xs t c) [
         | inl e ↦ one (tree_eq t x) ((decides t x).1 (sym e))
         | inr d ↦ by (tree_eq t x) (rest_less t xs d)
       ]
@@ -106,7 +90,7 @@ module _ (decides : (t u : Tree) → Decides (tree_eq t u) (t ≡ u)) where
   no_more : (ts us : List Tree) → Apart ts → ((u : Tree) → Contains ts u → Contains us u) → length ts ≤ length us
   no_more [] us a h = omega arith
   no_more (t ∷ ts) us a h =
-      omega (arith, no_more ts (rest t us) a.1 (λ u c. rest_keeps t us u (differs u c (tree_eq t u) refl) (h u (later t ts u c))), rest_less t us (h t (first t ts t refl)))
+      omega (arith, no_more ts (rest t us) a.1 (λ u c. rest_keeps t us u (differs u c (tree_eq t u) refl) (h u (contains_later t ts u c))), rest_less t us (h t (first t ts t refl)))
     where
       differs : (u : Tree) → Contains ts u → (b : Bool) → tree_eq t u ≡ b → tree_eq t u ≡ false
       differs u c true e = absurd (a.0 (subst (Contains ts) (sym ((decides t u).0 e)) c))
@@ -127,21 +111,21 @@ module _ (decides : (t u : Tree) → Decides (tree_eq t u) (t ≡ u)) where
   distinct_has : (ts : List Tree) (u : Tree) → Contains ts u → Contains (distinct ts) u
   distinct_has [] u c = c
   distinct_has (t ∷ ts) u c =
-      elim (split t ts u c) [
+      elim (contains_split t ts u c) [
         | inl e ↦ first t (rest t (distinct ts)) u e
         | inr d ↦ by (tree_eq t u) refl (distinct_has ts u d)
       ]
     where
       by : (b : Bool) → tree_eq t u ≡ b → Contains (distinct ts) u → Contains (t ∷ rest t (distinct ts)) u
       by true e h = first t (rest t (distinct ts)) u ((decides t u).0 e)
-      by false e h = later t (rest t (distinct ts)) u (rest_keeps t (distinct ts) u e h)
+      by false e h = contains_later t (rest t (distinct ts)) u (rest_keeps t (distinct ts) u e h)
 
   distinct_within : (ts : List Tree) (u : Tree) → Contains (distinct ts) u → Contains ts u
   distinct_within [] u c = c
   distinct_within (t ∷ ts) u c =
-      elim (split t (rest t (distinct ts)) u c) [
+      elim (contains_split t (rest t (distinct ts)) u c) [
         | inl e ↦ first t ts u e
-        | inr d ↦ later t ts u (distinct_within ts u (rest_within t (distinct ts) u d))
+        | inr d ↦ contains_later t ts u (distinct_within ts u (rest_within t (distinct ts) u d))
       ]
 
   -- a list of which each tree stands once has as many as there are different ones in a list of the same trees

@@ -19,7 +19,7 @@ use Rattle.eo_session.specs.declared.Next.{Next}
 use Rattle.eo_session.specs.declared.held.Held.{Held}
 use Rattle.eo_session.specs.declared.refused.Refused.{Refused}
 use Rattle.eo_session.specs.declared.refused.Refused.TheVariants as refused
-use Rattle.eo_session.proofs.Exits.{at_exit}
+use Rattle.eo_base.proofs.Answering.{at_exit}
 use Rattle.eo_session.proofs.Sessions.{shape-fault, shape-ok, scope-fault, scope-ok, placed-fault, placed-stops, placed-ok, refuses_on}
 use Rattle.eo_session.specs.Origin.{Origin}
 

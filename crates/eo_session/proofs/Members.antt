@@ -5,24 +5,25 @@ use Rattle.std.proofs.lemmas.List.{take-append-drop, get_or_default}
 use Rattle.std.proofs.lemmas.List.Elements.{Contains-append_left, Contains-append_right, Contains-append_cases}
 use Rattle.eo_term.specs.Terms.{tree_at, AreAmong, HasPartsAmong, HaveOlderParts}
 use Rattle.eo_term.specs.Tree.{Tree, Trees, Con, Num, Bits, Str, Par, Var, App, Arr, Qar, Op, NoTree, More, subtrees, all_subtrees}
-use Rattle.eo_session.proofs.Counting.{first, later, split, none}
+use Rattle.eo_session.proofs.Counting.{first}
+use Rattle.eo_base.proofs.Elements.{contains_later, contains_split, contains_none}
 
 -- ---- lists joined
 
 pub in_flat : {X A : Type 0} (f : X → List A) (xs : List X) (x : X) (a : A) → Contains xs x → Contains (f x) a → Contains (flat_map f xs) a
-in_flat f [] x a c h = none x c
+in_flat f [] x a c h = contains_none x c
 in_flat f (y ∷ ys) x a c h =
-    elim (split y ys x c) [
+    elim (contains_split y ys x c) [
       | inl e ↦ Contains-append_left (f y) (flat_map f ys) a (subst (λ z. Contains (f z) a) (sym e) h)
       | inr d ↦ Contains-append_right (f y) (flat_map f ys) a (in_flat f ys x a d h)
     ]
 
 pub out_flat : {X A : Type 0} (f : X → List A) (xs : List X) (a : A) → Contains (flat_map f xs) a → (x : X) × Contains xs x × Contains (f x) a
-out_flat f [] a c = none a c
+out_flat f [] a c = contains_none a c
 out_flat f (y ∷ ys) a c =
     elim (Contains-append_cases (f y) (flat_map f ys) a c) [
       | inl h ↦ (y, first y ys y refl, h)
-      | inr h ↦ let r = out_flat f ys a h in (r.0, later y ys r.0 r.1, r.2)
+      | inr h ↦ let r = out_flat f ys a h in (r.0, contains_later y ys r.0 r.1, r.2)
     ]
 
 -- more lists joined have more elements
@@ -64,7 +65,7 @@ module _ (ts : List Tree) (older : HaveOlderParts ts) where
       (parts_more (take c.0 ts) ts (λ u d. in_front c.0 ts u d) (tree_at ts c.0) (older c.0 c.1))
 
   leaf : (t u : Tree) → Contains ts t → Contains (t ∷ []) u → Contains ts u
-  leaf t u c s = elim (split t [] u s) [ inl e ↦ subst (Contains ts) e c | inr d ↦ none u d ]
+  leaf t u c s = elim (contains_split t [] u s) [ inl e ↦ subst (Contains ts) e c | inr d ↦ contains_none u d ]
 
   mutual
     pub closed : (t : Tree) → Contains ts t → (u : Tree) → Contains (subtrees t) u → Contains ts u
@@ -74,9 +75,9 @@ module _ (ts : List Tree) (older : HaveOlderParts ts) where
     closed (Str w) c u s = leaf (Str w) u c s
     closed (Par i) c u s = leaf (Par i) u c s
     closed (Var w y) c u s =
-        elim (split (Var w y) (subtrees y) u s) [ inl e ↦ subst (Contains ts) e c | inr d ↦ closed y (has_parts (Var w y) c) u d ]
+        elim (contains_split (Var w y) (subtrees y) u s) [ inl e ↦ subst (Contains ts) e c | inr d ↦ closed y (has_parts (Var w y) c) u d ]
     closed (App f x) c u s =
-        elim (split (App f x) (subtrees f ++ subtrees x) u s) [
+        elim (contains_split (App f x) (subtrees f ++ subtrees x) u s) [
           | inl e ↦ subst (Contains ts) e c
           | inr d ↦
               elim (Contains-append_cases (subtrees f) (subtrees x) u d) [
@@ -85,7 +86,7 @@ module _ (ts : List Tree) (older : HaveOlderParts ts) where
               ]
         ]
     closed (Arr f x) c u s =
-        elim (split (Arr f x) (subtrees f ++ subtrees x) u s) [
+        elim (contains_split (Arr f x) (subtrees f ++ subtrees x) u s) [
           | inl e ↦ subst (Contains ts) e c
           | inr d ↦
               elim (Contains-append_cases (subtrees f) (subtrees x) u d) [
@@ -94,7 +95,7 @@ module _ (ts : List Tree) (older : HaveOlderParts ts) where
               ]
         ]
     closed (Qar i f x) c u s =
-        elim (split (Qar i f x) (subtrees f ++ subtrees x) u s) [
+        elim (contains_split (Qar i f x) (subtrees f ++ subtrees x) u s) [
           | inl e ↦ subst (Contains ts) e c
           | inr d ↦
               elim (Contains-append_cases (subtrees f) (subtrees x) u d) [
@@ -103,13 +104,13 @@ module _ (ts : List Tree) (older : HaveOlderParts ts) where
               ]
         ]
     closed (Op o vs) c u s =
-        elim (split (Op o vs) (all_subtrees vs) u s) [
+        elim (contains_split (Op o vs) (all_subtrees vs) u s) [
           | inl e ↦ subst (Contains ts) e c
           | inr d ↦ all_closed vs (has_parts (Op o vs) c) u d
         ]
 
     all_closed : (vs : Trees) → AreAmong ts vs → (u : Tree) → Contains (all_subtrees vs) u → Contains ts u
-    all_closed NoTree h u s = none u s
+    all_closed NoTree h u s = contains_none u s
     all_closed (More v vs) h u s =
         elim (Contains-append_cases (subtrees v) (all_subtrees vs) u s) [
           | inl a ↦ closed v h.0 u a
@@ -117,7 +118,7 @@ module _ (ts : List Tree) (older : HaveOlderParts ts) where
         ]
 
   pub all_among : (roots : List Tree) → All (Contains ts) roots → (u : Tree) → Contains (flat_map subtrees roots) u → Contains ts u
-  all_among [] a u s = none u s
+  all_among [] a u s = contains_none u s
   all_among (t ∷ rs) a u s =
       elim (Contains-append_cases (subtrees t) (flat_map subtrees rs) u s) [
         | inl h ↦ closed t (a 0 t (omega arith)) u h

@@ -6,7 +6,7 @@ use Rattle.std.proofs.lemmas.List.{append-nil, nil_from_length, length-take-le, 
 use Rattle.std.proofs.lemmas.List.Elements.{All-nil, All-cons, All-head, All-tail, All-from_get_or, Contains-append_left, filter_map-append}
 use Rattle.std.proofs.lemmas.Bool.{cases_lt}
 use Rattle.std.proofs.lemmas.Bool.Decides.{nat_tests}
-use Rattle.eo_base.proofs.Elements.{ids_more}
+use Rattle.eo_base.proofs.Elements.{ids_more, contains_later, contains_split, contains_none}
 use Rattle.eo_term.specs.Growth.{IsTable, tree_in}
 use Rattle.eo_term.specs.Terms.{Terms, Since, IsMark, tree_at, text_at}
 use Rattle.eo_term.specs.Tree.{Tree, Con, subtrees, tree_eq, is_value, is_tall}
@@ -37,7 +37,7 @@ use Rattle.eo_session.specs.Roots.{macro_trees, roots}
 use Rattle.eo_session.specs.State as state
 use Rattle.eo_session.specs.State.{State, context, is_in_scope, is_asserted, with_assertion}
 use Rattle.eo_session.specs.Step.{label_macro, with_labels}
-use Rattle.eo_session.proofs.Counting.{first, later, split, none}
+use Rattle.eo_session.proofs.Counting.{first}
 use Rattle.eo_session.proofs.Rooted.{own_trees, entry_stays, entry_comes_in, macros_stay_in, macros_come_in, fact_stays, fact_comes, scope_stays, scope_comes, assertion_stays, assertion_comes}
 use Rattle.eo_session.proofs.Alive.{front, grown_cut, grown_front, now, own_mark, kept_mark, kept_exact, live_table, all_alive, constants_there, live_alone, live_facts, live_begun, live_macros, named_outside, carried_only}
 use Rattle.eo_session.proofs.Scoping.{map_grown, scopes_grown, below_more}
@@ -360,16 +360,16 @@ module _ (h : Held) (whole : IsWhole h) (stays : (k : Kept) → StaysSince k) wh
         none_left (m ∷ ms) e = absurd cc
 
         labels_in_macros : (ls : List Label) (u : Tree) → Contains (label_trees ls) u → Contains (flat_map macro_trees (map label_macro ls)) u
-        labels_in_macros [] u c = none u c
+        labels_in_macros [] u c = contains_none u c
         labels_in_macros (l ∷ ls) u c =
-            elim (split l.tree (label_trees ls) u c) [
+            elim (contains_split l.tree (label_trees ls) u c) [
               | inl e ↦ first l.tree (flat_map macro_trees (map label_macro ls)) u e
-              | inr d ↦ later l.tree (flat_map macro_trees (map label_macro ls)) u (labels_in_macros ls u d)
+              | inr d ↦ contains_later l.tree (flat_map macro_trees (map label_macro ls)) u (labels_in_macros ls u d)
             ]
 
         come : (u : Tree) → Contains (t ∷ label_trees labels) u → Contains (roots (with_labels (with_assertion (state_of h) t) labels)) u
         come u c =
-            elim (split t (label_trees labels) u c) [
+            elim (contains_split t (label_trees labels) u c) [
               | inl e ↦ macros_stay_in (with_assertion (state_of h) t) u (map label_macro labels) (assertion_comes (state_of h) u t exact (first t [] u e))
               | inr d ↦ macros_come_in (with_assertion (state_of h) t) u (map label_macro labels) (labels_in_macros labels u d)
             ]
@@ -477,10 +477,10 @@ pub front_long : (bs : List Binding) (i : ℕ) (left rest : List ℕ) → i ≤ 
 front_long bs i left rest l e =
     omega (arith, ap length e ∙ length-append (map (λ (b : Binding). b.1) (take i bs)) rest, length-map (take i bs) (λ (b : Binding). b.1), length-take-le i bs l)
 
--- where all are put, none is left
+-- where all are put, contains_none is left
 pub all_put : (bs : List Binding) (i : ℕ) (left rest : List ℕ) → i ≡ length bs → length left ≡ length bs → left ≡ map (λ (b : Binding). b.1) (take i bs) ++ rest → map (λ (b : Binding). b.1) bs ≡ left
 all_put bs i left rest e l h =
     let long = front_long bs i left rest (omega (arith, e)) h in
-    let none : rest ≡ [] = nil_from_length rest (omega (arith, e, l, long)) in
+    let contains_none : rest ≡ [] = nil_from_length rest (omega (arith, e, l, long)) in
     let whole : take i bs ≡ bs = ap (λ k. take k bs) e ∙ take-length bs in
-    sym (h ∙ (λ j. map (λ (b : Binding). b.1) (whole j) ++ none j) ∙ append-nil (map (λ (b : Binding). b.1) bs))
+    sym (h ∙ (λ j. map (λ (b : Binding). b.1) (whole j) ++ contains_none j) ∙ append-nil (map (λ (b : Binding). b.1) bs))

@@ -27,7 +27,8 @@ use Rattle.eo_proof.specs.Scopes.{Fact, Scope, Scopes, opened_facts, formulas, w
 use Rattle.eo_session.specs.Roots.{types_of, terminators, constant_trees, macro_trees, case_trees, program_trees, pair_trees, rule_trees, entry_trees, roots_of, roots}
 use Rattle.eo_session.specs.State as state
 use Rattle.eo_session.specs.State.{State, with_entry, with_assertion, is_asserted}
-use Rattle.eo_session.proofs.Counting.{first, later, split, none}
+use Rattle.eo_session.proofs.Counting.{first}
+use Rattle.eo_base.proofs.Elements.{contains_later, contains_split, contains_none}
 
 -- ---- what holds of each term below n holds of each tree that is held
 
@@ -180,7 +181,7 @@ own_held k (IsLiteralType class u) t h = h
 
 -- what was held stays
 entries_stay : (k : ℕ) (S T : Signature) (t : Tree) → Contains (entry_trees k S) t → Contains (entry_trees k (S ++ T)) t
-entries_stay k [] T t h = none t h
+entries_stay k [] T t h = contains_none t h
 entries_stay k (IsConstant c ∷ S) T t h =
     elim (Contains-append_cases (Con k ∷ constant_trees c) (entry_trees (suc k) S) t h) [
       | inl a ↦ Contains-append_left (Con k ∷ constant_trees c) (entry_trees (suc k) (S ++ T)) t a
@@ -197,9 +198,9 @@ entries_stay k (IsRule r ∷ S) T t h =
       | inr b ↦ Contains-append_right (rule_trees r) (entry_trees k (S ++ T)) t (entries_stay k S T t b)
     ]
 entries_stay k (IsLiteralType class u ∷ S) T t h =
-    elim (split u (entry_trees k S) t h) [
+    elim (contains_split u (entry_trees k S) t h) [
       | inl a ↦ first u (entry_trees k (S ++ T)) t a
-      | inr b ↦ later u (entry_trees k (S ++ T)) t (entries_stay k S T t b)
+      | inr b ↦ contains_later u (entry_trees k (S ++ T)) t (entries_stay k S T t b)
     ]
 
 entry_comes : (k : ℕ) (S : Signature) (e : SignatureEntry) (t : Tree) → Contains (own_trees (k + length (constants S)) e) t → Contains (entry_trees k (S ++ e ∷ [])) t
@@ -214,10 +215,10 @@ entry_comes k (IsConstant c ∷ S) e t h =
     one_more = omega arith
 entry_comes k (IsProgram p ∷ S) e t h = Contains-append_right (program_trees p) (entry_trees k (S ++ e ∷ [])) t (entry_comes k S e t h)
 entry_comes k (IsRule r ∷ S) e t h = Contains-append_right (rule_trees r) (entry_trees k (S ++ e ∷ [])) t (entry_comes k S e t h)
-entry_comes k (IsLiteralType class u ∷ S) e t h = later u (entry_trees k (S ++ e ∷ [])) t (entry_comes k S e t h)
+entry_comes k (IsLiteralType class u ∷ S) e t h = contains_later u (entry_trees k (S ++ e ∷ [])) t (entry_comes k S e t h)
 
 macros_stay : (ms ns : List Macro) (t : Tree) → Contains (flat_map macro_trees ms) t → Contains (flat_map macro_trees (ms ++ ns)) t
-macros_stay [] ns t h = none t h
+macros_stay [] ns t h = contains_none t h
 macros_stay (m ∷ ms) ns t h =
     elim (Contains-append_cases (macro_trees m) (flat_map macro_trees ms) t h) [
       | inl a ↦ Contains-append_left (macro_trees m) (flat_map macro_trees (ms ++ ns)) t a
@@ -386,7 +387,7 @@ module _ (st : State) (u : Tree) where
     assertion_comes exact h = by (is_asserted st t) refl
       where
         there : is_asserted st t ≡ true → Contains st.assertions u
-        there e = elim (split t [] u h) [ inl i ↦ subst (Contains st.assertions) i (Contains-from_any exact t st.assertions e) | inr n ↦ none u n ]
+        there e = elim (contains_split t [] u h) [ inl i ↦ subst (Contains st.assertions) i (Contains-from_any exact t st.assertions e) | inr n ↦ contains_none u n ]
 
         by : (b : Bool) → is_asserted st t ≡ b → Contains (roots (if b then st else record st { assertions = st.assertions ++ t ∷ [] })) u
         by true e = assertion_added st.signature st.macros st.assertions st.scopes u st.assertions (there e)

@@ -13,6 +13,7 @@ use Rattle.eo_proof.specs.Scopes.{Fact, Scope, Scopes, no_facts, opened_facts, f
 use Rattle.eo_proof.specs.Outcomes.{Popped}
 use Rattle.eo_proof.specs.declared.facts.NoScope.{NoScope}
 use Rattle.eo_session.specs.Held.{AreValues, AreMarks}
+use Rattle.std.proofs.lemmas.Bool.{and_parts}
 
 -- ---- a table that grows
 
@@ -73,12 +74,8 @@ values_append : (xs ys : List Fact) → values_in (xs ++ ys) ≡ (values_in xs &
 values_append xs ys =
     ap (list_all is_value) (map-append (λ (f : Fact). f.formula) xs ys) ∙ list_all-append is_value (map (λ (f : Fact). f.formula) xs) (map (λ (f : Fact). f.formula) ys)
 
-pub both : (a b : Bool) → (a && b) ≡ true → (a ≡ true) × (b ≡ true)
-both true b e = (refl, e)
-both false b e = absurd (true≢false (sym e))
-
 split : (xs ys : List Fact) → values_in (xs ++ ys) ≡ true → (values_in xs ≡ true) × (values_in ys ≡ true)
-split xs ys h = both (values_in xs) (values_in ys) (sym (values_append xs ys) ∙ h)
+split xs ys h = and_parts (values_in xs) (values_in ys) (sym (values_append xs ys) ∙ h)
 
 join : (xs ys : List Fact) → values_in xs ≡ true → values_in ys ≡ true → values_in (xs ++ ys) ≡ true
 join xs ys p q = values_append xs ys ∙ (λ i. p i && q i)
@@ -120,7 +117,7 @@ values_outside f h = by f.outermost f.opened h
         let a = split fs (opened_facts ss ++ s.facts) h.facts in
         record {
           facts = join fs (opened_facts ss) a.0 (split (opened_facts ss) s.facts a.1).0;
-          hypotheses = (both (is_value s.hypothesis) (list_all is_value (map (λ (s : Scope). s.hypothesis) ss)) h.hypotheses).1;
+          hypotheses = (and_parts (is_value s.hypothesis) (list_all is_value (map (λ (s : Scope). s.hypothesis) ss)) h.hypotheses).1;
         }
 
 -- where no scope is open, it is outside already

@@ -25,7 +25,7 @@ use Rattle.eo_session.specs.declared.refused.Refused.{Refused}
 use Rattle.eo_session.specs.declared.refused.Refused.TheVariants as refused
 use Rattle.eo_session.specs.Stepping.{of_elab, of_fact, Refuses, GivesTerm, Does}
 use Rattle.std.proofs.lemmas.Bool.Decides.{nat_tests}
-use Rattle.eo_session.proofs.Exits.{at_exit}
+use Rattle.eo_base.proofs.Answering.{at_exit}
 use Rattle.eo_proof.specs.Scopes.{Scopes, depth, has_false, is_live, scope_limit}
 use Rattle.eo_proof.specs.Outcomes.{Pushed}
 use Rattle.eo_proof.specs.declared.facts.FactRefused.{FactRefused}

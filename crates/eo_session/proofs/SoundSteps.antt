@@ -32,6 +32,7 @@ use Rattle.eo_shape.specs.Shapes.{StepShape}
 use Rattle.eo_sig.specs.Signature.{Signature, Rule, rule_at}
 use Rattle.eo_term.specs.Tree.{Tree, bool_tree, is_value}
 use Rattle.eo_type.specs.Types.{TypeOutcome, Typed, Untyped, TypeRange, TypeTall, on_typed, typed_if, type_of}
+use Rattle.std.proofs.lemmas.Bool.{and_from}
 
 -- ---- what checks that pass say
 
@@ -63,13 +64,10 @@ typed_type : (st : State) (v t : Tree) → typed st v ≡ Ok t → type_of st.si
 unfolding rule.typed
 typed_type st v t e = type_is (type_of st.signature v) t (typed_is _ t e)
 
-both_true : (a b : Bool) → a ≡ true → b ≡ true → (a && b) ≡ true
-both_true a b p q = ap (λ x. x && b) p ∙ q
-
 all_values : (ts : List Tree) → All (λ (t : Tree). is_value t ≡ true) ts → list_all is_value ts ≡ true
 all_values [] all = refl
 all_values (t ∷ ts) all =
-    both_true (is_value t) (list_all is_value ts) (All-head (λ (t : Tree). is_value t ≡ true) t ts all) (all_values ts (All-tail (λ (t : Tree). is_value t ≡ true) t ts all))
+    and_from (is_value t) (list_all is_value ts) (All-head (λ (t : Tree). is_value t ≡ true) t ts all) (all_values ts (All-tail (λ (t : Tree). is_value t ≡ true) t ts all))
 
 -- what holds of each fact holds of the premises
 premises_hold : (P : Tree → Type 0) (st : State) → ((name : List ℕ) (t : Tree) → fact_named st.scopes name ≡ Some t → P t) → (names : List (List ℕ)) (ps : List Tree) → premises st names ≡ Ok ps → All P ps
@@ -276,7 +274,7 @@ module _ (laws : Layers) (st : State) (h : IsSound st) where
   -- a step out of a scope, which has this assumption
   module _ (a : Tree) (innermost : innermost_hypothesis st.scopes ≡ Some a) where
     assumed_value : list_all is_value (a ∷ []) ≡ true
-    assumed_value = both_true (is_value a) true (hypothesis_value st.scopes a h.values innermost) refl
+    assumed_value = and_from (is_value a) true (hypothesis_value st.scopes a h.values innermost) refl
 
     assumed_type : type_of st.signature a ≡ Typed bool_tree
     unfolding innermost_hypothesis

@@ -26,14 +26,15 @@ use Rattle.eo_session.specs.Using.{AreValueIds, MayDischarge, IsUse, GivesConclu
 use Rattle.eo_session.specs.declared.refused.Refused.{Refused}
 use Rattle.eo_session.specs.declared.steps.Conclusion.{Conclusion}
 use Rattle.eo_session.specs.declared.held.Held.{Held}
-use Rattle.eo_session.proofs.Scoping.{both}
+use Rattle.eo_session.proofs.Scoping.{}
+use Rattle.std.proofs.lemmas.Bool.{and_parts}
 
 -- ---- facts
 
 named_value : (fs : List Fact) (name : List ℕ) (t : Tree) → formula_named fs name ≡ Some t → list_all is_value (map (λ (f : Fact). f.formula) fs) ≡ true → is_value t ≡ true
 named_value [] name t e v = absurd (none-some t e)
 named_value (f ∷ fs) name t e v =
-    let h = both (is_value f.formula) (list_all is_value (map (λ (f : Fact). f.formula) fs)) v in
+    let h = and_parts (is_value f.formula) (list_all is_value (map (λ (f : Fact). f.formula) fs)) v in
     by (bytes_eq f.name name) e h.0 (λ q. named_value fs name t q h.1)
   where
     by : (b : Bool) → option_map (λ (f : Fact). f.formula) (cond b (Some f) (find (λ (f : Fact). bytes_eq f.name name) fs)) ≡ Some t → is_value f.formula ≡ true
@@ -50,7 +51,7 @@ hypothesis_value f t values e = by (map (λ (s : Scope). s.hypothesis) f.opened)
   where
     by : (ts : List Tree) → list_all is_value ts ≡ true → slice_get ts 0 ≡ Some t → is_value t ≡ true
     by [] v e = absurd (none-some t e)
-    by (u ∷ us) v e = subst (λ (x : Tree). is_value x ≡ true) (same_Some u t e) (both (is_value u) (list_all is_value us) v).0
+    by (u ∷ us) v e = subst (λ (x : Tree). is_value x ≡ true) (same_Some u t e) (and_parts (is_value u) (list_all is_value us) v).0
 
 -- ---- lists of values
 

@@ -1,18 +1,13 @@
 -- The first byte of a wrapping, and its class.
 use Rattle.std.proofs.Common.{◌≡◌, refl, ℕ, zero, suc, Bool, true, false, List, [], ◌∷◌, take, sym, ap, subst, inl, inr}
 use Rattle.std.specs.Prelude.{codes, if◌then◌else◌, ◌||◌, ◌&&◌, ◌⊎◌, ◌==◌}
-use Rattle.std.proofs.lemmas.Bool.{eqb-true}
+use Rattle.std.proofs.lemmas.Bool.{eqb-true, false_from_ne_true}
 use Rattle.std.proofs.lemmas.Slice.Eq.{bytes_eq-Decides}
 use Rattle.eo_base.specs.Limits.{Limits}
 use Rattle.eo_sexp.specs.Sexp.{Sexp}
 use Rattle.eo_sexp.specs.Lexicon.{Class, Space, Comment, Open, Close, Quote, Bar, Word, Other, class, is_one_of, is_space, is_word, Input}
 use Rattle.eo_sexp.specs.Commands.{Reading, Whole, Refused, Cut, front}
 use Rattle.eo_sexp.specs.Texts.{begins_one_of, is_unsat, begins_pair}
-
--- a test that does not hold
-refuted : (b : Bool) → (b ≡ true → ⊥) → b ≡ false
-refuted true f = absurd (f refl)
-refuted false f = refl
 
 -- ---- parentheses
 
@@ -87,10 +82,10 @@ paren-byte x (inl o) = ap (is_one_of (codes "()")) (sym (one_of 40 x (open-byte 
 paren-byte x (inr o) = ap (is_one_of (codes "()")) (sym (one_of 41 x (close-byte x o)))
 
 pub no-close : (x : ℕ) → (class x ≡ Close → ⊥) → is_one_of (codes ")") x ≡ false
-no-close x f = refuted _ (λ e. f (close-class x e))
+no-close x f = false_from_ne_true _ (λ e. f (close-class x e))
 
 pub no-paren : (x : ℕ) → (class x ≡ Open → ⊥) → (class x ≡ Close → ⊥) → is_one_of (codes "()") x ≡ false
-no-paren x f g = refuted _ (λ e. elim (paren-class x e) [ inl o ↦ f o | inr c ↦ g c ])
+no-paren x f g = false_from_ne_true _ (λ e. elim (paren-class x e) [ inl o ↦ f o | inr c ↦ g c ])
 
 -- ---- the word `unsat`
 
@@ -109,7 +104,7 @@ unsat-class x xs (Refused name at) e = cc
 unsat-class x xs (Cut i) e = cc
 
 pub no-unsat : (x : ℕ) (xs : List ℕ) (r : Reading Sexp) → (class x ≡ Word → ⊥) → is_unsat (x ∷ xs) r ≡ false
-no-unsat x xs r f = refuted _ (λ e. f (unsat-class x xs r e))
+no-unsat x xs r f = false_from_ne_true _ (λ e. f (unsat-class x xs r e))
 
 none-of_unsat : (n : ℕ) → take n [] ≡ codes "unsat" → ⊥
 none-of_unsat zero e = cc
@@ -117,7 +112,7 @@ none-of_unsat (suc n) e = cc
 
 pub unsat-none : (r : Reading Sexp) → is_unsat [] r ≡ false
 unfolding is_unsat
-unsat-none (Whole s rest) = refuted _ (λ e. none-of_unsat rest.at ((bytes_eq-Decides (take rest.at []) (codes "unsat")).0 e))
+unsat-none (Whole s rest) = false_from_ne_true _ (λ e. none-of_unsat rest.at ((bytes_eq-Decides (take rest.at []) (codes "unsat")).0 e))
 unsat-none (Refused name at) = refl
 unsat-none (Cut i) = refl
 
@@ -138,4 +133,4 @@ module _ (limits : Limits) where
       left false b e = e
 
   pub no-pair : (t : Input) → (front t.bytes ≡ Open → ⊥) → begins_pair limits t ≡ false
-  no-pair t f = refuted _ (λ e. f (pair-front t e))
+  no-pair t f = false_from_ne_true _ (λ e. f (pair-front t e))

@@ -1,7 +1,7 @@
 -- Runs of bytes that leave a token as it is.
 use Rattle.std.proofs.Common.{◌≡◌, ◌≢◌, refl, ℕ, ◌+◌, ◌≤◌, ◌<◌, Bool, true, false, not, ◌&&◌, List, [], ◌∷◌, ◌++◌, length, length-append, length-take-le, take, All, sym, ap, ◌∙◌, append_assoc, append-nil, subst, arith}
 use Rattle.std.specs.Prelude.{codes, nat_lt, if◌then◌else◌}
-use Rattle.std.proofs.lemmas.Bool.{lt-ltb}
+use Rattle.std.proofs.lemmas.Bool.{lt-ltb, and_parts}
 use Rattle.std.proofs.lemmas.List.{drop-append-le}
 use Rattle.std.proofs.lemmas.List.Elements.{All-head, All-tail, All-weaker}
 use Rattle.eo_base.specs.Limits.{Limits}
@@ -30,10 +30,6 @@ passes : (b : Bool) (p q : TokenTurn) → b ≡ false → (if b then p else q) �
 passes true p q e = cc
 passes false p q e = refl
 
-both : (a b : Bool) → (a && b) ≡ true → (a ≡ true) × (b ≡ true)
-both true b e = (refl, e)
-both false b e = cc
-
 -- a plain byte is no line feed
 pub plain-line : (t : Token) (x : ℕ) → is_plain t x ≡ true → x ≢ 10
 unfolding is_plain is_word is_text is_quotable is_space
@@ -47,7 +43,7 @@ quote-other x e = grind arith
 
 bar-other : (x : ℕ) → is_quotable x ≡ true → is_one_of (codes "|") x ≡ false
 unfolding is_quotable
-bar-other x e = let r = (both (is_text x) (not (is_one_of (codes "|\\") x)) e).1 in grind arith
+bar-other x e = let r = (and_parts (is_text x) (not (is_one_of (codes "|\\") x)) e).1 in grind arith
 
 module _ (limits : Limits) where
   plain-goes : (t : Token) (n x : ℕ) → is_plain t x ≡ true → n < limits.token → token_turn limits n t x ≡ Goes t
@@ -55,12 +51,12 @@ module _ (limits : Limits) where
   plain-goes token.Word n x e h = picks (is_word x) (go_on limits n token.Word) Ends e ∙ picks (nat_lt n limits.token) (Goes token.Word) (Fault TokenLong) (lt-ltb n limits.token h)
   plain-goes (token.Text true) n x e h = cc
   plain-goes (token.Text false) n x e h =
-      let r = both (is_text x) (not (is_one_of (codes "\"\n") x)) e in
+      let r = and_parts (is_text x) (not (is_one_of (codes "\"\n") x)) e in
       passes (is_one_of (codes "\"") x) (go_on limits n (token.Text true)) (if is_text x then go_on limits n (token.Text false) else Fault BadByte) (quote-other x r.1)
       ∙ picks (is_text x) (go_on limits n (token.Text false)) (Fault BadByte) r.0
       ∙ picks (nat_lt n limits.token) (Goes (token.Text false)) (Fault TokenLong) (lt-ltb n limits.token h)
   plain-goes token.Quoted n x e h =
-      let r = both (is_quotable x) (not (is_one_of (codes "\n") x)) e in
+      let r = and_parts (is_quotable x) (not (is_one_of (codes "\n") x)) e in
       passes (is_one_of (codes "|") x) (close limits n) (if is_quotable x then go_on limits n token.Quoted else Fault BadByte) (bar-other x r.0)
       ∙ picks (is_quotable x) (go_on limits n token.Quoted) (Fault BadByte) r.0
       ∙ picks (nat_lt n limits.token) (Goes token.Quoted) (Fault TokenLong) (lt-ltb n limits.token h)

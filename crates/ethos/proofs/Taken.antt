@@ -16,16 +16,13 @@ use Rattle.clap.specs.declared.builder.ArgAction.{ArgAction}
 use Rattle.clap.specs.declared.builder.ArgAction.TheVariants.{Set, Append, SetTrue, SetFalse, Count, Help, HelpShort, HelpLong, Version}
 use Rattle.clap.specs.declared.builder.ValueParser.{ValueParser}
 use Rattle.clap.specs.declared.error.ErrorKind.{ErrorKind}
+use Rattle.std.proofs.lemmas.Bool.{and_parts, and_from}
 
 -- ---- lists of kinds, and tests
 
 nothing : (a b : Kinds) → or_else a b ≡ [] → (a ≡ []) × (b ≡ [])
 nothing [] b e = (refl, e)
 nothing (k ∷ ks) b e = cc
-
-both_true : (a b : Bool) → a ≡ true → b ≡ true → (a && b) ≡ true
-both_true true b ea eb = eb
-both_true false b ea eb = cc
 
 passed : (b : Bool) (k : ErrorKind) (ks : Kinds) → (if b then [] else k ∷ ks) ≡ [] → b ≡ true
 passed true k ks e = refl
@@ -54,7 +51,7 @@ module _ {A : Type 0} (f : A → Kinds) (g : A → Bool) (h : (a : A) → f a �
 values : (ignore_case : Bool) (parser : ValueParser) (vs : List Text) → values_kinds ignore_case parser vs ≡ [] → list_all (accepts ignore_case parser) vs ≡ true
 values ignore_case parser [] e = refl
 values ignore_case parser (v ∷ vs) e =
-    let parts = nothing _ _ e in both_true _ _ (passed (accepts ignore_case parser v) _ _ parts.0) (values ignore_case parser vs parts.1)
+    let parts = nothing _ _ e in and_from _ _ (passed (accepts ignore_case parser v) _ _ parts.0) (values ignore_case parser vs parts.1)
 
 count : (a : Rule) (vs : List Text) (rows : List Row) → count_fault a vs rows ≡ [] → count_passes a vs rows ≡ true
 count a [] rows e = passed _ _ _ e
@@ -63,7 +60,7 @@ count a (v ∷ vs) rows e = values a.ignore_case (parser_of_value a.parser) (v �
 set : (again : Bool) (a : Rule) (vs : List Text) (rows : List Row)
     → action_fault Set again a vs rows ≡ [] → action_passes Set again a vs rows ≡ true
 set again a vs rows e =
-    let parts = nothing _ _ e in both_true _ _ (barred (has_row a.id rows) again _ _ parts.0) (values a.ignore_case (parser_of_value a.parser) vs parts.1)
+    let parts = nothing _ _ e in and_from _ _ (barred (has_row a.id rows) again _ _ parts.0) (values a.ignore_case (parser_of_value a.parser) vs parts.1)
 
 action : (x : ArgAction) (again : Bool) (a : Rule) (vs : List Text) (rows : List Row) → action_fault x again a vs rows ≡ [] → action_passes x again a vs rows ≡ true
 action Set again a vs rows e = set again a vs rows e
@@ -83,7 +80,7 @@ use_of : (again : Bool) (a : Rule) (vs : List Text) (rows : List Row) → use_fa
 use_of again a vs rows e =
     let parts = nothing _ _ e in
     let within = range (unwrap_or_range a.range).start_inclusive (most_values a) (length vs) parts.0 in
-    both_true _ _ within.0 (both_true _ _ within.1 (action (action_of a) again a (values_or_missing a vs) rows parts.1))
+    and_from _ _ within.0 (and_from _ _ within.1 (action (action_of a) again a (values_or_missing a vs) rows parts.1))
 
 -- ---- the walk
 
@@ -92,7 +89,7 @@ module _ (c : List Rule) (again : Bool) where
   settle h e = if_some _ _ (λ p. if_some _ _ (λ a. use_of again a p.1 h.rows) (arg_by_id c p.0)) h.pending e
 
   react : (a : Rule) (vs : List Text) (h : Held) → react_fault c again a vs h ≡ [] → react_passes c again a vs h ≡ true
-  react a vs h e = let parts = nothing _ _ e in both_true _ _ (settle h parts.0) (use_of again a vs (settled c h).rows parts.1)
+  react a vs h e = let parts = nothing _ _ e in and_from _ _ (settle h parts.0) (use_of again a vs (settled c h).rows parts.1)
 
   option : (a : Rule) (v : Option Text) (h : Held) → option_fault c again a v h ≡ [] → option_passes c again a v h ≡ true
   option a (Some v) h e = react a (v ∷ []) h e
@@ -107,7 +104,7 @@ module _ (c : List Rule) (again : Bool) where
       → short_fault c again a rest h f ≡ [] → short_passes c again a rest h g ≡ true
   short None rest h f g next e = cc
   short (Some a) rest h f g next e =
-      either (takes_values a) _ _ _ _ (option a (attached_value rest) h) (λ none. let parts = nothing _ _ none in both_true _ _ (react a [] h parts.0) (next _ parts.1)) e
+      either (takes_values a) _ _ _ _ (option a (attached_value rest) h) (λ none. let parts = nothing _ _ none in and_from _ _ (react a [] h parts.0) (next _ parts.1)) e
 
   bundle_step : (x : Option ℕ) (flags : Text) (skip : ℕ) (h : Held) (f : Text → ℕ → Held → Kinds) (g : Text → ℕ → Held → Bool)
       → ((t : Text) (s : ℕ) (h : Held) → f t s h ≡ [] → g t s h ≡ true)
@@ -157,13 +154,13 @@ module _ (s : Shape) where
   turn names w word e = skipped (is_some w.stopped) _ _ (λ none.
       let parts = nothing _ _ none in
       let met = word_met s.rules names w.is_trailing w.waiting w.position word w.held in
-      both_true _ _ (word_of names w.is_trailing w.waiting word w.held parts.0) (step_of w.position met.0 met.1 parts.1)) e
+      and_from _ _ (word_of names w.is_trailing w.waiting word w.held parts.0) (step_of w.position met.0 met.1 parts.1)) e
 
   walk_of : (names : Names) (w : Walk) (words : List Text) → walk_fault s names w words ≡ [] → walk_passes s names w words ≡ true
   unfolding walk_fault walk_passes
   walk_of names w [] e = refl
   walk_of names w (word ∷ rest) e =
-      let parts = nothing _ _ e in both_true _ _ (turn names w word parts.0) (walk_of names (walked s.rules names w word) rest parts.1)
+      let parts = nothing _ _ e in and_from _ _ (turn names w word parts.0) (walk_of names (walked s.rules names w word) rest parts.1)
 
 -- ---- after the walk
 
@@ -204,28 +201,24 @@ none_missing false missing given h e = h e
 abbrev pub is_fine : Shape → Bool
 is_fine s = list_all default_passes s.rules && list_all (λ a. a.is_free) s.rules
 
-parts_of : (a b : Bool) → (a && b) ≡ true → (a ≡ true) × (b ≡ true)
-parts_of true b e = (refl, e)
-parts_of false b e = cc
-
 valid : (s : Shape) (rows : List Row) (has : Bool) → list_all (λ a. a.is_free) s.rules ≡ true → check_fault s rows has ≡ [] → is_valid s rows has ≡ true
 valid s rows has free e =
     let parts = clear _ _ _ e in
-    both_true _ _ (some_given has s.arg_required_else_help (list_any (λ r. explicit_source r.source) rows) parts.0)
-    (both_true _ _ (has_wanted has s.subcommand_required parts.1)
-    (both_true _ _ free (none_missing (s.subcommand_negates_reqs && has) _ _ (all_given rows s.rules) parts.2)))
+    and_from _ _ (some_given has s.arg_required_else_help (list_any (λ r. explicit_source r.source) rows) parts.0)
+    (and_from _ _ (has_wanted has s.subcommand_required parts.1)
+    (and_from _ _ free (none_missing (s.subcommand_negates_reqs && has) _ _ (all_given rows s.rules) parts.2)))
 
 level : (s : Shape) (names : Names) (h : Held) (words : List Text) (has : Bool) (below : Kinds) → is_fine s ≡ true
     → level_fault s names h words has below ≡ [] → (level_passes s names h words has ≡ true) × (below ≡ [])
 level s names h words has below fine e =
-    let f = parts_of _ _ fine in
+    let f = and_parts _ _ fine in
     let p1 = nothing _ _ e in
     let p2 = nothing _ _ p1.1 in
     let p3 = nothing _ _ p2.1 in
     let p4 = nothing _ _ p3.1 in
     let end = (walk s.rules names h words).held in (
-      both_true _ _ (walk_of s names (walk_from h) words p1.0) (both_true _ _ (settle s.rules s.args_override_self end p3.0)
-          (both_true _ _ f.0 (valid s (finished s.rules end) has f.1 p4.1))),
+      and_from _ _ (walk_of s names (walk_from h) words p1.0) (and_from _ _ (settle s.rules s.args_override_self end p3.0)
+          (and_from _ _ f.0 (valid s (finished s.rules end) has f.1 p4.1))),
       p2.0,
     )
 
@@ -237,7 +230,7 @@ module _ (f : Shape → Kinds) (g : Shape → Bool) (h : (s : Shape) → is_fine
 
   found : (p : Shape → Bool) (xs : List Shape) → list_all is_fine xs ≡ true → option_map_or f (find p xs) [] ≡ [] → option_map_or g (find p xs) true ≡ true
   found p [] fine e = refl
-  found p (s ∷ xs) fine e = let parts = parts_of _ _ fine in this_or (p s) s (find p xs) parts.0 (found p xs parts.1) e
+  found p (s ∷ xs) fine e = let parts = and_parts _ _ fine in this_or (p s) s (find p xs) parts.0 (found p xs parts.1) e
 
 entered_of : (a : App) (stop : Option (Text × List Text)) → list_all is_fine a.subs ≡ true → entered_fault a stop ≡ [] → entered_passes a stop ≡ true
 entered_of a stop fine e = if_some _ _ (λ p. found _ _ (λ s f none. (level s [] nothing_held p.1 false [] f none).0) (λ s. answers_to p.0 (label_of s)) a.subs fine) stop e
@@ -250,4 +243,4 @@ taken a words simple top subs e =
     let rest = argument_words a words in
     let stop = (walk b.top.rules (names_of b) nothing_held rest).stopped in
     let parts = level b.top (names_of b) nothing_held rest (is_some (entered b stop)) (entered_fault b stop) top e in
-    both_true _ _ simple (both_true _ _ (entered_of b stop subs parts.1) parts.0)
+    and_from _ _ simple (and_from _ _ (entered_of b stop subs parts.1) parts.0)

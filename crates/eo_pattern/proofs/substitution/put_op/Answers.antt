@@ -8,6 +8,7 @@ use Rattle.eo_pattern.specs.Matching.{Assignment, put, put_all}
 use Rattle.eo_pattern.specs.Slots.{held}
 use Rattle.eo_pattern.proofs.Steps.{args_put, count_put, argument_put}
 use Rattle.eo_pattern.proofs.substitution.put_op.Goals as goal
+use Rattle.std.proofs.lemmas.Bool.{false_from_ne_true}
 
 pub returns-in_default-clause-step : goal.returns-in_default-clause-step
 returns-in_default-clause-step c =
@@ -38,10 +39,6 @@ returns-in_err-made-clause-tall c =
     args_put σ us c.loop-i.args ts c.args.count c.requires.operator.count (omega (arith, c.loop-i.invariant.long, c.requires.operator.small)) (λ k l. (c.loop-i.invariant.done k (omega arith)).1) in
     rw (e.1, e.2) (λ h. ap is_tall (sym (ap (Op c.args.code) same ∙ ap (put σ) c.requires.operator.tree)) ∙ c.in_err-made.ensures.tall.0 h)
 
-not_true : (b : Bool) → (b ≡ true → ⊥) → b ≡ false
-not_true true h = absurd (h refl)
-not_true false h = refl
-
 pub returns-clause-step : goal.returns-clause-step
 returns-clause-step c =
     let us = c.args.table.now.trees in
@@ -53,5 +50,5 @@ returns-clause-step c =
     record {
       live = c.in_ok-made.ensures.interned.live;
       tree = c.in_ok-made.ensures.interned.tree ∙ whole;
-      low = ap is_tall (sym whole) ∙ not_true _ c.in_ok-made.ensures.tall.1;
+      low = ap is_tall (sym whole) ∙ false_from_ne_true _ c.in_ok-made.ensures.tall.1;
     }

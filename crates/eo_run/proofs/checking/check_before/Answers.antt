@@ -5,7 +5,7 @@ use Rattle.eo_run.specs.Judging.{RunsPart}
 use Rattle.eo_run.specs.Progress.{progress_of}
 use Rattle.eo_run.specs.Run.{Progress, if_given, run_signature, before_proof}
 use Rattle.eo_run.specs.declared.Verdict.{Verdict}
-use Rattle.eo_run.proofs.Exits.{at_exit}
+use Rattle.eo_base.proofs.Answering.{at_exit}
 use Rattle.eo_run.proofs.Jobs.{before-stops, before-runs}
 use Rattle.eo_run.proofs.checking.check_before.Goals as goal
 

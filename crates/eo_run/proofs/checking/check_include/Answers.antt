@@ -7,7 +7,7 @@ use Rattle.eo_run.specs.Run.{if_given, run_signature}
 use Rattle.eo_session.specs.declared.Origin.TheVariants.{Signature}
 use Rattle.eo_run.specs.declared.Verdict.{Verdict}
 use Rattle.eo_run.specs.declared.checking.Named.{Named}
-use Rattle.eo_run.proofs.Exits.{at_exit}
+use Rattle.eo_base.proofs.Answering.{at_exit}
 use Rattle.eo_run.proofs.Jobs.{part-runs, part-stops, part-some, is-signature}
 use Rattle.eo_run.proofs.checking.check_include.Goals as goal
 

@@ -9,7 +9,7 @@ use Rattle.eo_run.specs.Opening.{IsStop, RunsFile}
 use Rattle.eo_run.specs.Progress.{progress_of}
 use Rattle.eo_run.specs.declared.Verdict.{Verdict}
 use Rattle.eo_run.specs.declared.opening.Source.{Source}
-use Rattle.eo_run.proofs.Exits.{at_exit}
+use Rattle.eo_base.proofs.Answering.{at_exit}
 use Rattle.eo_run.proofs.Jobs.{path-runs, path-absent, path-stops}
 use Rattle.eo_run.proofs.Numbers.{numbered-later, denotes-here, placed-in}
 use Rattle.eo_run.proofs.checking.check_path.Goals as goal

@@ -8,7 +8,7 @@ use Rattle.eo_run.specs.Run.{if_given, run_job_reference}
 use Rattle.eo_session.specs.declared.Origin.TheVariants.{Reference}
 use Rattle.eo_run.specs.declared.Verdict.{Verdict}
 use Rattle.eo_run.specs.declared.checking.Named.{Named}
-use Rattle.eo_run.proofs.Exits.{at_exit}
+use Rattle.eo_base.proofs.Answering.{at_exit}
 use Rattle.eo_run.proofs.Jobs.{part-runs, part-stops, part-some, is-reference, second-stops, second-cause}
 use Rattle.eo_run.proofs.checking.check_reference.Goals as goal
 

@@ -19,7 +19,7 @@ use Rattle.eo_run.specs.declared.opening.Source.{Source}
 use Rattle.eo_run.specs.declared.reading.Asked.{Asked}
 use Rattle.eo_run.specs.declared.reading.Stop.{Stop}
 use Rattle.eo_run.proofs.Ending.{tail_of}
-use Rattle.eo_run.proofs.Exits.{at_exit}
+use Rattle.eo_base.proofs.Answering.{at_exit}
 use Rattle.eo_run.proofs.Taking.{opens-later, taken-later, left-later, takes-later, open-later, ends-later, goes-on, goes-behind, leaves-behind, leaves-reference, finishes-here, stops-behind, stopped-here, extends-trans, stays-trans, reads-trans, stays-length, one-less, include-unfolded, refer-unfolded, refer-unbegun, unbegun-present, includes-again, includes-deep, includes-absent, includes-runs, includes-stops, refers-absent, refers-runs, refers-stops}
 use Rattle.eo_run.proofs.Numbers.{numbered-later, denotes-here, placed-in, ready-runs, opens-done, opens-exit}
 use Rattle.eo_run.proofs.Pieces.{reads-nothing, reads-piece, has_room, front-is, piece-is, stops-open, left-open, long-open, ends-open, stays-read}

@@ -6,7 +6,8 @@ use Rattle.eo_run.specs.declared.reading.Asked.{Asked}
 use Rattle.eo_run.specs.declared.reading.Stop.{Stop}
 use Rattle.eo_session.specs.Numbered.{origin_of}
 use Rattle.eo_run.specs.Reading.{at_end, ChecksEnd}
-use Rattle.eo_run.proofs.Exits.{at_exit, refused-end, asked-end}
+use Rattle.eo_base.proofs.Answering.{at_exit}
+use Rattle.eo_run.proofs.Exits.{refused-end, asked-end}
 use Rattle.eo_run.proofs.Running.{on-trans, on-fails, on-command}
 use Rattle.eo_run.proofs.Ending.{end-ends, ended-live, end-command, end-gives, end-live, end-waiting, end-smaller, end-fault}
 use Rattle.eo_run.proofs.reading.check_end.Goals as goal

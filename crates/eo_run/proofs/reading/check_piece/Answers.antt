@@ -6,7 +6,8 @@ use Rattle.eo_run.specs.declared.reading.Asked.{Asked}
 use Rattle.eo_run.specs.declared.reading.Stop.{Stop}
 use Rattle.eo_session.specs.Numbered.{origin_of}
 use Rattle.eo_run.specs.Reading.{LeadsOn, behind, count_of, ChecksPiece}
-use Rattle.eo_run.proofs.Exits.{at_exit, refused-piece, asked-piece}
+use Rattle.eo_base.proofs.Answering.{at_exit}
+use Rattle.eo_run.proofs.Exits.{refused-piece, asked-piece}
 use Rattle.eo_run.proofs.Running.{on-trans, on-fails, on-command}
 use Rattle.eo_run.proofs.Ending.{fed-more, fed-command, fed-size, fed-gives, fed-live, fed-waiting, fed-here, fed-smaller, fed-fault, tail_of, tail_later}
 use Rattle.eo_run.proofs.reading.check_piece.Goals as goal

@@ -8,7 +8,7 @@ use Rattle.eo_session.specs.State.{State}
 use Rattle.eo_session.specs.Stepping.{DoesNext}
 use Rattle.eo_session.specs.declared.Next.{Next}
 use Rattle.eo_session.specs.declared.refused.Refused.{Refused}
-use Rattle.eo_session.proofs.Exits.{at_exit}
+use Rattle.eo_base.proofs.Answering.{at_exit}
 use Rattle.eo_session.proofs.Dispatch.{does-shape, does-command}
 use Rattle.eo_session.proofs.session.run_command.Goals as goal
 

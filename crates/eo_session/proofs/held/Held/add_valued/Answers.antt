@@ -10,7 +10,7 @@ use Rattle.eo_session.specs.Step.{added_constant, typed_constant}
 use Rattle.eo_session.specs.Stepping.{Does}
 use Rattle.eo_session.specs.declared.refused.Refused.{Refused}
 use Rattle.eo_session.proofs.Adding.{typed-fault, typed-added, sound-value, does-same}
-use Rattle.eo_session.proofs.Exits.{at_exit}
+use Rattle.eo_base.proofs.Answering.{at_exit}
 use Rattle.eo_session.proofs.Sessions.{refuses_on}
 use Rattle.eo_session.proofs.held.Held.add_valued.Goals as goal
 

@@ -12,7 +12,7 @@ use Rattle.eo_session.specs.Stepping.{Does}
 use Rattle.eo_session.specs.declared.refused.Refused.{Refused}
 use Rattle.eo_session.proofs.Adding.{does-same}
 use Rattle.eo_session.proofs.Assertions.{assert-fault, assert-is}
-use Rattle.eo_session.proofs.Exits.{at_exit}
+use Rattle.eo_base.proofs.Answering.{at_exit}
 use Rattle.eo_session.proofs.Labels.{assertion_names}
 use Rattle.eo_session.proofs.Sessions.{refuses_on}
 use Rattle.eo_session.proofs.held.Held.assert.Goals as goal

@@ -13,7 +13,7 @@ use Rattle.eo_session.specs.Stepping.{Does}
 use Rattle.eo_session.specs.declared.refused.Refused.{Refused}
 use Rattle.eo_session.proofs.Adding.{does-same}
 use Rattle.eo_session.proofs.Assertions.{asserted-fault, asserted-is, asserted_names, labels_later}
-use Rattle.eo_session.proofs.Exits.{at_exit}
+use Rattle.eo_base.proofs.Answering.{at_exit}
 use Rattle.eo_session.proofs.Sessions.{refuses_on}
 use Rattle.eo_session.proofs.held.Held.assert_as.Goals as goal
 

@@ -9,7 +9,7 @@ use Rattle.eo_session.specs.Step.{is_free_fact, assume}
 use Rattle.eo_session.specs.Stepping.{Does}
 use Rattle.eo_session.specs.declared.refused.Refused.{Refused}
 use Rattle.eo_session.proofs.Adding.{does-same}
-use Rattle.eo_session.proofs.Exits.{at_exit}
+use Rattle.eo_base.proofs.Answering.{at_exit}
 use Rattle.eo_session.proofs.Sessions.{not_taken, assume-redeclared, assume-fault, assume-no_reference, assume-not_asserted, assume-ok, refuses_on}
 use Rattle.eo_session.proofs.held.Held.assume.Goals as goal
 

@@ -9,7 +9,7 @@ use Rattle.eo_session.specs.Step.{is_free_fact, assume_push}
 use Rattle.eo_session.specs.Stepping.{Does}
 use Rattle.eo_session.specs.declared.refused.Refused.{Refused}
 use Rattle.eo_session.proofs.Adding.{does-same}
-use Rattle.eo_session.proofs.Exits.{at_exit}
+use Rattle.eo_base.proofs.Answering.{at_exit}
 use Rattle.eo_session.proofs.Sessions.{not_taken, push-deep, push-redeclared, push-fault, push-ok, refuses_on, is_less}
 use Rattle.eo_session.proofs.held.Held.assume_push.Goals as goal
 

@@ -11,7 +11,7 @@ use Rattle.eo_session.specs.Using.{GivesConcluded, concluded_from}
 use Rattle.eo_session.specs.declared.refused.Refused.{Refused}
 use Rattle.eo_session.specs.declared.steps.Conclusion.{Conclusion}
 use Rattle.eo_session.proofs.Concluding.{concluded-fault, concluded-use}
-use Rattle.eo_session.proofs.Exits.{at_exit}
+use Rattle.eo_base.proofs.Answering.{at_exit}
 use Rattle.eo_session.proofs.Sessions.{refuses_on}
 use Rattle.eo_session.proofs.Used.{concluded-same}
 use Rattle.eo_session.proofs.held.Held.concluded_by.Goals as goal

@@ -9,7 +9,7 @@ use Rattle.eo_session.specs.Stepping.{of_rule}
 use Rattle.eo_session.specs.Using.{GivesConcluded, concluded_from}
 use Rattle.eo_session.specs.declared.refused.Refused.{Refused}
 use Rattle.eo_session.specs.declared.steps.Conclusion.{Conclusion}
-use Rattle.eo_session.proofs.Exits.{at_exit}
+use Rattle.eo_base.proofs.Answering.{at_exit}
 use Rattle.eo_session.proofs.Concluding.{from-fault, from-ok, sorry-is}
 use Rattle.eo_session.proofs.Faults.{present-conclusion, refuses_rule}
 use Rattle.eo_session.proofs.held.Held.concluded_from.Goals as goal

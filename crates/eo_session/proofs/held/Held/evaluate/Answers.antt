@@ -5,7 +5,7 @@ use Rattle.eo_session.specs.Held.{state_of}
 use Rattle.eo_session.specs.Step.{evaluated}
 use Rattle.eo_session.specs.Stepping.{of_rule, GivesTerm}
 use Rattle.eo_session.specs.declared.refused.Refused.{Refused}
-use Rattle.eo_session.proofs.Exits.{at_exit}
+use Rattle.eo_base.proofs.Answering.{at_exit}
 use Rattle.eo_session.proofs.Faults.{present-ended, refuses_rule}
 use Rattle.eo_session.proofs.Sessions.{evaluated-is}
 use Rattle.eo_session.proofs.held.Held.evaluate.Goals as goal

@@ -6,7 +6,7 @@ use Rattle.eo_session.specs.State.{State}
 use Rattle.eo_session.specs.Step.{formula_of, formula}
 use Rattle.eo_session.specs.Stepping.{GivesTerm}
 use Rattle.eo_session.specs.declared.refused.Refused.{Refused}
-use Rattle.eo_session.proofs.Exits.{at_exit}
+use Rattle.eo_base.proofs.Answering.{at_exit}
 use Rattle.eo_session.proofs.Sessions.{formula-fault, formula-is, gives-same, refuses_on}
 use Rattle.eo_session.proofs.held.Held.formula.Goals as goal
 

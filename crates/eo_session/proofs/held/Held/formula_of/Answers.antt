@@ -6,7 +6,7 @@ use Rattle.eo_session.specs.State.{State}
 use Rattle.eo_session.specs.Step.{typed, formula_of}
 use Rattle.eo_session.specs.Stepping.{GivesTerm}
 use Rattle.eo_session.specs.declared.refused.Refused.{Refused}
-use Rattle.eo_session.proofs.Exits.{at_exit}
+use Rattle.eo_base.proofs.Answering.{at_exit}
 use Rattle.eo_session.proofs.Sessions.{formula-value, formula-kind, formula-not_bool, formula-ok, refuses_on, value_later}
 use Rattle.eo_session.proofs.held.Held.formula_of.Goals as goal
 

@@ -5,7 +5,7 @@ use Rattle.eo_session.specs.Held.{state_of}
 use Rattle.eo_session.specs.Step.{typed}
 use Rattle.eo_session.specs.Stepping.{of_rule, GivesKind}
 use Rattle.eo_session.specs.declared.refused.Refused.{Refused}
-use Rattle.eo_session.proofs.Exits.{at_exit}
+use Rattle.eo_base.proofs.Answering.{at_exit}
 use Rattle.eo_session.proofs.Faults.{present-typed, refuses_rule}
 use Rattle.eo_session.proofs.held.Held.has_kind.Goals as goal
 

@@ -5,7 +5,7 @@ use Rattle.eo_session.specs.State.{context}
 use Rattle.eo_session.specs.Stepping.{of_elab, GivesTerm}
 use Rattle.eo_session.specs.declared.refused.Refused.{Refused}
 use Rattle.eo_session.proofs.Holding.{keeps_table, stays_kept}
-use Rattle.eo_session.proofs.Exits.{at_exit}
+use Rattle.eo_base.proofs.Answering.{at_exit}
 use Rattle.eo_session.proofs.Sessions.{refuses_elab, refuses_on, no_locals}
 use Rattle.eo_session.proofs.held.Held.meant.Goals as goal
 

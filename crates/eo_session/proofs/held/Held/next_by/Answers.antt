@@ -6,7 +6,7 @@ use Rattle.eo_session.specs.Held.{state_of}
 use Rattle.eo_session.specs.Stepping.{Gives}
 use Rattle.eo_session.specs.declared.Next.{Next}
 use Rattle.eo_session.specs.declared.refused.Refused.{Refused}
-use Rattle.eo_session.proofs.Exits.{at_exit}
+use Rattle.eo_base.proofs.Answering.{at_exit}
 use Rattle.eo_session.proofs.NamedPaths.{include-next, include-stops, refer-next, refer-stops, next-done, next-exit}
 use Rattle.eo_session.proofs.held.Held.next_by.Goals as goal
 

@@ -5,7 +5,7 @@ use Rattle.eo_session.specs.Step.{optional_value}
 use Rattle.eo_session.specs.Using.{GivesOptional}
 use Rattle.eo_session.specs.declared.refused.Refused.{Refused}
 use Rattle.eo_session.proofs.Concluding.{optional-fault, optional-some}
-use Rattle.eo_session.proofs.Exits.{at_exit}
+use Rattle.eo_base.proofs.Answering.{at_exit}
 use Rattle.eo_session.proofs.Sessions.{refuses_on}
 use Rattle.eo_session.proofs.held.Held.optional_value.Goals as goal
 

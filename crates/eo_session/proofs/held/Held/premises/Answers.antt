@@ -6,7 +6,7 @@ use Rattle.eo_session.specs.Step.{premises}
 use Rattle.eo_session.specs.Using.{AreValueIds, GivesIds}
 use Rattle.eo_session.specs.declared.refused.Refused.{Refused}
 use Rattle.eo_session.proofs.Concluding.{behind, behind-none, premises-next, premises-fault, premises-end}
-use Rattle.eo_session.proofs.Exits.{at_exit}
+use Rattle.eo_base.proofs.Answering.{at_exit}
 use Rattle.eo_session.proofs.Sessions.{refuses_on}
 use Rattle.eo_session.proofs.Used.{no_ids, ids_push, trees_more, since_self}
 use Rattle.eo_session.proofs.held.Held.premises.Goals as goal

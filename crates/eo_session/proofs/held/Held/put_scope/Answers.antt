@@ -8,7 +8,7 @@ use Rattle.eo_session.specs.Stepping.{of_fact, Does}
 use Rattle.eo_session.specs.declared.marks.ScopeMark.{ScopeMark}
 use Rattle.eo_session.specs.declared.refused.Refused.{Refused}
 use Rattle.eo_session.proofs.Alive.{own_mark}
-use Rattle.eo_session.proofs.Exits.{at_exit}
+use Rattle.eo_base.proofs.Answering.{at_exit}
 use Rattle.eo_session.proofs.Holding.{whole_fact, whole_scope, whole_begun, state_begun}
 use Rattle.eo_session.proofs.Reclaiming.{whole_put_scope}
 use Rattle.eo_session.proofs.Sessions.{refuses_pushed}

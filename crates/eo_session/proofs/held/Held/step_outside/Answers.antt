@@ -11,7 +11,7 @@ use Rattle.eo_session.specs.Stepping.{Does}
 use Rattle.eo_session.specs.Using.{conclusion_outside, read_conclusion}
 use Rattle.eo_session.specs.declared.refused.Refused.{Refused}
 use Rattle.eo_session.proofs.Concluding.{outside-fault, outside-ok}
-use Rattle.eo_session.proofs.Exits.{at_exit}
+use Rattle.eo_base.proofs.Answering.{at_exit}
 use Rattle.eo_session.proofs.Adding.{does-same}
 use Rattle.eo_session.proofs.Sessions.{refuses_on}
 use Rattle.eo_session.proofs.Used.{discharges_innermost, free_outside}

@@ -10,7 +10,7 @@ use Rattle.eo_session.specs.Step.{use_of, values}
 use Rattle.eo_session.specs.Using.{GivesUse}
 use Rattle.eo_session.specs.declared.refused.Refused.{Refused}
 use Rattle.eo_session.proofs.Concluding.{use-no_premises, use-not_stated, use-no_arguments, use-whole}
-use Rattle.eo_session.proofs.Exits.{at_exit}
+use Rattle.eo_base.proofs.Answering.{at_exit}
 use Rattle.eo_session.proofs.Sessions.{refuses_on}
 use Rattle.eo_session.proofs.Used.{use_read, use_is, keeps_on}
 use Rattle.eo_session.proofs.held.Held.use_of.Goals as goal

@@ -6,7 +6,7 @@ use Rattle.eo_session.specs.State.{State}
 use Rattle.eo_session.specs.Step.{evaluated, value}
 use Rattle.eo_session.specs.Stepping.{GivesTerm}
 use Rattle.eo_session.specs.declared.refused.Refused.{Refused}
-use Rattle.eo_session.proofs.Exits.{at_exit}
+use Rattle.eo_base.proofs.Answering.{at_exit}
 use Rattle.eo_session.proofs.Sessions.{value-fault, value-is, gives-same, refuses_on}
 use Rattle.eo_session.proofs.held.Held.value.Goals as goal
 

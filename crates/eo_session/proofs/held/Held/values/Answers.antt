@@ -7,7 +7,7 @@ use Rattle.eo_session.specs.Step.{value, values}
 use Rattle.eo_session.specs.Using.{AreValueIds, GivesIds}
 use Rattle.eo_session.specs.declared.refused.Refused.{Refused}
 use Rattle.eo_session.proofs.Concluding.{behind, behind-none, values-next, values-fault, values-end}
-use Rattle.eo_session.proofs.Exits.{at_exit}
+use Rattle.eo_base.proofs.Answering.{at_exit}
 use Rattle.eo_session.proofs.Sessions.{refuses_on}
 use Rattle.eo_session.proofs.Used.{no_ids, ids_push, trees_more, keeps_self, keeps_on}
 use Rattle.eo_session.proofs.held.Held.values.Goals as goal
