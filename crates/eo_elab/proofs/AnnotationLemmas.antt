@@ -18,49 +18,11 @@ use Rattle.eo_elab.specs.Gives.{NamesGrow}
 use Rattle.eo_elab.specs.Meaning.{are_attributes, names_given, name_before, is_free_label, label}
 use Rattle.eo_elab.specs.Worlds.{labels_in}
 
--- ---- attributes
-
-pub attribute_next : (may_be keyword : Bool) (s : Sexp) (rest : Sexps) → keyword ≡ is_some (keyword_of s) → (keyword || may_be) ≡ true → are_attributes may_be (Next s rest) ≡ are_attributes keyword rest
-attribute_next may_be keyword s rest e h = ap (λ b. if b then are_attributes true rest else may_be && are_attributes false rest) (sym e) ∙ by keyword may_be h
-  where
-    by : (b m : Bool) → (b || m) ≡ true → (if b then are_attributes true rest else m && are_attributes false rest) ≡ are_attributes b rest
-    by true m h = refl
-    by false true h = refl
-    by false false h = cc
-
-pub attribute_wrong : (s : Sexp) (rest : Sexps) → is_some (keyword_of s) ≡ false → are_attributes false (Next s rest) ≡ false
-attribute_wrong s rest e = ap (λ b. if b then are_attributes true rest else false) e
-
 -- ---- names
-
-pub name_next : (s : Sexp) (rest : Sexps) → names_given false (Next s rest) ≡ names_given (is_some_word (codes ":named") (keyword_of s)) rest
-name_next s rest = refl
-
-pub name_found : (s : Sexp) (rest : Sexps) (name : List ℕ) → symbol_of s ≡ Some name → names_given true (Next s rest) ≡ option_map (λ names. name ∷ names) (names_given false rest)
-name_found s rest name e = ap (λ o. name_before o (names_given false rest)) e ∙ by (names_given false rest)
-  where
-    by : (o : Option (List (List ℕ))) → name_before (Some name) o ≡ option_map (λ names. name ∷ names) o
-    by (Some names) = refl
-    by None = refl
-
-pub name_missing : (s : Sexp) (rest : Sexps) → symbol_of s ≡ None → names_given true (Next s rest) ≡ None
-name_missing s rest e = ap (λ o. name_before o (names_given false rest)) e
-
-pub some_onto : (name : List ℕ) (o : Option (List (List ℕ))) → is_some (option_map (λ names. name ∷ names) o) ≡ is_some o
-some_onto name (Some names) = refl
-some_onto name None = refl
 
 -- the names so far, before those that are left
 abbrev pub behind : List (List ℕ) → Option (List (List ℕ)) → Option (List (List ℕ))
 behind names o = option_map (λ more. names ++ more) o
-
-pub behind-none : (o : Option (List (List ℕ))) → behind [] o ≡ o
-behind-none (Some names) = refl
-behind-none None = refl
-
-pub behind-next : (names : List (List ℕ)) (name : List ℕ) (o : Option (List (List ℕ))) → behind names (option_map (λ more. name ∷ more) o) ≡ behind (names ++ name ∷ []) o
-behind-next names name (Some more) = ap Some (sym (append_assoc names (name ∷ []) more))
-behind-next names name None = refl
 
 -- ---- names that are given
 
@@ -106,7 +68,3 @@ name_added t bs name i h below = record {
         let here : x ≡ y = cc in
         let rest : take (length ys) xs ≡ ys = cc in
         λ j. here j ∷ front_of ys xs rest j
-
-pub empty : {A : Type 0} (xs : List A) → length xs ≡ 0 → xs ≡ []
-empty [] h = refl
-empty (x ∷ xs) h = cc

@@ -5,6 +5,7 @@ use Rattle.std.proofs.lemmas.List.Elements.{All-head, All-tail, All-weaker}
 use Rattle.eo_base.specs.declared.FaultName.{FaultName}
 use Rattle.eo_sexp.specs.Sexp.{Sexp}
 use Rattle.std.specs.Prelude.{Ok, Err, if◌then◌else◌}
+use Rattle.eo_base.proofs.ChecksLemmas.{behind, behind-first}
 use Rattle.eo_base.specs.declared.FaultName.TheVariants.{UnknownSymbol, BadPattern}
 use Rattle.eo_base.specs.Checks.{Checked, ◌>>=◌, no_fault}
 use Rattle.eo_sig.specs.Signature.{Parameter, Attribute, Constant, constant_may_hold, first_wrong}
@@ -62,20 +63,6 @@ trees-grown n ts us (j ∷ js) same h =
 
 pub ids-more : (n m : ℕ) (is : List ℕ) → n ≤ m → All (λ i. i < n) is → All (λ i. i < m) is
 ids-more n m is l h = All-weaker (λ i. i < n) (λ i. i < m) (λ i q. omega arith) is h
-
--- what is read behind some trees
-abbrev pub behind : List Tree → Checked (List Tree) → Checked (List Tree)
-behind before m = m >>= λ ts. Ok (before ++ ts)
-
-pub behind-none : (m : Checked (List Tree)) → behind [] m ≡ m
-unfolding ◌>>=◌
-behind-none (Ok ts) = refl
-behind-none (Err fault) = refl
-
-behind-first : (before : List Tree) (t : Tree) (m : Checked (List Tree)) → behind (before ++ t ∷ []) m ≡ behind before (m >>= λ ts. Ok (t ∷ ts))
-unfolding ◌>>=◌
-behind-first before t (Ok ts) = ap Ok (append_assoc before (t ∷ []) ts)
-behind-first before t (Err fault) = refl
 
 module _ (c : Context) (locals : List Local) (before : List Tree) (s : Sexp) (rest : List Sexp) where
   abbrev first_read : Checked Tree → Checked (List Tree)

@@ -22,9 +22,6 @@ low t e = ap (λ b. cond b (Err TermHeight) (Ok t)) e
 pub high : (t : Tree) → is_tall t ≡ true → not_tall t ≡ Err TermHeight
 high t e = ap (λ b. cond b (Err TermHeight) (Ok t)) e
 
-pub low-height : (t : Tree) → height t ≤ height_limit → is_tall t ≡ false
-low-height t h = search (rules, tests)
-
 -- the type of a function, by its inputs and then its output
 pub arrow-onto : (ts : List Tree) (t : Tree) → arrow (ts ++ t ∷ []) ≡ function_type ts t
 arrow-onto [] t = refl

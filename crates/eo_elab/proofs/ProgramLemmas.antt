@@ -3,6 +3,7 @@ use Rattle.std.proofs.Common.{◌≡◌, ℕ, ◌<◌, ◌≤◌, ◌==◌, true
 use Rattle.std.specs.Prelude.{Ok, Err}
 use Rattle.std.proofs.lemmas.List.{append-nil, append_assoc}
 use Rattle.std.proofs.lemmas.List.Elements.{All-head, All-tail, All-weaker}
+use Rattle.eo_base.proofs.ChecksLemmas.{behind, behind-first}
 use Rattle.eo_base.specs.declared.FaultName.{FaultName}
 use Rattle.eo_base.specs.declared.FaultName.TheVariants.{Redeclared, BadArity, Parameters}
 use Rattle.eo_base.specs.Checks.{Checked, ◌>>=◌}
@@ -53,33 +54,19 @@ module _ (c : Context) (ls : List Local) (n : ℕ) (s : CaseShape) where
 
 -- ---- cases in order
 
--- what is read behind some cases
-abbrev pub cases_behind : List Case → Checked (List Case) → Checked (List Case)
-cases_behind before m = m >>= λ ks. Ok (before ++ ks)
-
-pub cases_behind-none : (m : Checked (List Case)) → cases_behind [] m ≡ m
-unfolding ◌>>=◌
-cases_behind-none (Ok ks) = refl
-cases_behind-none (Err fault) = refl
-
-cases_behind-first : (before : List Case) (k : Case) (m : Checked (List Case)) → cases_behind (before ++ k ∷ []) m ≡ cases_behind before (m >>= λ ks. Ok (k ∷ ks))
-unfolding ◌>>=◌
-cases_behind-first before k (Ok ks) = ap Ok (append_assoc before (k ∷ []) ks)
-cases_behind-first before k (Err fault) = refl
-
 module _ (c : Context) (locals : List Local) (n : ℕ) (before : List Case) (s : CaseShape) (rest : List CaseShape) where
   abbrev first_case : Checked Case → Checked (List Case)
-  first_case m = cases_behind before (m >>= λ k. declared_cases c locals n rest >>= λ ks. Ok (k ∷ ks))
+  first_case m = behind before (m >>= λ k. declared_cases c locals n rest >>= λ ks. Ok (k ∷ ks))
 
-  pub cases-next : (k : Case) → declared_case c locals n s ≡ Ok k → cases_behind (before ++ k ∷ []) (declared_cases c locals n rest) ≡ cases_behind before (declared_cases c locals n (s ∷ rest))
+  pub cases-next : (k : Case) → declared_case c locals n s ≡ Ok k → behind (before ++ k ∷ []) (declared_cases c locals n rest) ≡ behind before (declared_cases c locals n (s ∷ rest))
   unfolding ◌>>=◌ declared_cases
-  cases-next k e = cases_behind-first before k (declared_cases c locals n rest) ∙ ap first_case (sym e)
+  cases-next k e = behind-first before k (declared_cases c locals n rest) ∙ ap first_case (sym e)
 
-  pub cases-refused : (fault : FaultName) → declared_case c locals n s ≡ Err fault → cases_behind before (declared_cases c locals n (s ∷ rest)) ≡ Err fault
+  pub cases-refused : (fault : FaultName) → declared_case c locals n s ≡ Err fault → behind before (declared_cases c locals n (s ∷ rest)) ≡ Err fault
   unfolding ◌>>=◌ declared_cases
   cases-refused fault e = ap first_case e
 
-pub cases-end : (c : Context) (locals : List Local) (n : ℕ) (before : List Case) → cases_behind before (declared_cases c locals n []) ≡ Ok before
+pub cases-end : (c : Context) (locals : List Local) (n : ℕ) (before : List Case) → behind before (declared_cases c locals n []) ≡ Ok before
 unfolding ◌>>=◌ declared_cases
 cases-end c locals n before = ap Ok (append-nil before)
 

@@ -3,6 +3,7 @@ use Rattle.std.proofs.Common.{◌≡◌, ℕ, ◌<◌, ◌≤◌, true, List, []
 use Rattle.std.specs.Prelude.{Ok, Err, option_map}
 use Rattle.std.proofs.lemmas.List.{append-nil, append_assoc}
 use Rattle.std.proofs.lemmas.List.Elements.{All-head, All-tail, All-weaker}
+use Rattle.eo_base.proofs.ChecksLemmas.{behind, behind-first}
 use Rattle.eo_base.specs.declared.FaultName.{FaultName}
 use Rattle.eo_base.specs.declared.FaultName.TheVariants.{Redeclared, Parameters, BadPattern}
 use Rattle.eo_base.specs.Checks.{Checked, ◌>>=◌}
@@ -72,20 +73,6 @@ joined-parts (Err fault) n = refl
 
 -- ---- requirements in order
 
--- what is read behind some pairs
-abbrev pub pairs_behind : List (Tree × Tree) → Checked (List (Tree × Tree)) → Checked (List (Tree × Tree))
-pairs_behind before m = m >>= λ qs. Ok (before ++ qs)
-
-pub pairs_behind-none : (m : Checked (List (Tree × Tree))) → pairs_behind [] m ≡ m
-unfolding ◌>>=◌
-pairs_behind-none (Ok qs) = refl
-pairs_behind-none (Err fault) = refl
-
-pairs_behind-first : (before : List (Tree × Tree)) (p : Tree × Tree) (m : Checked (List (Tree × Tree))) → pairs_behind (before ++ p ∷ []) m ≡ pairs_behind before (m >>= λ qs. Ok (p ∷ qs))
-unfolding ◌>>=◌
-pairs_behind-first before p (Ok qs) = ap Ok (append_assoc before (p ∷ []) qs)
-pairs_behind-first before p (Err fault) = refl
-
 pair-first : (m n : Checked Tree) (o : Checked (List (Tree × Tree))) → (m >>= λ a. n >>= λ b. o >>= λ rest. Ok ((a, b) ∷ rest)) ≡ ((m >>= λ a. n >>= λ b. Ok (a, b)) >>= λ p. o >>= λ rest. Ok (p ∷ rest))
 unfolding ◌>>=◌
 pair-first (Ok a) (Ok b) o = refl
@@ -101,17 +88,17 @@ module _ (w : World) (before : List (Tree × Tree)) (q : Sexp × Sexp) (rest : L
   requirements-first = pair-first (meaning w.names w.locals q.0) (meaning w.names w.locals q.1) others
 
   abbrev first_pair : Checked (Tree × Tree) → Checked (List (Tree × Tree))
-  first_pair m = pairs_behind before (m >>= λ p. others >>= λ qs. Ok (p ∷ qs))
+  first_pair m = behind before (m >>= λ p. others >>= λ qs. Ok (p ∷ qs))
 
-  pub pairs-next : (p : Tree × Tree) → requirement_in w q ≡ Ok p → pairs_behind (before ++ p ∷ []) others ≡ pairs_behind before (requirements_meant w.names w.locals (q ∷ rest))
+  pub pairs-next : (p : Tree × Tree) → requirement_in w q ≡ Ok p → behind (before ++ p ∷ []) others ≡ behind before (requirements_meant w.names w.locals (q ∷ rest))
   unfolding ◌>>=◌
-  pairs-next p e = pairs_behind-first before p others ∙ ap first_pair (sym e) ∙ ap (pairs_behind before) (sym requirements-first)
+  pairs-next p e = behind-first before p others ∙ ap first_pair (sym e) ∙ ap (behind before) (sym requirements-first)
 
-  pub pairs-refused : (fault : FaultName) → requirement_in w q ≡ Err fault → pairs_behind before (requirements_meant w.names w.locals (q ∷ rest)) ≡ Err fault
+  pub pairs-refused : (fault : FaultName) → requirement_in w q ≡ Err fault → behind before (requirements_meant w.names w.locals (q ∷ rest)) ≡ Err fault
   unfolding ◌>>=◌
-  pairs-refused fault e = ap (pairs_behind before) requirements-first ∙ ap first_pair e
+  pairs-refused fault e = ap (behind before) requirements-first ∙ ap first_pair e
 
-pub pairs-end : (w : World) (before : List (Tree × Tree)) → pairs_behind before (requirements_meant w.names w.locals []) ≡ Ok before
+pub pairs-end : (w : World) (before : List (Tree × Tree)) → behind before (requirements_meant w.names w.locals []) ≡ Ok before
 unfolding ◌>>=◌ requirements_meant
 pairs-end w before = ap Ok (append-nil before)
 

@@ -1,24 +1,13 @@
 -- What is inside of an s-expression is smaller, and what parts there are.
 use Rattle.std.proofs.Common.{◌≡◌, ℕ, ◌<◌, List, [], ◌∷◌, Some, None, refl, sym, ap, ◌∙◌, arith}
 use Rattle.std.proofs.lemmas.Option.{same_Some}
+use Rattle.eo_sexp.proofs.Sizes.{sexps_of-children}
 use Rattle.eo_sexp.specs.Pairs.{list_of, first_one, only_two}
 use Rattle.eo_sexp.specs.Sexp.{Sexp, Atom, Listed, Sexps, NoSexp, Next, sexps_of, sexp_span, children_of}
 use Rattle.eo_sexp.specs.Sizes.{size, size_in, size_of_all}
 use Rattle.eo_elab.specs.Forms.{pair_of}
 
-pub sexps_of-children : (ss : Sexps) → sexps_of (children_of ss) ≡ ss
-sexps_of-children NoSexp = refl
-sexps_of-children (Next s ss) = ap (Next s) (sexps_of-children ss)
-
--- the parts of a list are smaller than the list
-pub size_inside : (s : Sexp) (ss : List Sexp) → Some ss ≡ list_of s → size_of_all ss < size s
-size_inside (Atom k text span) ss e = cc
-size_inside (Listed inside span) ss e =
-    let same : ss ≡ children_of inside = cc in
-    let all : size_of_all ss ≡ size_in inside = ap size_of_all same ∙ ap size_in (sexps_of-children inside) in
-    omega (arith, all)
-
--- and so is what stands beside the name of a pair
+-- what stands beside the name of a pair is smaller than the pair
 pub size_beside : (s t : Sexp) (name : List ℕ) → Some (name, t) ≡ pair_of s → size t < size s
 size_beside (Atom k text span) t name e = cc
 size_beside (Listed NoSexp span) t name e = cc

@@ -101,10 +101,6 @@ found_called ts k es i h =
     let args = (bytes_decides k.args f.0.0.args).0 same.1 in
     call_read ts es i f.0 f.1 ∙ sym (λ j. record { program = program j; arguments = map (tree_at ts) (args j) })
 
-pub none_of : {A : Type 0} (o : Option A) → is_some o ≡ false → o ≡ None
-none_of None h = refl
-none_of (Some a) h = absurd (cc h)
-
 pub below_test : (a b : ℕ) → a < b → nat_lt a b ≡ true
 below_test a b h = grind (arith, nat_tests)
 

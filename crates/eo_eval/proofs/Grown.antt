@@ -102,19 +102,6 @@ module _ (old new : Terms) (g : Since old new) where
       by (frame.Handed i d) p r = let t = entered_grown s q i p in let w = r s q vs l in λ j. OfNode (t j) Handed d 0 ∷ w j
       by (frame.Body place body base here kept) p r = let t = entered_grown s q body p in let w = r (outer s base here) (outer_live s base here q) vs l in λ j. OfCall (call_at b place) (t j) ∷ w j
 
-  -- what is told is the same
-  pub told_grown : (S : Signature) (most : ℕ) (b : Begun) (s : Bound) (fs : List code_frame.Frame) (vs : List ℕ) (now : code_now.Now) → SlotsLive s → All (IsFrame old.trees) fs → All Below vs → NowBelow (length old.trees) now → told S most new.trees b s fs vs now ≡ told S most old.trees b s fs vs now
-  told_grown S most b s fs vs now q h l n = let ws = waiting_grown b s q (reverse fs) vs (all_reverse (IsFrame old.trees) fs h) l in λ j. finish S most (ws j) (by now n j)
-    where
-      by : (now : code_now.Now) → NowBelow (length old.trees) now → current S most new.trees b s now ≡ current S most old.trees b s now
-      by (next.Enter i k) n = ap (λ t. evals S most t k b) (entered_grown s q i n)
-      by (next.Value i d) n = ap (λ t. (Value t, b)) (g.tree i n)
-      by (next.Stuck d) n = refl
-      by next.Deep n = refl
-      by next.Calls n = refl
-      by next.Range n = refl
-      by next.Tall n = refl
-
   -- and what waits, waits rightly
   pub waits_grown : (S : Signature) (most : ℕ) (b : Begun) (s : Bound) (fs : List code_frame.Frame) (vs : List ℕ) (now : code_now.Now) → SlotsLive s → All (IsFrame old.trees) fs → All Below vs → NowBelow (length old.trees) now → Waits S most old.trees b s (waiting old.trees b s (reverse fs) vs) now → Waits S most new.trees b s (waiting new.trees b s (reverse fs) vs) now
   waits_grown S most b s fs vs now q h l n w = by now n (subst (λ xs. Waits S most old.trees b s xs now) (sym (waiting_grown b s q (reverse fs) vs (all_reverse (IsFrame old.trees) fs h) l)) w)
@@ -258,12 +245,6 @@ module _ (k : Kept) (old new : Terms) (u : GrowsUnder k old new) (e : Machine) (
       let S = sym u.stays.signature in
       let b = sym (same_begun h) in
       transport (λ i. Stands (S i) calls_limit new.trees (b i) e.scope fs vs now) (stands_grown old new u.table.now (signature old.trees k) calls_limit (begun old.trees cs) e.scope fs vs now s)
-
-  pub now_told : (fs : List code_frame.Frame) (vs : List ℕ) (now : code_now.Now) → Held k old typed e → Stands (signature old.trees k) calls_limit old.trees (begun old.trees cs) e.scope fs vs now → told (signature new.trees k) calls_limit new.trees (begun new.trees cs) e.scope fs vs now ≡ told (signature old.trees k) calls_limit old.trees (begun old.trees cs) e.scope fs vs now
-  now_told fs vs now h s =
-      let b = same_begun h in
-      (λ i. told (u.stays.signature i) calls_limit new.trees (b i) e.scope fs vs now)
-      ∙ told_grown old new u.table.now (signature old.trees k) calls_limit (begun old.trees cs) e.scope fs vs now s.slots_live s.frames_live s.values_live s.now_live
 
   -- what waits is the same
   pub waiting_same : (fs : List code_frame.Frame) (vs : List ℕ) (now : code_now.Now) → Held k old typed e → Stands (signature old.trees k) calls_limit old.trees (begun old.trees cs) e.scope fs vs now → waiting new.trees (begun new.trees cs) e.scope (reverse fs) vs ≡ waiting old.trees (begun old.trees cs) e.scope (reverse fs) vs

@@ -1,6 +1,7 @@
 -- What an operator on literals gives is a value, and so is a type that has to be one.
 use Rattle.std.specs.Prelude.{◌≡◌, Bool, true, false, List, [], ◌∷◌, Option, Some, None, refl}
 use Rattle.std.proofs.Common.{ap, subst}
+use Rattle.eo_term.proofs.Values.{truth_value}
 use Rattle.eo_base.proofs.Tests.{clash}
 use Rattle.eo_term.specs.declared.OpName.{OpName}
 use Rattle.eo_term.specs.Tree.{Tree, truth, is_value}
@@ -8,10 +9,6 @@ use Rattle.eo_ops.specs.Operators.{Literal, Boolean, Number, BitString, Text, Op
 use Rattle.eo_sig.specs.Signature.{Signature}
 use Rattle.eo_type.specs.Types.{Typed, typed_if, typed_answer, type_of, value_type}
 use Rattle.eo_type.proofs.SettleLemmas.{is_typed, typed_inj, typed_before, typed_if_gives}
-
-truth_value : (b : Bool) → is_value (truth b) ≡ true
-truth_value true = refl
-truth_value false = refl
 
 literal_value : (l : Literal) → is_value (literal_tree l) ≡ true
 literal_value (Boolean b) = truth_value b

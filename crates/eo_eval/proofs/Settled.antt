@@ -2,8 +2,9 @@
 use Rattle.std.specs.Prelude.{◌≡◌, ◌≤◌, Bool, true, false, ◌&&◌, if◌then◌else◌, List, [], ◌∷◌, Option, Some, None, refl}
 use Rattle.std.specs.List.{list_all}
 use Rattle.std.proofs.Common.{sym, ◌∙◌, ap, subst, arith}
+use Rattle.eo_term.proofs.Heights.{low_height}
 use Rattle.eo_base.specs.Limits.{height_limit, calls_limit, open_calls_limit}
-use Rattle.eo_base.proofs.Tests.{both, clash, join}
+use Rattle.eo_base.proofs.Tests.{both, clash, join, and_first, and_second}
 use Rattle.eo_term.specs.declared.OpName.{OpName}
 use Rattle.eo_term.specs.declared.OpCode.{OpCode}
 use Rattle.eo_term.specs.Tree.{Tree, Con, Num, Bits, Str, Par, Var, App, Arr, Qar, Op, Trees, NoTree, More, truth, to_trees, height, height_all, is_tall, is_closed, all_closed, is_value, may_be_type, all_may_be_type, may_type_use, tree_eq}
@@ -31,14 +32,6 @@ abbrev after : Settled → List Tree
 after [] = []
 after (p ∷ ps) = p.1 ∷ after ps
 
-and_first : (a b : Bool) → a ≡ false → (a && b) ≡ false
-and_first true b h = clash (sym h)
-and_first false b h = refl
-
-and_second : (a b : Bool) → b ≡ false → (a && b) ≡ false
-and_second true b h = h
-and_second false b h = refl
-
 stuck : (u : Tree) → is_value u ≡ false → value_or_stuck u ≡ Stuck
 stuck u h = ap (λ (b : Bool). if b then Value u else Stuck) h
 
@@ -48,9 +41,6 @@ valued u h = ap (λ (b : Bool). if b then Value u else Stuck) h
 truth_valued : (b : Bool) → value_or_stuck (truth b) ≡ Value (truth b)
 truth_valued true = refl
 truth_valued false = refl
-
-low : (t : Tree) → height t ≤ height_limit → is_tall t ≡ false
-low t h = grind arith
 
 -- goes on with a value, and is stuck where there is none
 then_value : (a : Tree) (go : Tree → Eval Tree) (o : Outcome Tree) (c : Begun) → (is_value a ≡ true → go a c ≡ (o, c)) → (is_value a ≡ false → o ≡ Stuck) → on_value (value_or_stuck a, c) go ≡ (o, c)
@@ -231,7 +221,7 @@ module _ (S : Signature) (call : Call → Eval Tree) where
         let r = typed_before (settle t) (λ v. Typed (Var s v)) u e in
         let same = typed_inj r.2 in
         let k : is_closed (Var s r.0) ≡ true = ap is_closed same ∙ h in
-        let tall : is_tall (Var s r.0) ≡ false = ap is_tall same ∙ settle_low (Var s t) u e (low (Var s t) l) in
+        let tall : is_tall (Var s r.0) ≡ false = ap is_tall same ∙ settle_low (Var s t) u e (low_height (Var s t) l) in
         ap (λ (x : Ended Tree). on_value x (λ v. node (Var s v))) (tree_settled t r.0 c m (omega (arith, l)) r.1 k)
         ∙ (then_value r.0 (λ v. node (Var s v)) (value_or_stuck (Var s r.0)) c (λ p. node_value (Var s r.0) c p tall) (λ p. stuck (Var s r.0) p)
         ∙ same_leaf (Var s r.0) u c r.2)
@@ -240,7 +230,7 @@ module _ (S : Signature) (call : Call → Eval Tree) where
         let q = typed_before (settle x) (λ y. Typed (App r.0 y)) u r.2 in
         let w = App r.0 q.0 in
         let k : (is_closed r.0 && is_closed q.0) ≡ true = ap is_closed (typed_inj q.2) ∙ h in
-        let tall : is_tall w ≡ false = ap is_tall (typed_inj q.2) ∙ settle_low (App f x) u e (low (App f x) l) in
+        let tall : is_tall w ≡ false = ap is_tall (typed_inj q.2) ∙ settle_low (App f x) u e (low_height (App f x) l) in
         ap (λ (z : Ended Tree). on_value z (λ g b. on_value (E x b) (λ y. node (App g y)))) (tree_settled f r.0 c (both m).0 (omega (arith, l)) r.1 (both k).0)
         ∙ (then_value r.0 (λ g b. on_value (E x b) (λ y. node (App g y))) (value_or_stuck w) c
         (λ i. ap (λ (z : Ended Tree). on_value z (λ y. node (App r.0 y))) (tree_settled x q.0 c (both m).1 (omega (arith, l)) q.1 (both k).1)
@@ -252,7 +242,7 @@ module _ (S : Signature) (call : Call → Eval Tree) where
         let q = typed_before (settle x) (λ y. Typed (Arr r.0 y)) u r.2 in
         let w = Arr r.0 q.0 in
         let k : (is_closed r.0 && is_closed q.0) ≡ true = ap is_closed (typed_inj q.2) ∙ h in
-        let tall : is_tall w ≡ false = ap is_tall (typed_inj q.2) ∙ settle_low (Arr f x) u e (low (Arr f x) l) in
+        let tall : is_tall w ≡ false = ap is_tall (typed_inj q.2) ∙ settle_low (Arr f x) u e (low_height (Arr f x) l) in
         ap (λ (z : Ended Tree). on_value z (λ g b. on_value (E x b) (λ y. node (Arr g y)))) (tree_settled f r.0 c (both m).0 (omega (arith, l)) r.1 (both k).0)
         ∙ (then_value r.0 (λ g b. on_value (E x b) (λ y. node (Arr g y))) (value_or_stuck w) c
         (λ i. ap (λ (z : Ended Tree). on_value z (λ y. node (Arr r.0 y))) (tree_settled x q.0 c (both m).1 (omega (arith, l)) q.1 (both k).1)
@@ -269,7 +259,7 @@ module _ (S : Signature) (call : Call → Eval Tree) where
         let k = closed_arguments (OpCode.Builtin o) r.0 u r.2 h in
         let ps = trees_settled ts r.0 c (both m).1 (omega (arith, l)) r.1 k.0 in
         ap (λ (xs : Trees). E (Op (OpCode.Builtin o) xs) c) (sym ps.1.0)
-        ∙ operators o ps.0 u c (both m).0 ps.1.1.1 (settle_low (Op (OpCode.Builtin o) ts) u e (low (Op (OpCode.Builtin o) ts) l)) (subst (λ (us : List Tree). op_in_type (OpCode.Builtin o) us ≡ Typed u) (sym ps.1.1.0) k.1)
+        ∙ operators o ps.0 u c (both m).0 ps.1.1.1 (settle_low (Op (OpCode.Builtin o) ts) u e (low_height (Op (OpCode.Builtin o) ts) l)) (subst (λ (us : List Tree). op_in_type (OpCode.Builtin o) us ≡ Typed u) (sym ps.1.1.0) k.1)
 
     trees_settled : (ts : Trees) (us : List Tree) (c : Begun) → all_may_be_type ts ≡ true → height_all ts ≤ height_limit → settle_all ts ≡ Typed us → list_all is_closed us ≡ true
         → (ps : Settled) × ((to_trees (before ps) ≡ ts) × ((after ps ≡ us) × Each ps c))

@@ -3,7 +3,7 @@ use Rattle.std.proofs.Common.{◌≡◌, ℕ, suc, ◌+◌, Bool, true, false, c
 use Rattle.std.proofs.lemmas.List.{map-append}
 use Rattle.std.proofs.lemmas.Bool.{false≢true}
 use Rattle.std.proofs.lemmas.List.Folds.{position_or_len_push}
-use Rattle.std.proofs.lemmas.Bool.Decides.{nat_tests}
+use Rattle.eo_base.proofs.Tests.{nat_lt-first, nat_lt-suc}
 use Rattle.indexmap.specs.IndexSet.{insert_key}
 use Rattle.std.specs.List.{position_or_len, list_any}
 use Rattle.std.specs.Str.{bytes_eq}
@@ -36,12 +36,6 @@ pub found : (paths : List (List ℕ)) (path : List ℕ) (n : ℕ) → position (
 found paths path n h =
     let is = position-Some (bytes_eq path) paths n [] h in
     slice_get-get_or paths n [] is.0 ∙ ap Some (sym ((bytes_eq-Decides path (get_or paths n [])).0 is.1))
-
-nat_lt-first : (n : ℕ) → true ≡ nat_lt 0 (suc n)
-nat_lt-first n = grind (arith, nat_tests)
-
-nat_lt-suc : (i n : ℕ) → nat_lt i n ≡ nat_lt (1 + i) (suc n)
-nat_lt-suc i n = grind (arith, nat_tests)
 
 module _ (p : List ℕ → Bool) where
   list_any-position : (paths : List (List ℕ)) → list_any p paths ≡ nat_lt (position_or_len p paths) (length paths)

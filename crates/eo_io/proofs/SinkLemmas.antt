@@ -7,7 +7,7 @@ use Rattle.eo_io.specs.declared.Put.TheVariants.{Took}
 use Rattle.eo_io.specs.Sink.{Adds, Writes}
 
 -- one piece and then another
-Adds-append : (xs ys : List ℕ) (a b c : Option (List ℕ)) → Adds xs a b → Adds ys b c → Adds (xs ++ ys) a c
+pub Adds-append : (xs ys : List ℕ) (a b c : Option (List ℕ)) → Adds xs a b → Adds ys b c → Adds (xs ++ ys) a c
 Adds-append xs ys None b c p q = q ∙ ap (option_map (λ old. old ++ ys)) p
 Adds-append xs ys (Some old) b c p q = q ∙ ap (option_map (λ old. old ++ ys)) p ∙ ap Some (append_assoc old xs ys)
 

@@ -4,7 +4,7 @@ use Rattle.std.specs.Option.{option_map, option_to_list}
 use Rattle.std.specs.Str.{bytes_eq}
 use Rattle.std.specs.Map.{lookup}
 use Rattle.std.proofs.lemmas.Bool.{false≢true}
-use Rattle.std.proofs.lemmas.Bool.Decides.{same_from_decides}
+use Rattle.eo_base.proofs.Tests.{bytes_eq-flip}
 use Rattle.std.proofs.lemmas.Slice.Eq.{bytes_eq-Decides}
 use Rattle.std.proofs.lemmas.List.{get_or_append_left, get_or_push, length_push, map-append, reverse-append, take_all, take_more, length-take-le, set_at, drop-drop, get_or-map}
 use Rattle.std.proofs.lemmas.List.Elements.{All-head, All-tail, All-nil, All-cons, All-weaker, All-push, All-get_or}
@@ -15,12 +15,6 @@ use Rattle.eo_io.specs.Stored.{with_file, IsFileOf, after_open, first_unread}
 use Rattle.eo_io.specs.Holding.{bytes_at, rest_of, stored, IsOpenIn, IsHeld}
 
 -- equality of bytes
-
-bytes_eq-symm : (xs ys : List ℕ) → bytes_eq xs ys ≡ bytes_eq ys xs
-bytes_eq-symm xs ys =
-    let d = bytes_eq-Decides xs ys in
-    let e = bytes_eq-Decides ys xs in
-    same_from_decides (bytes_eq xs ys) (bytes_eq ys xs) d (λ h. sym (e.0 h), λ h. e.1 (sym h))
 
 same : (xs ys : List ℕ) → bytes_eq xs ys ≡ true → xs ≡ ys
 same xs ys h = (bytes_eq-Decides xs ys).0 h
@@ -51,7 +45,7 @@ module _ {V : Type 0} (items : V → List ℕ) where
   pub file_at-told : (contents : List (List ℕ)) (places : List (V × ℕ)) (path : List ℕ)
       → option_map (bytes_at contents) (lookup (λ k. bytes_eq path (items k)) places) ≡ file_at (map (λ e. (items e.0, bytes_at contents e.1)) places) path
   file_at-told contents [] path = refl
-  file_at-told contents (e ∷ es) path = by (bytes_eq path (items e.0)) (file_at-told contents es path) ∙ ap (λ b. cond b (Some (bytes_at contents e.1)) (file_at (map (file_of contents) es) path)) (bytes_eq-symm path (items e.0))
+  file_at-told contents (e ∷ es) path = by (bytes_eq path (items e.0)) (file_at-told contents es path) ∙ ap (λ b. cond b (Some (bytes_at contents e.1)) (file_at (map (file_of contents) es) path)) (bytes_eq-flip path (items e.0))
     where
       by : (b : Bool) → option_map (bytes_at contents) (lookup (λ k. bytes_eq path (items k)) es) ≡ file_at (map (file_of contents) es) path
           → option_map (bytes_at contents) (cond b (Some e.1) (lookup (λ k. bytes_eq path (items k)) es)) ≡ cond b (Some (bytes_at contents e.1)) (file_at (map (file_of contents) es) path)

@@ -13,9 +13,6 @@ use Rattle.eo_lists.specs.Parts.{onto}
 use Rattle.eo_base.proofs.Elements.{get_or-at}
 
 -- a table that has grown twice has grown
-pub grows_on : (a b c : Terms) → Grows a b → Grows b c → Grows a c
-grows_on a b c g h = record { now = h.since a g.now; since = λ t s. h.since t (g.since t s) }
-
 pub tall_rest : (f a t : Tree) → is_tall t ≡ true → is_tall (link f a t) ≡ true
 tall_rest f a t e = still_above height_limit (height t) (height (link f a t)) (omega arith) e
 

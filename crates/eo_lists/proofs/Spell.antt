@@ -3,20 +3,13 @@ use Rattle.std.specs.Prelude.{◌≡◌, ℕ, zero, suc, ◌<◌, ◌≤◌, All
 use Rattle.std.specs.List.{list_all}
 use Rattle.std.proofs.Common.{◌+◌, sym, ◌∙◌, ap, ap₂, subst, arith}
 use Rattle.std.proofs.lemmas.List.Elements.{All-append}
+use Rattle.std.proofs.lemmas.Option.{same_Some}
 use Rattle.eo_base.proofs.Tests.{both, join, clash}
 use Rattle.eo_term.specs.Tree.{Tree, App, height, is_value, tree_eq}
 use Rattle.eo_term.specs.Terms.{tree_at}
 use Rattle.eo_term.proofs.Equality.{tree_same, tree_refl}
 use Rattle.eo_lists.specs.Lists.{link, spell, none_or_empty, spelled}
 use Rattle.eo_lists.specs.Parts.{unlinked}
-
-some_or : {A : Type 0} → Option A → A → A
-some_or None d = d
-some_or (Some a) d = a
-
-some_inj : {A : Type 0} {a b : A} → Some a ≡ Some b → a ≡ b
-unfolding some_or
-some_inj {A} {a} e = ap (λ (o : Option A). some_or o a) e
 
 -- a list is at least as tall as its terminator
 height_spell : (f : Tree) (n : Tree) (xs : List Tree) → height n ≤ height (spell f n xs)
@@ -46,13 +39,13 @@ spelled-spell f n (x ∷ xs) = by_test (spelled-spell f n xs) (tree_eq (spell f 
 
 map_some : (x : Tree) (o : Option (List Tree)) (ys : List Tree) → option_map (λ items. x ∷ items) o ≡ Some ys → (xs : List Tree) × (o ≡ Some xs) × (x ∷ xs ≡ ys)
 map_some x None ys e = clash (ap is_some e)
-map_some x (Some xs) ys e = (xs, refl, some_inj e)
+map_some x (Some xs) ys e = (xs, refl, same_Some _ _ e)
 
 empty_same : (n t : Tree) (xs : List Tree) → none_or_empty (tree_eq t n) ≡ Some xs → (tree_eq t n ≡ true) × ([] ≡ xs)
 empty_same n t xs e = by_test (tree_eq t n) e
   where
     by_test : (b : Bool) → none_or_empty b ≡ Some xs → (b ≡ true) × ([] ≡ xs)
-    by_test true q = (refl, some_inj q)
+    by_test true q = (refl, same_Some _ _ q)
     by_test false q = clash (ap is_some q)
 
 -- what a tree that spells a list gives: it is the spelled list, and its items are values where it is
@@ -61,7 +54,7 @@ spell-spelled f n (App (App g a) t) xs e = by_test (spell-spelled f n t) (tree_e
   where
     by_test : ((ys : List Tree) → spelled f n t ≡ Some ys → (spell f n ys ≡ t) × (is_value t ≡ true → list_all is_value ys ≡ true)) → (b c : Bool) → tree_eq (App (App g a) t) n ≡ b → tree_eq g f ≡ c → (if b then Some [] else (if c then option_map (λ items. a ∷ items) (spelled f n t) else None)) ≡ Some xs → (spell f n xs ≡ App (App g a) t) × (is_value (App (App g a) t) ≡ true → list_all is_value xs ≡ true)
     by_test inner true c p q h =
-        let empty : [] ≡ xs = some_inj h in
+        let empty : [] ≡ xs = same_Some _ _ h in
         (ap (spell f n) (sym empty) ∙ sym (tree_same (App (App g a) t) n p), λ v. ap (list_all is_value) (sym empty))
     by_test inner false true p q h =
         let m = map_some a (spelled f n t) xs h in

@@ -2,6 +2,7 @@
 use Rattle.std.specs.Prelude.{◌≡◌, ℕ, zero, suc, pos, Bool, true, false, not, if◌then◌else◌, List, [], ◌∷◌, ◌++◌, reverse, filter, length, Option, Some, None, is_some, option_and_then, slice_get, refl}
 use Rattle.std.specs.List.{list_all}
 use Rattle.std.proofs.Common.{ap, subst}
+use Rattle.eo_term.proofs.Values.{truth_value}
 use mathlib.Core.List.{reverse_aux}
 use Rattle.eo_base.proofs.Tests.{both, join, clash}
 use Rattle.eo_term.specs.declared.OpName.{OpName}
@@ -56,10 +57,6 @@ values_get (x ∷ xs) (suc k) u h e = values_get xs k u (both h).1 e
 values_item : (i : Tree) (xs : List Tree) (u : Tree) → AreValues xs → item_at i xs ≡ Some u → is_value u ≡ true
 values_item (Num (pos k)) xs u h e = values_get xs k u h e
 values_item _ xs u h e = clash (ap is_some e)
-
-truth_value : (b : Bool) → is_value (truth b) ≡ true
-truth_value true = refl
-truth_value false = refl
 
 module _ (f n : Tree) (constant : is_value f ≡ true) (terminates : is_value n ≡ true) where
   abbrev GivesValue : Option Tree → Type 0

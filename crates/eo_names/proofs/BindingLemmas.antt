@@ -19,9 +19,6 @@ pairs_grown ts us n [] h g = refl
 pairs_grown ts us n (b ∷ bs) h g =
     λ i. (b.0, g b.1 (All-head (λ (c : Binding). c.1 < n) b bs h) i) ∷ pairs_grown ts us n bs (All-tail (λ (c : Binding). c.1 < n) b bs h) g i
 
-pub bindings_more : (n m : ℕ) (bs : List Binding) → n ≤ m → BindingsBelow n bs → BindingsBelow m bs
-bindings_more n m bs l h = All-weaker (λ (b : Binding). b.1 < n) (λ (b : Binding). b.1 < m) (λ b k. omega (arith, k, l)) bs h
-
 pub inside_locals : (ts : List Tree) (ls : List LocalName) (bs : List Binding) → read_locals ts (map binding_local bs ++ ls) ≡ map pair_local (read_pairs ts bs) ++ read_locals ts ls
 inside_locals ts ls [] = refl
 inside_locals ts ls (b ∷ bs) = ap (λ rest. read_local ts (binding_local b) ∷ rest) (inside_locals ts ls bs)

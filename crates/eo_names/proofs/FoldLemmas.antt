@@ -7,13 +7,11 @@ use Rattle.eo_term.specs.Tree.{Tree, Con, App, Arr, height, is_tall}
 use Rattle.eo_term.specs.Terms.{tree_at}
 use Rattle.std.proofs.lemmas.List.Elements.{All-head, All-tail, All-weaker}
 use Rattle.std.proofs.lemmas.List.{length-map}
+use Rattle.eo_term.proofs.Heights.{higher}
 use Rattle.eo_names.specs.declared.locals.LocalName.{LocalName}
 use Rattle.eo_names.specs.Names.{read_locals, AreBelow}
 use Rattle.eo_names.specs.Folding.{applied_to_two, list_onto, last_onto, right_nil}
 use Rattle.eo_base.proofs.Elements.{get_or-at}
-
-pub higher : (t u : Tree) → height t ≤ height u → is_tall t ≡ true → is_tall u ≡ true
-higher t u h e = still_above height_limit (height t) (height u) h e
 
 pub tall_first : (a b : Tree) → is_tall a ≡ true → is_tall (App a b) ≡ true
 tall_first a b e = higher a (App a b) (omega arith) e

@@ -5,6 +5,7 @@ use Rattle.std.specs.List.{list_any}
 use Rattle.std.proofs.Common.{length-append}
 use Rattle.std.proofs.lemmas.Bool.Decides.{nat_tests}
 use Rattle.std.proofs.lemmas.List.{length-map}
+use Rattle.eo_term.proofs.Heights.{higher}
 use Rattle.eo_base.specs.declared.FaultName.TheVariants.{TermHeight, BadArity}
 use Rattle.eo_base.specs.Checks.{Checked}
 use Rattle.eo_base.proofs.Tests.{or_first, or_second}
@@ -12,7 +13,7 @@ use Rattle.eo_term.specs.Tree.{Tree, Con, App, is_tall}
 use Rattle.eo_sig.specs.Signature.{Signature, Attribute, Plain, RightNil, LeftNil, Right, Left, Chain, Pairs, Binder}
 use Rattle.eo_names.specs.Folding.{applied, applied_to_two, list_onto, last_onto, right_nil, right, left, links, all_pairs, least, attribute_at, by_attribute, folded_within}
 use Rattle.eo_names.specs.Grouped.{if_low}
-use Rattle.eo_names.proofs.FoldLemmas.{tall_first, tall_second, higher, tall_left, tall_right, tall_onto, tall_fold}
+use Rattle.eo_names.proofs.FoldLemmas.{tall_first, tall_second, tall_left, tall_right, tall_onto, tall_fold}
 
 abbrev pub HasTall : List Tree → Type 0
 HasTall us = list_any is_tall us ≡ true

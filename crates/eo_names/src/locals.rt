@@ -195,7 +195,7 @@ impl Bindings {
     }
 
     /// Puts another term in the place of the one at this place. The name stays.
-    pub fn set(&mut self, i: usize, id: Id)
+    fn set(&mut self, i: usize, id: Id)
         requires { i < length self.old }
         ensures { self.new ≡ with_term self.old i id }
     {
@@ -204,7 +204,7 @@ impl Bindings {
     }
 
     /// Puts these terms in the places of those that are there, in order. The names stay.
-    pub(crate) fn set_all(&mut self, ids: &[Id])
+    pub fn set_all(&mut self, ids: &[Id])
         requires { length ids.now ≡ length self.old }
         ensures { self.new ≡ with_terms self.old ids.now }
     {

@@ -10,7 +10,7 @@ use Rattle.std.specs.List.{list_any}
 use Rattle.std.specs.Map.{lookup}
 use Rattle.std.proofs.lemmas.List.{map-append, length-append, length-map, length-take-le, append-nil, append_assoc, take-append-drop, take-append-le, drop-append-le}
 use Rattle.std.proofs.Math.Seq.{drop-append_seam, take-length}
-use Rattle.eo_base.proofs.Tests.{bytes_eq-flip}
+use Rattle.eo_base.proofs.Tests.{bytes_eq-flip, nat_lt-first, nat_lt-suc}
 use Rattle.eo_term.specs.Tree.{Tree, tree_eq, truth}
 use Rattle.eo_term.specs.Growth.{IsTable}
 use Rattle.eo_term.specs.Terms.{Terms, tree_at, first_trees}
@@ -42,22 +42,6 @@ kept_begun k r f h = record {
   refutes = h.refutes ∙ ap holds_false (sym (outer_begun k f));
 }
 
--- with a fact more
-pub told_first : (fs : List NamedId) (f : NamedId) (r : Bool) → r ≡ holds_false fs → (r || nat_eq f.1 3) ≡ holds_false (fs ++ f ∷ [])
-told_first fs f r h = ap (λ b. b || nat_eq f.1 3) h ∙ holds_more fs
-  where
-    by : (a b c : Bool) → ((a || b) || c) ≡ (a || (b || c))
-    by true b c = refl
-    by false b c = refl
-
-    by_end : (b : Bool) → (false || b) ≡ (b || false)
-    by_end true = refl
-    by_end false = refl
-
-    holds_more : (gs : List NamedId) → (holds_false gs || nat_eq f.1 3) ≡ holds_false (gs ++ f ∷ [])
-    holds_more [] = by_end (nat_eq f.1 3)
-    holds_more (g ∷ gs) = by (nat_eq g.1 3) (holds_false gs) (nat_eq f.1 3) ∙ ap (λ b. nat_eq g.1 3 || b) (holds_more gs)
-
 pub told_begun : (fs gs : List NamedId) (bs : List Begun) (r : Bool) → AreBegun (length fs) bs → r ≡ holds_false (outer_facts fs bs) → 0 < length bs → r ≡ holds_false (outer_facts (fs ++ gs) bs)
 told_begun fs gs [] r w h l = absurd (omega (arith, l))
 told_begun fs gs (b ∷ bs) r w h l = h ∙ ap holds_false (sym (outer_more fs gs b bs w.0))
@@ -86,12 +70,6 @@ is_some_map f (Some x) = refl
 lt_zero : (n : ℕ) → false ≡ nat_lt n 0
 lt_zero n = grind (arith, nat_tests)
 
-lt_first : (n : ℕ) → true ≡ nat_lt 0 (suc n)
-lt_first n = grind (arith, nat_tests)
-
-lt_suc : (i n : ℕ) → nat_lt i n ≡ nat_lt (1 + i) (suc n)
-lt_suc i n = grind (arith, nat_tests)
-
 -- what is found in a front of the facts is the first of its name in all, and its place is in the front
 front_has : (name : List ℕ) (es : List NamedId) (n : ℕ) → is_some (lookup (bytes_eq name) (take n es)) ≡ nat_lt (position_or_len (bytes_eq name) (keys_of es)) (length (take n es))
 front_has name [] zero = refl
@@ -101,8 +79,8 @@ front_has name (e ∷ es) (suc n) = by (bytes_eq name e.0) (front_has name es n)
   where
     by : (b : Bool) → is_some (lookup (bytes_eq name) (take n es)) ≡ nat_lt (position_or_len (bytes_eq name) (keys_of es)) (length (take n es))
         → is_some (cond b (Some e.1) (lookup (bytes_eq name) (take n es))) ≡ nat_lt (cond (not b) (1 + position_or_len (bytes_eq name) (keys_of es)) 0) (suc (length (take n es)))
-    by true rest = lt_first (length (take n es))
-    by false rest = rest ∙ lt_suc (position_or_len (bytes_eq name) (keys_of es)) (length (take n es))
+    by true rest = nat_lt-first (length (take n es))
+    by false rest = rest ∙ nat_lt-suc (position_or_len (bytes_eq name) (keys_of es)) (length (take n es))
 
 -- ---- places of names
 

@@ -33,12 +33,6 @@ required_tall qs t zero e = e
 required_tall [] t (suc i) e = e
 required_tall (q ∷ qs) t (suc i) e = tall_under q (required qs t) (required_tall qs t i e)
 
-pub required_all : (qs : List (Tree × Tree)) (t : Tree) (k : ℕ) → length qs ≤ k → required (drop k qs) t ≡ t
-required_all [] t zero l = refl
-required_all [] t (suc k) l = refl
-required_all (q ∷ qs) t zero l = absurd (omega arith)
-required_all (q ∷ qs) t (suc k) l = required_all qs t k (omega arith)
-
 -- ---- what is put in makes nothing lower
 
 one_least : (t : Tree) → 1 ≤ height t

@@ -4,7 +4,6 @@ pub mod Grows
 pub mod Guarded
 pub mod HeldValues
 pub mod Openly
-pub mod Ordered
 pub mod Parts
 pub mod Rules
 pub mod Sound

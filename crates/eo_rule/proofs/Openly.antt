@@ -6,16 +6,12 @@ use Rattle.eo_base.proofs.Tests.{clash, both}
 use Rattle.eo_term.specs.declared.OpName.{OpName}
 use Rattle.eo_term.specs.declared.OpCode.{OpCode}
 use Rattle.eo_term.specs.Tree.{Tree, Con, Num, Bits, Str, Par, Var, App, Arr, Qar, Op, truth, to_trees, is_tall, is_closed, is_value, is_plain, occurs_openly, tree_eq}
-use Rattle.eo_term.proofs.Values.{value_openly}
+use Rattle.eo_term.proofs.Values.{value_openly, truth_value}
 use Rattle.eo_ops.specs.Operators.{tree_op_value}
 use Rattle.eo_sig.specs.Signature.{Signature}
 use Rattle.eo_type.specs.Types.{Typed, Untyped, TypeTall, on_typed, typed_if, typed_answer, op_in_type, settled_op, settle, settle_all, if_not_tall, settled, type_of, value_type}
 use Rattle.eo_type.proofs.SettleLemmas.{is_typed, typed_inj, typed_before, typed_if_gives}
 use Rattle.eo_eval.proofs.OperatorValues.{tree_op_values}
-
-truth_value : (b : Bool) → is_value (truth b) ≡ true
-truth_value true = refl
-truth_value false = refl
 
 op_values : (o : OpName) (ts : List Tree) (t : Tree) → (if list_all is_value ts then typed_answer (tree_op_value o ts) else Untyped) ≡ Typed t → is_value t ≡ true
 op_values o ts t e = by_test (list_all is_value ts) e

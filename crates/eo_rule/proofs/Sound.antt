@@ -25,14 +25,7 @@ use Rattle.eo_rule.proofs.Openly.{settled_openly, value_type_is_type}
 use Rattle.eo_rule.proofs.Parts.{value_parts, types_none, types_parts, use_parts, list_parts, joined_parts, conclude_parts, formula_parts, stated_parts, rule_parts}
 use Rattle.eo_rule.proofs.HeldValues.{matching_values}
 use Rattle.std.proofs.Math.Bool.{or_assoc, or-false}
-
-some_or : {A : Type 0} → Option A → A → A
-some_or None d = d
-some_or (Some a) d = a
-
-pub some_inj : {A : Type 0} {a b : A} → Some a ≡ Some b → a ≡ b
-unfolding some_or
-some_inj {A} {a} {b} e = ap (λ (o : Option A). some_or o a) e
+use Rattle.std.proofs.lemmas.Option.{same_Some}
 
 head_or : List Tree → Tree → Tree
 head_or [] d = d
@@ -69,7 +62,7 @@ same_value τ σ e j v n p = by_value (τ j) refl
   where
     by_value : (o : Option Tree) → τ j ≡ o → τ j ≡ Some v
     by_value None q = clash (sym (ap is_some q) ∙ (sym n ∙ ap is_some p))
-    by_value (Some w) q = q ∙ ap Some (some_inj (sym (e j w q) ∙ p))
+    by_value (Some w) q = q ∙ ap Some (same_Some _ _ (sym (e j w q) ∙ p))
 
 new_or_old : (a o : Bool) → (a || ((o && not a) || false)) ≡ (a || o)
 new_or_old true o = refl
@@ -149,7 +142,7 @@ module _ (S : Signature) (patterns : List Tree) where
                 extends = ms.extends;
                 values = matching_values τ (u ∷ []) (t ∷ []) σ vals (join type_is_value refl) m;
                 names = λ j. named_by t u settles plain ms j;
-                fit = λ x g. (t, ap (value_type S) (some_inj (sym g ∙ h)) ∙ has, (u, settles, plain, equal));
+                fit = λ x g. (t, ap (value_type S) (same_Some _ _ (sym g ∙ h)) ∙ has, (u, settles, plain, equal));
               }
             where
               named_by : (t' u' : Tree) → settled (put τ p.type) ≡ Typed u' → is_plain u' ≡ true → Matches τ (u' ∷ []) (t' ∷ []) σ → (j : ℕ) → is_some (σ j) ≡ known patterns i (p ∷ ps) j
@@ -193,7 +186,7 @@ module _ (S : Signature) (patterns : List Tree) where
   fits_at : (σ : Assignment) (i : ℕ) (ps : List Parameter) → Fits σ i ps → (k m : ℕ) → m ≡ i + k → (p : Parameter) (v : Tree) → slice_get ps k ≡ Some p → σ m ≡ Some v → Fit σ (known patterns (suc m) (drop (suc k) ps)) p.type v
   fits_at σ i [] f k m e p v g h = clash (ap is_some g)
   fits_at σ i (q ∷ ps) f zero m e p v g h =
-      subst (λ (x : Parameter). Fit σ (known patterns (suc m) ps) x.type v) (some_inj g) (subst (λ (n : ℕ). σ n ≡ Some v → Fit σ (known patterns (suc n) ps) q.type v) (sym here) (f.0 v) h)
+      subst (λ (x : Parameter). Fit σ (known patterns (suc m) ps) x.type v) (same_Some _ _ g) (subst (λ (n : ℕ). σ n ≡ Some v → Fit σ (known patterns (suc n) ps) q.type v) (sym here) (f.0 v) h)
     where
       here : m ≡ i
       here = omega arith

@@ -16,18 +16,8 @@ use Rattle.eo_sexp.specs.Answering.{IsAnswer, IsLexical, AnswersAlone}
 use Rattle.eo_session.specs.State.{State}
 use Rattle.eo_run.specs.Reading.{count_of, behind, at_end as ending, LeadsOn, FailsAt, IsFed}
 use Rattle.eo_run.proofs.Running.{on-same, on-fault}
-use Rattle.eo_run.proofs.Feeding.{IsCommand, at_more, at_command, at_fault, at_end, at_end_command, at_end_fault, here-used}
+use Rattle.eo_sexp.proofs.Callers.{live-within, IsCommand, at_more, at_command, at_fault, at_end, at_end_command, at_end_fault, here-used}
 use Rattle.eo_session.specs.Origin.{Origin}
-
-pub live-within : (c : Collecting) → IsWithin c → IsLive c
-live-within (Within phase comment start begun) w = tt
-live-within (AtCommand k phase) w = absurd w
-live-within (FailedAt name at) w = absurd w
-live-within NoMemory w = absurd w
-
--- what a slice from u on has
-pub tail_of : (xs : List ℕ) (u : ℕ) → take (length xs - u) (drop u xs) ≡ drop u xs
-tail_of xs u = ap (λ n. take n (drop u xs)) (sym (length-drop u xs)) ∙ take-length (drop u xs)
 
 -- what is left of a piece is its end, also behind u bytes more
 pub tail_later : (xs rest : List ℕ) (u : ℕ) → drop (length xs - length rest) xs ≡ rest → length rest ≤ length xs → u ≤ length rest → drop (length xs - length (drop u rest)) xs ≡ drop u rest

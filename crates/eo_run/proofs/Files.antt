@@ -191,15 +191,3 @@ end-present st name e a = by (is_in_scope st) st.has_reference (has_false st.sco
 pub end-cause : (told : Option Files) (st : State) (name : FaultName) (place : Place) (b n : ℕ) → Some name ≡ end_fault st → AnswerHasCause (answer.Refused (record { name = name; place = place })) told b n
 end-cause None st name place b n e = λ a. absurd (end-present st name e a)
 end-cause (Some f) st name place b n e = tt
-
-rose-later : (a b n : ℕ) → a ≤ b → Rose b n → Rose a n
-rose-later a b n h r = omega (arith, h, r)
-
-pub cause-later : (v : Verdict) (told : Option Files) (a b n : ℕ) → a ≤ b → AnswerHasCause v told b n → AnswerHasCause v told a n
-cause-later answer.Correct told a b n h c = tt
-cause-later answer.Incomplete told a b n h c = tt
-cause-later (answer.Loaded commands) told a b n h c = tt
-cause-later (answer.Refused fault) None a b n h c = λ e. rose-later a b n h (c e)
-cause-later (answer.Refused fault) (Some f) a b n h c = tt
-cause-later answer.ReadFault told a b n h c = rose-later a b n h c
-cause-later answer.OutOfMemory told a b n h c = tt

@@ -3,7 +3,6 @@ pub mod Closed
 pub mod Computed
 pub mod Ending
 pub mod Exits
-pub mod Feeding
 pub mod Files
 pub mod Jobs
 pub mod Leaving

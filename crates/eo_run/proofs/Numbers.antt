@@ -37,10 +37,6 @@ placed-in paths s h = ap is_some h
 
 -- ---- what opening a file tells
 
-pub absent-is : (told : Option Files) (path : List ℕ) (b n : ℕ) → OpenHasCause opened.Absent told path b n → Told told (λ files. file_at files path ≡ None)
-absent-is None path b n h = λ files k. absurd (none-some files k)
-absent-is (Some fs) path b n h = λ files k. subst (λ (f : Files). file_at f path ≡ None) (same_Some fs files k) h
-
 -- the answer for a file that is there
 abbrev pub as_found : Result Spot Verdict → Result (Option Spot) Verdict
 as_found (Ok at) = Ok (Some at)
@@ -55,23 +51,6 @@ ready-runs (Some fs) s (Err v) old new paths before mid o h = λ files k.
     stops-weaker (λ (refusal : Refusal). run_source files s (commands_of s.wrapped o.0) old ≡ Err refusal) (RefusesFile files s old) paths v
     (λ refusal e. (o.0, subst (λ (f : Files). file_at f s.path.now ≡ Some o.0) (same_Some fs files k) o.1, e))
     ((subst (λ (m : List Rest). RunsOpen (Some fs) s (Err v) old new paths m) o.2 h) files k)
-
--- as many files are open
-pub passes-length : (before after : List Rest) (bytes : List ℕ) → Passes before bytes after → length after ≡ length before
-passes-length [] after bytes p = absurd p
-passes-length (None ∷ others) after bytes p = ap length p.1
-passes-length (Some file ∷ others) after bytes p = ap length p.2
-
--- a file that was opened is the last of those that are open
-pub stays-closed : (told : Option Files) (path : List ℕ) (before mid after last : List Rest) → Opens opened.Ready told path before mid → StaysOpen mid after → (rest : Rest) → after ≡ rest ∷ last → last ≡ before
-stays-closed None path before mid after last o h rest e = same_tail o.0 before (subst (λ (m : List Rest). StaysOpen m after) o.1 h) rest last e
-  where
-    same_tail : (first : Rest) (others : List Rest) → StaysOpen (first ∷ others) after → (rest : Rest) (last : List Rest) → after ≡ rest ∷ last → last ≡ others
-    same_tail first others k rest last e = let both = sym e ∙ k.1 in cc both
-stays-closed (Some fs) path before mid after last o h rest e = same_tail (Some o.0) before (subst (λ (m : List Rest). StaysOpen m after) o.2 h) rest last e
-  where
-    same_tail : (first : Rest) (others : List Rest) → StaysOpen (first ∷ others) after → (rest : Rest) (last : List Rest) → after ≡ rest ∷ last → last ≡ others
-    same_tail first others k rest last e = let both = sym e ∙ k.1 in cc both
 
 -- ---- what asks for nothing
 

@@ -6,19 +6,13 @@ use Rattle.std.proofs.lemmas.Grind.{flat_map-append}
 use Rattle.std.proofs.Math.Seq.{drop-cons, take-append-add}
 use Rattle.std.specs.Borrow.{Bor}
 use Rattle.eo_io.specs.Sink.{Adds, AddsFront}
+use Rattle.eo_io.proofs.SinkLemmas.{Adds-append}
 use Rattle.eo_base.specs.Faults.{number}
 use Rattle.eo_base.specs.FaultTexts.{text}
 use Rattle.eo_base.specs.declared.Fault.{Fault}
 use Rattle.eo_run.specs.Verdict.{Refusal, Refused}
 use Rattle.eo_run.specs.Printed.{line, two_digits, refusal_text, verdict_due, bench_text}
 use Rattle.eo_run.specs.Pieces.{text_of, refusal_of_pieces, refused_due, counts_of_pieces}
-
-pub adds_more : (a b : List ℕ) (w x y : Option (List ℕ)) → Adds a w x → Adds b x y → Adds (a ++ b) w y
-adds_more a b w x y e e' = e' ∙ ap (option_map (λ old. old ++ b)) e ∙ joined w
-  where
-    joined : (o : Option (List ℕ)) → option_map (λ old. old ++ b) (option_map (λ old. old ++ a) o) ≡ option_map (λ old. old ++ (a ++ b)) o
-    joined None = refl
-    joined (Some old) = ap (λ bytes. Some bytes) (append_assoc old a b)
 
 -- a front of a list, behind another list and before a third
 front_behind : (n : ℕ) (a b c : List ℕ) → n ≤ length b → take (length a + n) (a ++ (b ++ c)) ≡ a ++ take n b
@@ -28,7 +22,7 @@ pub front_more : (a b c : List ℕ) (w x y : Option (List ℕ)) → Adds a w x �
 front_more a b c w x y e (n, within, e') = (
   length a + n,
   (let l : length (a ++ (b ++ c)) ≡ length a + (length b + length c) = length-append a (b ++ c) ∙ ap (λ m. length a + m) (length-append b c) in omega arith),
-  subst (λ bytes. Adds bytes w y) (sym (front_behind n a b c within)) (adds_more a (take n b) w x y e e'),
+  subst (λ bytes. Adds bytes w y) (sym (front_behind n a b c within)) (Adds-append a (take n b) w x y e e'),
 )
 
 text_whole : (pieces : List (Bor (List ℕ))) (i : ℕ) (p : Bor (List ℕ)) → i < length pieces → text_of pieces ≡ text_of (take i pieces) ++ ((get_or pieces i p).now ++ text_of (drop (suc i) pieces))

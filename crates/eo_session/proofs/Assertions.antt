@@ -61,9 +61,6 @@ asserted_names st v ls h = by (is_asserted st v)
     by true = h
     by false = h
 
-pub none_labelled : (st : State) → with_labels st [] ≡ st
-none_labelled st = (λ i. record st { macros = append-nil st.macros i })
-
 pub one_labelled : (st : State) (l : Label) (ls : List Label) → with_labels (with_macro st (label_macro l)) ls ≡ with_labels st (l ∷ ls)
 one_labelled st l ls = (λ i. record st { macros = append_assoc st.macros (label_macro l ∷ []) (map label_macro ls) i })
 
@@ -77,13 +74,6 @@ module _ (t : Terms) where
   next_label [] i b e = absurd (none-some b e)
   next_label (n ∷ names) zero b e = ap (λ (x : Binding). label_of x ∷ labels_in t names) (same_Some n b e)
   next_label (n ∷ names) (suc i) b e = next_label names i b e
-
-  pub no_label : (names : List Binding) (i : ℕ) → i ≡ length names → drop i (labels_in t names) ≡ []
-  no_label names i e = ap (λ n. drop n (labels_in t names)) e ∙ by names
-    where
-      by : (names : List Binding) → drop (length names) (labels_in t names) ≡ []
-      by [] = refl
-      by (n ∷ names) = by names
 
 -- where terms stay, so do the trees of names
 pub labels_later : (old new : Terms) → Grows old new → (names : List Binding) → BindingsBelow (length old.trees) names → labels_in new names ≡ labels_in old names

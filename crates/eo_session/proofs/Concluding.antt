@@ -3,6 +3,7 @@ use Rattle.std.proofs.Common.{◌≡◌, refl, ℕ, Bool, true, false, not, ◌&
 use Rattle.std.specs.Prelude.{Ok, Err}
 use Rattle.std.specs.Option.{option_map_or}
 use Rattle.std.proofs.lemmas.List.{append-nil, append_assoc}
+use Rattle.eo_base.proofs.ChecksLemmas.{behind, behind-first}
 use Rattle.eo_base.specs.declared.FaultName.{FaultName}
 use Rattle.eo_base.specs.declared.FaultName.TheVariants.{Redeclared, ProofDeclares, NoScope, UnknownRule, UnknownPremise}
 use Rattle.eo_base.specs.Checks.{Checked, ◌>>=◌, require, value_or}
@@ -133,20 +134,6 @@ module _ (st : State) (number : ℕ) (given : Use) where
   sorry-is r e = ap (λ o. option_map_or (λ (r : Rule). r.sorry) o false) e
 
 -- ---- lists, of which the first fault counts
-
--- what is read behind some trees
-abbrev pub behind : List Tree → Checked (List Tree) → Checked (List Tree)
-behind before m = m >>= λ ts. Ok (before ++ ts)
-
-pub behind-none : (m : Checked (List Tree)) → behind [] m ≡ m
-unfolding ◌>>=◌
-behind-none (Ok ts) = refl
-behind-none (Err fault) = refl
-
-behind-first : (before : List Tree) (t : Tree) (m : Checked (List Tree)) → behind (before ++ t ∷ []) m ≡ behind before (m >>= λ ts. Ok (t ∷ ts))
-unfolding ◌>>=◌
-behind-first before t (Ok ts) = ap Ok (append_assoc before (t ∷ []) ts)
-behind-first before t (Err fault) = refl
 
 module _ (st : State) (before : List Tree) where
   module _ (s : Sexp) (rest : List Sexp) where

@@ -35,9 +35,6 @@ more_flat f xs ys h a c = let r = out_flat f xs a c in in_flat f ys r.0 a (h r.0
 pub in_front : {X : Type 0} (n : ℕ) (xs : List X) (x : X) → Contains (take n xs) x → Contains xs x
 in_front n xs x c = subst (λ ys. Contains ys x) (take-append-drop n xs) (Contains-append_left (take n xs) (drop n xs) x c)
 
-pub front_or_rest : {X : Type 0} (n : ℕ) (xs : List X) (x : X) → Contains xs x → Contains (take n xs) x ⊎ Contains (drop n xs) x
-front_or_rest n xs x c = Contains-append_cases (take n xs) (drop n xs) x (subst (λ ys. Contains ys x) (sym (take-append-drop n xs)) c)
-
 -- ---- parts
 
 module _ (ts us : List Tree) (sub : (t : Tree) → Contains ts t → Contains us t) where

@@ -30,7 +30,7 @@ use Rattle.eo_type.specs.Known.{Fit, FitsCut, Lasts}
 use Rattle.eo_session.specs.declared.held.Held.{Held}
 use Rattle.eo_session.specs.declared.marks.ScopeMark.{ScopeMark}
 use Rattle.eo_session.specs.Held.{state_of, macro_marks, AreValues, IsHeld, IsLive, IsExact, IsWhole, IsSettled, HoldsOnly, Leaves, Carries, label_trees}
-use Rattle.eo_names.specs.Names.{Binding, with_term}
+use Rattle.eo_names.specs.Names.{Binding, with_terms}
 use Rattle.eo_names.specs.Readers.{Label}
 use Rattle.eo_elab.specs.Worlds.{labels_in}
 use Rattle.eo_session.specs.Roots.{macro_trees, roots}
@@ -132,9 +132,6 @@ module _ (h : Held) (whole : IsWhole h) (stays : (k : Kept) → StaysSince k) wh
     within =
         let cut : length (take n t.trees) ≡ n = ap length carried.kept ∙ length-take-le n ts mark.terms in
         omega (arith, length-take n t.trees, cut)
-
-    texts_same : length t.texts ≡ length h.table.texts
-    texts_same = ap length carried.texts
 
     next : Since (front n h.table) t
     next =
@@ -394,46 +391,6 @@ module _ (h mid : Held) (i j : ℕ) (k : Carries h (i ∷ []) (j ∷ []) mid) wh
   pub one_only : HoldsOnly (tree_in mid.table j ∷ []) mid
   one_only = subst (λ (t : Tree). HoldsOnly (t ∷ []) mid) (sym one_tree) k.leaves.only
 
--- ---- what is counted and marked
-
-pub settled_reference : (h : Held) (b : Bool) → IsSettled h → IsSettled (record h { has_reference = b })
-settled_reference h b s = record {
-  whole = record {
-    held = record {
-      types = s.whole.held.types;
-      lasts = s.whole.held.lasts;
-      usable = s.whole.held.usable;
-      signature = s.whole.held.signature;
-      assertions = s.whole.held.assertions;
-      facts = s.whole.held.facts;
-      values = s.whole.held.values;
-      marks = s.whole.held.marks;
-      terms = s.whole.held.terms;
-    };
-    live = record { exact = s.whole.live.exact; marked = s.whole.live.marked; scopes = s.whole.live.scopes };
-  };
-  settled = s.settled;
-}
-
-pub settled_commands : (h : Held) (n : ℕ) → IsSettled h → IsSettled (record h { commands = n })
-settled_commands h n s = record {
-  whole = record {
-    held = record {
-      types = s.whole.held.types;
-      lasts = s.whole.held.lasts;
-      usable = s.whole.held.usable;
-      signature = s.whole.held.signature;
-      assertions = s.whole.held.assertions;
-      facts = s.whole.held.facts;
-      values = s.whole.held.values;
-      marks = s.whole.held.marks;
-      terms = s.whole.held.terms;
-    };
-    live = record { exact = s.whole.live.exact; marked = s.whole.live.marked; scopes = s.whole.live.scopes };
-  };
-  settled = s.settled;
-}
-
 -- ---- names of terms
 
 pub labels_trees : (t : Terms) (names : List Binding) → map (tree_in t) (map (λ (b : Binding). b.1) names) ≡ label_trees (labels_in t names)
@@ -457,30 +414,13 @@ bindings_below n (b ∷ bs) a =
 
 -- ---- terms that are put in the places of those of names
 
-pub with_names : (bs : List Binding) (i t : ℕ) → map (λ (b : Binding). b.0) (with_term bs i t) ≡ map (λ (b : Binding). b.0) bs
-with_names [] i t = refl
-with_names (b ∷ bs) zero t = refl
-with_names (b ∷ bs) (suc i) t = ap (λ (xs : List (List ℕ)). b.0 ∷ xs) (with_names bs i t)
+pub terms_names : (bs : List Binding) (is : List ℕ) → map (λ (b : Binding). b.0) (with_terms bs is) ≡ map (λ (b : Binding). b.0) bs
+terms_names [] is = refl
+terms_names (b ∷ bs) [] = refl
+terms_names (b ∷ bs) (i ∷ is) = ap (λ (xs : List (List ℕ)). b.0 ∷ xs) (terms_names bs is)
 
-pub with_count : (bs : List Binding) (i t : ℕ) → length (with_term bs i t) ≡ length bs
-with_count [] i t = refl
-with_count (b ∷ bs) zero t = refl
-with_count (b ∷ bs) (suc i) t = ap suc (with_count bs i t)
-
-pub with_front : (bs : List Binding) (i t : ℕ) → i < length bs → map (λ (b : Binding). b.1) (take (suc i) (with_term bs i t)) ≡ map (λ (b : Binding). b.1) (take i bs) ++ t ∷ []
-with_front [] i t l = absurd (omega (arith, l))
-with_front (b ∷ bs) zero t l = refl
-with_front (b ∷ bs) (suc i) t l = ap (λ (xs : List ℕ). b.1 ∷ xs) (with_front bs i t (omega (arith, l)))
-
--- how many are left behind the first i
-pub front_long : (bs : List Binding) (i : ℕ) (left rest : List ℕ) → i ≤ length bs → left ≡ map (λ (b : Binding). b.1) (take i bs) ++ rest → length left ≡ i + length rest
-front_long bs i left rest l e =
-    omega (arith, ap length e ∙ length-append (map (λ (b : Binding). b.1) (take i bs)) rest, length-map (take i bs) (λ (b : Binding). b.1), length-take-le i bs l)
-
--- where all are put, contains_none is left
-pub all_put : (bs : List Binding) (i : ℕ) (left rest : List ℕ) → i ≡ length bs → length left ≡ length bs → left ≡ map (λ (b : Binding). b.1) (take i bs) ++ rest → map (λ (b : Binding). b.1) bs ≡ left
-all_put bs i left rest e l h =
-    let long = front_long bs i left rest (omega (arith, e)) h in
-    let contains_none : rest ≡ [] = nil_from_length rest (omega (arith, e, l, long)) in
-    let whole : take i bs ≡ bs = ap (λ k. take k bs) e ∙ take-length bs in
-    sym (h ∙ (λ j. map (λ (b : Binding). b.1) (whole j) ++ contains_none j) ∙ append-nil (map (λ (b : Binding). b.1) bs))
+pub terms_put : (bs : List Binding) (is : List ℕ) → length is ≡ length bs → map (λ (b : Binding). b.1) (with_terms bs is) ≡ is
+terms_put [] [] l = refl
+terms_put [] (i ∷ is) l = absurd (omega (arith, l))
+terms_put (b ∷ bs) [] l = absurd (omega (arith, l))
+terms_put (b ∷ bs) (i ∷ is) l = ap (λ (js : List ℕ). i ∷ js) (terms_put bs is (omega (arith, l)))

@@ -295,9 +295,6 @@ module _ (S T : Signature) (ms ns : List Macro) (xs ys : List Tree) (f g : Scope
         | inr h ↦ by_facts (p h)
       ]
 
-same_roots : {A : Type 0} (f : A → List Tree) (x y : A) (t : Tree) → y ≡ x → Contains (f x) t → Contains (f y) t
-same_roots f x y t e h = subst (λ z. Contains (f z) t) (sym e) h
-
 module _ (S : Signature) (ms : List Macro) (xs : List Tree) (f : Scopes) (t : Tree) where
   -- one entry more
   module _ (e : SignatureEntry) where

@@ -289,10 +289,6 @@ refuses_on m n (refused.Fault name) h f = (f name h.0, h.1)
 refuses_on m n refused.Ended h f = h
 refuses_on m n (refused.Memory e) h f = h
 
--- a fault that is answered is that of the definition
-pub does-fault : (m : Checked State) (r : Result (Unit {0}) Refused) (new : Held) (name : FaultName) → m ≡ Err name → name ≢ FileAbsent → IsErrAnd r (λ e. e ≡ refused.Fault name) → Does r m new
-does-fault m r new name h n e = at_exit (λ (r : Result (Unit {0}) Refused). Does r m new) r (refused.Fault name) e (h, n)
-
 -- ---- the reference file, and the end
 
 module _ (st : State) where

@@ -6,6 +6,7 @@ use Rattle.std.proofs.lemmas.Bool.{and_parts}
 use Rattle.std.proofs.lemmas.List.{append-nil}
 use Rattle.std.proofs.lemmas.List.Elements.{filter_map-append}
 use Rattle.std.proofs.lemmas.Option.{none-some, same_Some}
+use Rattle.eo_session.proofs.Adding.{fold_of}
 use Rattle.eo_base.proofs.ChecksLemmas.{ok_injective, err_is_not_ok, bind_ok, require_then}
 use Rattle.eo_base.specs.Checks.{Checked, Passed, ◌>>=◌, no_fault}
 use Rattle.eo_base.specs.declared.FaultName.{FaultName}
@@ -36,17 +37,10 @@ unfolding no_fault ◌>>=◌
 no_fault_then None f y e = (refl, e)
 no_fault_then (Some fault) f y e = absurd (err_is_not_ok fault y e)
 
-holds : (may_hold is_bound : Bool) → first_wrong may_hold is_bound ≡ None → may_hold ≡ true
-holds true b e = refl
-holds false b e = absurd (none-some _ (sym e))
-
-faultless_folds : (d : Constant) → constant_fault d ≡ None → may_fold d.attribute ≡ true
-faultless_folds d e = (and_parts _ _ (and_parts _ _ (holds (constant_may_hold d) (implicit_occur (argument_types d.type) 0 d.parameters) e)).1).1
-
 plain_folds : (c : Context) (name : List ℕ) (type : Tree) (a : Attribute) (d : Constant) → plain_constant c name type a ≡ Ok d → may_fold d.attribute ≡ true
 plain_folds c name type a d e =
     let k = no_fault_then (constant_fault (constant c name [] type a)) _ d e in
-    subst (λ (x : Constant). may_fold x.attribute ≡ true) (ok_injective (constant c name [] type a) d k.1) (faultless_folds (constant c name [] type a) k.0)
+    subst (λ (x : Constant). may_fold x.attribute ≡ true) (ok_injective (constant c name [] type a) d k.1) (fold_of (constant c name [] type a) k.0)
 
 pub const_folds : (c : Context) (name : List ℕ) (type : Sexp) (shape : AttributeShape) (d : Constant) → declared_const c name type shape ≡ Ok d → may_fold d.attribute ≡ true
 unfolding declared_const
@@ -207,7 +201,7 @@ module _ (laws : Layers) (st : State) (h : IsSound st) where
     checked_sound m st' e =
         let d = bind_ok m _ st' e in
         let k = no_fault_then (constant_fault d.0) _ st' d.2 in
-        sound_after (with_entry st (IsConstant d.0)) st' (entry_sound (IsConstant d.0) (faultless_folds d.0 k.0)) k.1
+        sound_after (with_entry st (IsConstant d.0)) st' (entry_sound (IsConstant d.0) (fold_of d.0 k.0)) k.1
 
     pub literals_sound : (class : LiteralClass) (m : Checked Tree) (st' : State) → (m >>= checked_literals st class) ≡ Ok st' → IsSound st'
     literals_sound class m st' e =

@@ -85,7 +85,7 @@ impl Held {
         let ids = ids_with(self.alloc, value, names)?;
         let mut left = self.carry_list(ids)?;
         let carried = left.next();
-        set_terms(names, &mut left);
+        set_terms(names, left.rest());
         Ok(carried)
     }
 
@@ -173,14 +173,10 @@ fn ids_with(alloc: Global, id: Id, names: &Names) -> Result<Vec<Id>, AllocError>
 }
 
 // Puts terms in the places of those of names.
-fn set_terms(names: &mut Names, ids: &mut Handed)
-    requires { length ids.old ≡ length names.old }
+fn set_terms(names: &mut Names, ids: &[Id])
+    requires { length ids.now ≡ length names.old }
     ensures names { map (λ b. b.0) names.new ≡ map (λ b. b.0) names.old }
-    ensures terms { map (λ b. b.1) names.new ≡ ids.old }
+    ensures terms { map (λ b. b.1) names.new ≡ ids.now }
 {
-    let count = names.len();
-    for i in 0..count {
-        let id = ids.next();
-        names.set(i, id);
-    }
+    names.set_all(ids);
 }

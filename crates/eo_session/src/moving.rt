@@ -46,6 +46,13 @@ impl Handed {
         self.next += 1;
         id
     }
+
+    /// Those that are left.
+    pub(crate) fn rest(&self) -> &[Id]
+        ensures { result.now ≡ self }
+    {
+        &self.ids[self.next..]
+    }
 }
 
 // ---- the terms of declarations

@@ -31,12 +31,6 @@ here-at state.NoMemory m s h = absurd h
 pub here-of : (m : Machine) → IsSound m → IsLive (meaning m) → here_of (meaning m) ≡ m.here
 here-of m s h = here-at m.state m s h
 
-within-live : (c : Collecting) → IsWithin c → IsLive c
-within-live (Within phase comment start b) w = tt
-within-live (AtCommand k phase) w = absurd w
-within-live (Failed name at) w = absurd w
-within-live NoMemory w = absurd w
-
 pub ready-within : (c : Collecting) → IsWithin c → ready c ≡ c
 ready-within (Within phase comment start b) w = refl
 ready-within (AtCommand k phase) w = absurd w
@@ -130,7 +124,7 @@ feeding-stands c m piece first f s e o a =
 pub feeding-begins : (c : Collecting) (m : Machine) (piece : List ℕ) (first : ℕ) → IsSound m → meaning m ≡ ready c → first ≡ m.here.offset → HasRoom c piece → answer_of first m ≡ None → IsFeeding c piece first 0 m
 feeding-begins c m piece first s e f r a =
     let w : IsWithin (meaning m) = none-within m.state (phase_of m.phase) m.start m.begun first m.here.offset a in
-    let o : here_of c ≡ m.here = sym (here-ready c) ∙ ap here_of (sym e) ∙ here-of m s (within-live (meaning m) w) in
+    let o : here_of c ≡ m.here = sym (here-ready c) ∙ ap here_of (sym e) ∙ here-of m s (live-within (meaning m) w) in
     let k = ap (λ (h : Spot). h.offset) o in
     record {
       sound = s;
@@ -153,8 +147,8 @@ module _ (c : Collecting) (piece : List ℕ) (first index n : ℕ) (xs : List �
       let same : fed_with limits (meaning m) xs ≡ meaning new = ap (λ v. fed_from limits v xs) (ready-within (meaning m) h.within) ∙ sym t.meant in
       let w2 : IsWithin (fed_with limits (meaning m) xs) = subst IsWithin (sym same) w in
       let count = counts_pieces limits (meaning m) xs w2 in
-      let before = ap (λ (s : Spot). s.offset) (here-of m h.sound (within-live (meaning m) h.within)) in
-      let behind = ap (λ (s : Spot). s.offset) (ap here_of same ∙ here-of new t.sound (within-live (meaning new) w)) in
+      let before = ap (λ (s : Spot). s.offset) (here-of m h.sound (live-within (meaning m) h.within)) in
+      let behind = ap (λ (s : Spot). s.offset) (ap here_of same ∙ here-of new t.sound (live-within (meaning new) w)) in
       record {
         sound = t.sound;
         within = w;
@@ -224,10 +218,6 @@ pub answered-sound : (m : Machine) → m.state ≡ state.Command → IsSound m �
 answered-sound m e s = let h = subst (λ q. IsSoundAt q m) e s in h.1
 
 -- ---- runs
-
--- the rest of a piece from an index on, as a slice of it
-pub rest-of : (piece : List ℕ) (index : ℕ) → take (length piece - index) (drop index piece) ≡ drop index piece
-rest-of piece index = take_all (length piece - index) (drop index piece) (omega (arith, length-drop index piece))
 
 run-rest : (piece rest : List ℕ) (index n : ℕ) → rest ≡ drop index piece → drop index piece ≡ take n rest ++ drop (index + n) piece
 run-rest piece rest index n e = sym (take-append-drop n (drop index piece)) ∙ ap (λ l. take n (drop index piece) ++ l) (drop-drop n index piece) ∙ ap (λ l. take n l ++ drop (index + n) piece) (sym e)

@@ -6,6 +6,7 @@ use Rattle.std.proofs.lemmas.List.{take_all}
 use Rattle.eo_base.specs.declared.FaultName.{FaultName}
 use Rattle.eo_base.specs.declared.FaultName.TheVariants.{CommandLong, TokenLong}
 use Rattle.eo_base.specs.Limits.{limits}
+use Rattle.eo_base.proofs.Tests.{and_first, and_second}
 use Rattle.eo_sexp.specs.Spot.{Spot}
 use Rattle.eo_sexp.specs.declared.reader.Reader.{Reader}
 use Rattle.eo_sexp.specs.Built.{Built, nothing, with_byte}
@@ -36,7 +37,6 @@ use Rattle.eo_sexp.proofs.ReaderSteps.{reader-cut}
 use Rattle.eo_sexp.proofs.CommandTurns.{front-append, command-goes, command-over, command-whole, command-whole-over, command-fault}
 use Rattle.eo_sexp.proofs.FedBytes.{begun, fed-first, on-whole, on-refused, on-cut, unsat-cut, unsat-refused, unsat-other}
 use Rattle.eo_sexp.proofs.Parentheses.{paren-byte, no-paren, pair-front}
-use Rattle.eo_sexp.proofs.Answered.{and-false}
 
 -- ---- what a machine stands for
 
@@ -101,12 +101,9 @@ takes-from old mid new x e h = record { sound = h.sound; meant = h.meant ∙ sym
 
 -- ---- the outer pair
 
-and-none : (b c : Bool) → b ≡ false → (b && c) ≡ false
-and-none b c e = ap (λ q. q && c) e
-
 open-off : (bytes : List ℕ) → begins_one_of (codes "()") (pass false 1 (drop 1 bytes ++ [])).rest.bytes ≡ false → begins_pair limits (record { at = 0; bytes = bytes }) ≡ false
 unfolding begins_pair behind advance
-open-off bytes e = and-false _ (and-none _ _ (ap (λ bs. begins_one_of (codes "()") (pass false 1 bs).rest.bytes) (sym (append-nil (drop 1 bytes))) ∙ e))
+open-off bytes e = and_second _ _ (and_first _ _ (ap (λ bs. begins_one_of (codes "()") (pass false 1 bs).rest.bytes) (sym (append-nil (drop 1 bytes))) ∙ e))
 
 closed-off : (t : Input) → (front t.bytes ≡ Open → begins_pair limits t ≡ false) → begins_pair limits t ≡ false
 closed-off t h = go (begins_pair limits t) refl

@@ -2,6 +2,7 @@
 use Rattle.std.proofs.Common.{◌≡◌, refl, Bool, List, [], ◌∷◌, ℕ, Option, None, Some, Err, ap, sym, length, ◌∙◌, arith}
 use Rattle.std.proofs.lemmas.Option.{same_Some}
 use Rattle.std.specs.Prelude.{if◌then◌else◌}
+use Rattle.std.proofs.lemmas.List.{nil_from_length}
 use Rattle.eo_base.specs.declared.FaultName.TheVariants.{UnknownCommand, BadCommand}
 use Rattle.eo_base.specs.Checks.{Checked, ◌>>=◌, value_or}
 use Rattle.eo_sexp.specs.AtomKind as kind
@@ -12,10 +13,6 @@ use Rattle.eo_shape.specs.Words.{symbol_of}
 
 abbrev pub forms_of : Bool → List Form
 forms_of b = if b then reference_forms else forms
-
-pub empty : {X : Type 0} (xs : List X) → length xs ≡ 0 → xs ≡ []
-empty [] h = refl
-empty (y ∷ ys) h = absurd (omega (arith, h))
 
 pub command_of-none : (b : Bool) (s : Sexp) → sexp_children s ≡ [] → command_of b s ≡ Err BadCommand
 unfolding command_of

@@ -4,6 +4,7 @@ use Rattle.std.specs.Prelude.{option_map, bytes_eq}
 use Rattle.std.specs.Map.{lookup, keys_of}
 use Rattle.std.proofs.lemmas.List.{map-append}
 use Rattle.std.proofs.lemmas.Option.{none-some}
+use Rattle.eo_base.proofs.Tests.{none_is}
 use Rattle.indexmap.proofs.MapLemmas.{some_index}
 use Rattle.eo_term.specs.Terms.{tree_at}
 use Rattle.eo_lit.specs.declared.LiteralClass.{LiteralClass}
@@ -19,10 +20,6 @@ use Rattle.eo_sig.specs.Reading.{macros, read_entry}
 use Rattle.eo_sig.specs.Held.{const_name, program_name, rule_name, first_literal, IsKept}
 use Rattle.eo_sig.proofs.Tables.{push_own, push_other, literal_other, literal_own}
 use Rattle.eo_sig.proofs.Readings.{constant_found, program_found, rule_found, macro_found, literal_read}
-
-none_is : {X : Type 0} (o : Option X) → is_some o ≡ false → o ≡ None
-none_is None e = refl
-none_is (Some x) e = absurd (true≢false e)
 
 none_of_map : {X Y : Type 0} (f : X → Y) (o : Option X) → option_map f o ≡ None → o ≡ None
 none_of_map f None e = refl

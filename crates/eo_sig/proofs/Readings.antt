@@ -7,6 +7,7 @@ use Rattle.std.proofs.lemmas.Bool.{and_parts}
 use Rattle.std.proofs.lemmas.List.{map-append}
 use Rattle.std.proofs.lemmas.List.Elements.{All-push}
 use Rattle.std.proofs.lemmas.Option.{none-some, same_Some, slice_get-map}
+use Rattle.eo_base.proofs.Tests.{is_nothing}
 use Rattle.eo_term.specs.Tree.{Tree}
 use Rattle.eo_term.specs.Terms.{tree_at}
 use Rattle.eo_lit.specs.declared.LiteralClass.{LiteralClass}
@@ -192,9 +193,5 @@ pub free_program : (k : Kept) (w : List ℕ) → IsFree k w → sig.program_name
 free_program k w h =
     none_of_map sig.NamesProgram (sig.program_named (signature [] k) w) (none_second (option_map sig.NamesMacro (sig.macro_named (macros [] k) w)) _ (none_second (option_map sig.NamesConstant (sig.constant_named (signature [] k) w)) _ (and_parts _ _ h).1))
 
-none_is : {X : Type 0} (o : Option X) → is_none o ≡ true → o ≡ None
-none_is None e = refl
-none_is (Some x) e = absurd (true≢false (sym e))
-
 pub free_rule : (k : Kept) (w : List ℕ) → IsFreeRule k w → sig.rule_named (signature [] k) w ≡ None
-free_rule k w h = none_is (sig.rule_named (signature [] k) w) (and_parts _ _ h).1
+free_rule k w h = is_nothing (sig.rule_named (signature [] k) w) (and_parts _ _ h).1

@@ -1,13 +1,20 @@
--- An operator with an argument that is too tall is too tall.
-use Rattle.std.proofs.Common.{◌≡◌, ℕ, zero, suc, ◌<◌, ◌≤◌, true, arith}
-use Rattle.std.proofs.lemmas.Bool.{lt-ltb, ltb-true}
+-- What is too tall, and what is not.
+use Rattle.std.proofs.Common.{◌≡◌, ℕ, zero, suc, ◌<◌, ◌≤◌, true, false, arith}
+use Rattle.std.proofs.lemmas.Bool.{le-ltb}
 use Rattle.eo_base.specs.Limits.{height_limit}
+use Rattle.eo_base.proofs.Tests.{still_above}
 use Rattle.eo_term.specs.declared.OpCode.{OpCode}
 use Rattle.eo_term.specs.Tree.{Tree, Trees, Op, NoTree, More, height, height_all, is_tall}
 use Rattle.eo_term.specs.Arguments.{count_of, argument_at}
 
-higher : (t u : Tree) → height t ≤ height u → is_tall t ≡ true → is_tall u ≡ true
-higher t u h e = let l = ltb-true height_limit (height t) e in lt-ltb height_limit (height u) (omega (arith, h, l))
+-- what is as tall as one that is too tall
+pub higher : (t u : Tree) → height t ≤ height u → is_tall t ≡ true → is_tall u ≡ true
+higher t u h e = still_above height_limit (height t) (height u) h e
+
+pub low_height : (t : Tree) → height t ≤ height_limit → is_tall t ≡ false
+low_height t h = le-ltb height_limit (height t) h
+
+-- an operator with an argument that is too tall is too tall
 
 argument_height : (ts : Trees) (i : ℕ) → i < count_of ts → height (argument_at ts i) ≤ height_all ts
 argument_height NoTree i l = absurd (omega arith)

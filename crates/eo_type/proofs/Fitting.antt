@@ -5,6 +5,7 @@ use Rattle.std.specs.Map.{lookup}
 use Rattle.std.proofs.lemmas.List.Elements.{All-head, All-tail, All-weaker, All-filter, filter_passes}
 use Rattle.std.proofs.lemmas.Bool.Decides.{Decides-eqb}
 use Rattle.std.proofs.lemmas.Bool.{and_parts, and_from}
+use Rattle.eo_term.proofs.Growing.{grows_refl}
 use Rattle.eo_term.specs.Terms.{Terms, Since, IsMark, HasTextsOf, tree_at}
 use Rattle.eo_sig.specs.Signature.{Signature}
 use Rattle.eo_term.specs.Tree.{Tree, Con}
@@ -135,20 +136,9 @@ cut_back old now new m g e p q =
     let texts : new.texts ≡ old.texts = q ∙ ap (λ (x : ℕ × ℕ). take x.1 now.texts) e ∙ g.texts in
     λ i. record { trees = trees i; texts = texts i }
 
-since_self : (t : Terms) → Since t t
-since_self t = record {
-  trees = take_all (length t.trees) t.trees (omega arith);
-  texts = take_all (length t.texts) t.texts (omega arith);
-  more_trees = omega arith;
-  more_texts = omega arith;
-  tree = λ i l. refl;
-  text = λ i l. refl;
-  marks = λ m h. h;
-}
-
 -- a table that is as it was has grown
 pub grows_back : (old new : Terms) → new ≡ old → Grows old new
-grows_back old new e = subst (Grows old) (sym e) (record { now = since_self old; since = λ t h. h })
+grows_back old new e = subst (Grows old) (sym e) (grows_refl old)
 
 -- and that under a signature whose terms are there
 pub grows_under_back : (k : Kept) (old new : Terms) → IsBelow (length old.trees) k → new ≡ old → GrowsUnder k old new

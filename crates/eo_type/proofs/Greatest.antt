@@ -96,11 +96,6 @@ greatest_before ns es fs n start g within h same from = record {
     newer i l m =
         subst₂ at (sym (get_or-append_right (take start ns) (replicate (length fs - start) (n - 1)) start i 0 front m ∙ get_or-replicate (length fs - start) (i - start) (n - 1) 0 (omega (arith, l, m)))) refl (All-take (IsUpTo (n - 1)) (i + 1) fs passed)
 
--- The first of so many entries are before n, if the number beside the last of them is below n.
-pub all_before : (ns : List ℕ) (es : List (ℕ × ℕ)) (n i : ℕ) → AreGreatest ns es → i < length es → slice_index_or ns i 0 < n → All (λ e. is_before n e ≡ true) (take (i + 1) es)
-all_before ns es n i g l m =
-    All-weaker (IsUpTo (slice_index_or ns i 0)) (λ e. is_before n e ≡ true) (λ e u. and_from (nat_lt e.0 n) (nat_lt e.1 n) (lt-ltb e.0 n (omega (arith, u.term, m))) (lt-ltb e.1 n (omega (arith, u.type, m)))) (take (i + 1) es) (g.upto i l)
-
 -- where all entries are before a mark, none is forgotten
 pub nothing_forgotten : (n start : ℕ) (es : List (ℕ × ℕ)) → start ≡ length es → All (λ e. is_before n e ≡ true) (take start es) → es ≡ filter (is_before n) es
 nothing_forgotten n start es long before =

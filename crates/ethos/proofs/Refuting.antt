@@ -40,7 +40,3 @@ module _ (law : (files : Files) (job : CheckJob) → verdict files job ≡ Corre
   pub ok_refutes : (told : Option Files) (s : Status) (reading : Option Request) (w x : Option (List ℕ)) → EndsAs told s reading w x → OkRefutes told s reading
   ok_refutes None s reading w x h = λ job is ok. tt
   ok_refutes (Some files) s reading w x h = λ job is ok. told_refutes files s job w x (subst (λ (r : Option Request). Ends s (due files r) w x) is h) ok
-
-pub closed_keeps : ((files : Files) (job : CheckJob) → ClosedKeepsRules files job) → (told : Option Files) (reading : Option Request) → ClosedKeeps told reading
-closed_keeps law None reading = λ job is. tt
-closed_keeps law (Some files) reading = λ job is. law files job

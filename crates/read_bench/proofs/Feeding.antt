@@ -10,6 +10,7 @@ use Rattle.eo_sexp.specs.Texts.{Phase, Next, Command, End, Fault, Reads, Placed,
 use Rattle.eo_sexp.specs.Collecting.{Collecting, new_collector, Within, AtCommand, Failed, NoMemory, IsLive, IsWithin, here_of, used, fed_with, finished_with, fed_answer, finish_answer}
 use Rattle.eo_sexp.specs.Cutting.{IsWaiting, ReadsInPieces}
 use Rattle.eo_sexp.specs.Answering.{IsAnswer, AnswersAlone}
+use Rattle.eo_sexp.proofs.Callers.{live-within, at_more, at_command, at_fault, at_end, at_end_command, at_end_fault, here-used}
 use Rattle.read_bench.specs.Counting.{count, commands_of, commands_behind, GoesOn}
 
 -- ---- how many there are
@@ -32,63 +33,6 @@ unfolding reads reads_all
 few-commands text = let few : commands_of text ≤ suc (length text) = turns-count true (suc (length text)) (first_phase false) first_spot text in omega (arith, few)
 
 -- ---- a piece
-
-at_more : (c d : Collecting) → IsAnswer d → fed.More ≡ fed_answer c d → IsWithin d
-at_more c (Within phase comment start begun) a e = tt
-at_more c (AtCommand k phase) a e = absurd cc
-at_more c (Failed name at) a e = absurd cc
-at_more c NoMemory a e = absurd a
-
-live-within : (c : Collecting) → IsWithin c → IsLive c
-live-within (Within phase comment start begun) w = tt
-live-within (AtCommand k phase) w = absurd w
-live-within (Failed name at) w = absurd w
-live-within NoMemory w = absurd w
-
-record IsCommand (c d : Collecting) (u : ℕ) : Type 0 where
-  command : Placed
-  phase : Phase
-  is : d ≡ AtCommand command phase
-  size : u ≡ used c (AtCommand command phase)
-
-at_command : (c d : Collecting) (u : ℕ) → IsAnswer d → fed.Command u ≡ fed_answer c d → IsCommand c d u
-at_command c (Within phase comment start begun) u a e = absurd cc
-at_command c (AtCommand k phase) u a e = record { command = k; phase = phase; is = refl; size = cc }
-at_command c (Failed name at) u a e = absurd cc
-at_command c NoMemory u a e = absurd a
-
-at_fault : (c d : Collecting) (name : FaultName) (at : Spot) → IsAnswer d → fed.Fault name at ≡ fed_answer c d → d ≡ Failed name at
-at_fault c (Within phase comment start begun) name at a e = absurd cc
-at_fault c (AtCommand k phase) name at a e = absurd cc
-at_fault c (Failed other there) name at a e =
-    let same : other ≡ name = cc in
-    let place : there ≡ at = cc in
-    ap (λ n. Failed n there) same ∙ ap (Failed name) place
-at_fault c NoMemory name at a e = absurd a
-
-at_end : (d : Collecting) → IsAnswer d → finished.End ≡ finish_answer d → IsWithin d
-at_end (Within phase comment start begun) a e = tt
-at_end (AtCommand k phase) a e = absurd cc
-at_end (Failed name at) a e = absurd cc
-at_end NoMemory a e = absurd a
-
-at_end_command : (d : Collecting) → IsAnswer d → finished.Command ≡ finish_answer d → (k : Placed) × (phase : Phase) × (d ≡ AtCommand k phase)
-at_end_command (Within phase comment start begun) a e = absurd cc
-at_end_command (AtCommand k phase) a e = (k, phase, refl)
-at_end_command (Failed name at) a e = absurd cc
-at_end_command NoMemory a e = absurd a
-
-at_end_fault : (d : Collecting) (name : FaultName) (at : Spot) → IsAnswer d → finished.Fault name at ≡ finish_answer d → d ≡ Failed name at
-at_end_fault (Within phase comment start begun) name at a e = absurd cc
-at_end_fault (AtCommand k phase) name at a e = absurd cc
-at_end_fault (Failed other there) name at a e =
-    let same : other ≡ name = cc in
-    let place : there ≡ at = cc in
-    ap (λ n. Failed n there) same ∙ ap (Failed name) place
-at_end_fault NoMemory name at a e = absurd a
-
-here-used : (c : Collecting) (k : Placed) (phase : Phase) → (here_of (AtCommand k phase)).offset ≤ (here_of c).offset + used c (AtCommand k phase)
-here-used c k phase = omega arith
 
 module _ (law : ReadsInPieces limits) (alone : AnswersAlone limits) (c d : Collecting) (live : IsLive c) (waiting : IsWaiting limits c) where
   module _ (rest : List ℕ) (n : ℕ) (fits : n ≤ length rest) (is : d ≡ fed_with limits c (take n rest)) where
@@ -134,7 +78,7 @@ module _ (law : ReadsInPieces limits) (alone : AnswersAlone limits) (c d : Colle
     -- a fault ends the text
     pub fed-fault : (name : FaultName) (at : Spot) → fed.Fault name at ≡ fed_answer c d → commands_behind c rest ≡ 0
     fed-fault name at e =
-        let f = at_fault c d name at answer e in
+        let f = (at_fault c d name at answer e).is in
         ap (commands_behind c) (sym split) ∙ ap count (law.fault true c (take n rest) (drop n rest) name at (sym is ∙ f))
 
   -- ---- the end
@@ -147,7 +91,7 @@ module _ (law : ReadsInPieces limits) (alone : AnswersAlone limits) (c d : Colle
     end-ends e = ap count (law.ends.end c (subst IsWithin is (at_end d answer-end e)))
 
     pub end-fault : (name : FaultName) (at : Spot) → finished.Fault name at ≡ finish_answer d → commands_behind c [] ≡ 0
-    end-fault name at e = ap count (law.ends.fault c name at (sym is ∙ at_end_fault d name at answer-end e))
+    end-fault name at e = ap count (law.ends.fault c name at (sym is ∙ (at_end_fault d name at answer-end e).is))
 
     pub end-command : finished.Command ≡ finish_answer d → (commands_behind c [] ≡ 1 + commands_behind d []) × IsLive d × IsWaiting limits d
     end-command e =

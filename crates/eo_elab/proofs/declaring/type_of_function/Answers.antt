@@ -2,6 +2,7 @@ use Rattle.std.proofs.Common.{◌≡◌, ◌≤◌, ◌<◌, ◌++◌, ◌∷◌
 use Rattle.std.specs.Prelude.{Ok}
 use Rattle.std.proofs.lemmas.List.{map-append}
 use Rattle.std.proofs.lemmas.List.Elements.{All-append, All-cons, All-nil}
+use Rattle.eo_term.proofs.Heights.{low_height}
 use Rattle.eo_base.specs.Limits.{height_limit}
 use Rattle.eo_base.proofs.Answering.{fails, gives_fault}
 use Rattle.eo_term.specs.Growth.{tree_in, trees_in}
@@ -14,7 +15,7 @@ use Rattle.eo_names.specs.Scopes.{read_setting}
 use Rattle.eo_names.specs.Worlds.{World}
 use Rattle.eo_elab.specs.Worlds.{context_at, world_in, in_setting, meaning_in, meanings_in}
 use Rattle.eo_elab.proofs.ConstantLemmas.{trees-grown, ids-more}
-use Rattle.eo_elab.proofs.DeclaringLemmas.{function-no-inputs, function-no-output, function-whole, arrow-onto, low, high, low-height}
+use Rattle.eo_elab.proofs.DeclaringLemmas.{function-no-inputs, function-no-output, function-whole, arrow-onto, low, high}
 use Rattle.eo_elab.proofs.Giving.{none_ready, tall_told}
 use Rattle.eo_elab.proofs.declaring.type_of_function.Goals as goal
 
@@ -82,5 +83,5 @@ returns-clause-gives c =
     ∙ ap arrow (map-append (tree_at vs.trees) c.in_ok-types.types (c.in_ok-output.output ∷ []) ∙ ap (λ js. js ++ t ∷ []) (trees-grown (length us.trees) us.trees vs.trees c.in_ok-types.types c.in_ok-output.ensures.grows.now.tree c.in_ok-types.ensures.gives.live))
     ∙ arrow-onto is t in
     let made = c.in_ok-made.ensures.gives.tree ∙ whole in
-    let short : is_tall (function_type is t) ≡ false = ap is_tall (sym made) ∙ low-height (tree_in c.function_type.new.table c.in_ok-made.made) (subst (λ n. n ≤ height_limit) c.height.ensures.height c.height.ensures.low) in
+    let short : is_tall (function_type is t) ≡ false = ap is_tall (sym made) ∙ low_height (tree_in c.function_type.new.table c.in_ok-made.made) (subst (λ n. n ≤ height_limit) c.height.ensures.height c.height.ensures.low) in
     record { live = c.in_ok-made.ensures.gives.live; is = parts ∙ low (function_type is t) short ∙ ap Ok (sym made) }

@@ -1,5 +1,6 @@
 use Rattle.std.proofs.Common.{◌≡◌, ℕ, ◌≤◌, length, map, subst, false, ap, sym, ◌∙◌, arith, rules}
 use Rattle.std.specs.Prelude.{Ok}
+use Rattle.eo_term.proofs.Heights.{low_height}
 use Rattle.eo_base.specs.Limits.{height_limit}
 use Rattle.eo_base.proofs.Answering.{fails, gives_fault}
 use Rattle.eo_sig.specs.Reading.{read_parameter, read_attribute}
@@ -12,7 +13,7 @@ use Rattle.eo_names.specs.Worlds.{World}
 use Rattle.eo_elab.specs.Worlds.{context_in, attribute_in}
 use Rattle.eo_elab.proofs.Giving.{refused_as}
 use Rattle.eo_elab.proofs.BoundLemmas.{parameters-grown}
-use Rattle.eo_elab.proofs.DeclaringLemmas.{over-no-type, over-tall, over-no-attribute, over-both, low-height}
+use Rattle.eo_elab.proofs.DeclaringLemmas.{over-no-type, over-tall, over-no-attribute, over-both}
 use Rattle.eo_elab.proofs.declaring.typed_over.Goals as goal
 
 pub returns-in_err-result-clause-gives : goal.returns-in_err-result-clause-gives
@@ -48,7 +49,7 @@ returns-in_err-attribute-clause-gives c =
     let type = tree_in us c.in_ok-result.result in
     let params = ap (map (read_parameter us.trees)) c.as_slice.ensures ∙ parameters-grown (length t.trees) t.trees us.trees c.args.bound.now.params c.in_ok-result.ensures.grows.now.tree c.requires.bound.params in
     let made : tree_in vs c.in_ok-whole.whole ≡ bound_type 0 b.parameters type = c.in_ok-whole.ensures.makes.tree ∙ ap (λ ps. bound_type 0 ps type) params in
-    let short : is_tall (bound_type 0 b.parameters type) ≡ false = ap is_tall (sym made) ∙ low-height (tree_in vs c.in_ok-whole.whole) (subst (λ n. n ≤ height_limit) c.height.ensures.height c.height.ensures.low) in
+    let short : is_tall (bound_type 0 b.parameters type) ≡ false = ap is_tall (sym made) ∙ low_height (tree_in vs c.in_ok-whole.whole) (subst (λ n. n ≤ height_limit) c.height.ensures.height c.height.ensures.low) in
     let same = (c.names_law.ensures.stays c.args.sig.now c.args.bound.now.locals t vs c.requires.bound.ready (search rules)).world in
     fails _ _ _ _ _ _ _ c.from_residual-in_err-attribute.ensures.1
     (λ f e. over-no-attribute x b c.args.ty.now shape type c.in_ok-result.ensures.gives.is f short (ap (λ (u : World). attribute_in u c.args.attribute.now) (sym same) ∙ e)) c.in_err-attribute.ensures.gives
@@ -65,7 +66,7 @@ returns-clause-gives c =
     let type = tree_in us c.in_ok-result.result in
     let params = ap (map (read_parameter us.trees)) c.as_slice.ensures ∙ parameters-grown (length t.trees) t.trees us.trees c.args.bound.now.params c.in_ok-result.ensures.grows.now.tree c.requires.bound.params in
     let made : tree_in vs c.in_ok-whole.whole ≡ bound_type 0 b.parameters type = c.in_ok-whole.ensures.makes.tree ∙ ap (λ ps. bound_type 0 ps type) params in
-    let short : is_tall (bound_type 0 b.parameters type) ≡ false = ap is_tall (sym made) ∙ low-height (tree_in vs c.in_ok-whole.whole) (subst (λ n. n ≤ height_limit) c.height.ensures.height c.height.ensures.low) in
+    let short : is_tall (bound_type 0 b.parameters type) ≡ false = ap is_tall (sym made) ∙ low_height (tree_in vs c.in_ok-whole.whole) (subst (λ n. n ≤ height_limit) c.height.ensures.height c.height.ensures.low) in
     let same = (c.names_law.ensures.stays c.args.sig.now c.args.bound.now.locals t vs c.requires.bound.ready (search rules)).world in
     let kept = c.in_ok-attribute.ensures.grows.now.tree c.in_ok-whole.whole c.in_ok-whole.ensures.makes.live in
     record {

@@ -3,12 +3,13 @@ use Rattle.std.specs.Prelude.{Ok}
 use Rattle.std.proofs.lemmas.Grind.{common_steps}
 use Rattle.std.proofs.lemmas.List.{map-append}
 use Rattle.std.proofs.lemmas.List.Elements.{All-nil, All-append, All-cons}
+use Rattle.eo_base.proofs.ChecksLemmas.{behind, behind-none}
 use Rattle.eo_base.proofs.Answering.{fails}
 use Rattle.eo_shape.specs.Reading.{read_case as read_shape}
 use Rattle.eo_sig.specs.Reading.{read_case, CaseBelow}
 use Rattle.eo_names.specs.Worlds.{World, world_of}
 use Rattle.eo_elab.specs.Worlds.{case_in, cases_in}
-use Rattle.eo_elab.proofs.ProgramLemmas.{cases_behind, cases_behind-none, cases-next, cases-refused, cases-end, cases-grown, cases-more}
+use Rattle.eo_elab.proofs.ProgramLemmas.{cases-next, cases-refused, cases-end, cases-grown, cases-more}
 use Rattle.eo_elab.proofs.programs.mean_cases.Goals as goal
 
 pub loop-shape-init : goal.loop-shape-init
@@ -18,7 +19,7 @@ loop-shape-init c =
     let left = c.into_iter-shape-iterator.result in
     let all : left ≡ c.args.shapes.now = cc in
     record {
-      left = sym (ap (λ ks. cases_behind (map (read_case t.trees) ks) (cases_in w c.args.inputs left)) c.new-cases.ensures ∙ cases_behind-none (cases_in w c.args.inputs left) ∙ ap (cases_in w c.args.inputs) all);
+      left = sym (ap (λ ks. behind (map (read_case t.trees) ks) (cases_in w c.args.inputs left)) c.new-cases.ensures ∙ behind-none (cases_in w c.args.inputs left) ∙ ap (cases_in w c.args.inputs) all);
       live = subst (All (CaseBelow (length t.trees))) (sym c.new-cases.ensures) (All-nil (CaseBelow (length t.trees)));
       grows = grind (arith, common_steps);
     }
@@ -32,7 +33,7 @@ returns-in_err-case-clause-gives c =
     let same = (c.names_law.ensures.stays c.args.sig.now c.args.locals.now c.args.table.now c.loop-shape.table c.requires.ready c.loop-shape.invariant.grows).world in
     let done = map (read_case c.loop-shape.table.trees) c.loop-shape.cases in
     let s = read_shape c.in-Some.shape in
-    let step = c.loop-shape.invariant.left ∙ ap (λ ss. cases_behind done (cases_in w c.args.inputs ss)) c.in-Some.ensures.steps in
+    let step = c.loop-shape.invariant.left ∙ ap (λ ss. behind done (cases_in w c.args.inputs ss)) c.in-Some.ensures.steps in
     fails _ _ _ _ _ _ _ c.from_residual.ensures.1 (λ f e. step ∙ cases-refused w.names w.locals c.args.inputs done s c.next.new.self f (ap (λ (u : World). case_in u c.args.inputs s) (sym same) ∙ e)) c.in_err-case.ensures.gives
 
 pub loop-shape-preserved : goal.loop-shape-preserved
@@ -44,14 +45,14 @@ loop-shape-preserved c =
     let done = map (read_case now.trees) c.loop-shape.cases in
     let s = read_shape c.in-Some.shape in
     let k = read_case new.trees c.in_ok-case.case in
-    let step = c.loop-shape.invariant.left ∙ ap (λ ss. cases_behind done (cases_in w c.args.inputs ss)) c.in-Some.ensures.steps in
+    let step = c.loop-shape.invariant.left ∙ ap (λ ss. behind done (cases_in w c.args.inputs ss)) c.in-Some.ensures.steps in
     let own : case_in w c.args.inputs s ≡ Ok k = ap (λ (u : World). case_in u c.args.inputs s) (sym same) ∙ c.in_ok-case.ensures.gives.is in
     let grown = cases-grown (length now.trees) (length new.trees) now.trees new.trees c.mean_case.ensures.grows.now.more_trees c.mean_case.ensures.grows.now.tree c.loop-shape.cases c.loop-shape.invariant.live in
     let more : map (read_case new.trees) c.push.new.self ≡ done ++ k ∷ [] =
     ap (map (read_case new.trees)) c.in_ok-push.ensures.pushed ∙ map-append (read_case new.trees) c.loop-shape.cases (c.in_ok-case.case ∷ []) ∙ ap (λ ks. ks ++ k ∷ []) grown in
     let before = cases-more (length now.trees) (length new.trees) now.trees new.trees c.mean_case.ensures.grows.now.more_trees c.mean_case.ensures.grows.now.tree c.loop-shape.cases c.loop-shape.invariant.live in
     record {
-      left = step ∙ sym (cases-next w.names w.locals c.args.inputs done s c.next.new.self k own) ∙ ap (λ ks. cases_behind ks (cases_in w c.args.inputs c.next.new.self)) (sym more);
+      left = step ∙ sym (cases-next w.names w.locals c.args.inputs done s c.next.new.self k own) ∙ ap (λ ks. behind ks (cases_in w c.args.inputs c.next.new.self)) (sym more);
       live = subst (All (CaseBelow (length new.trees))) (sym c.in_ok-push.ensures.pushed) (All-append (CaseBelow (length new.trees)) c.loop-shape.cases (c.in_ok-case.case ∷ []) before (All-cons (CaseBelow (length new.trees)) c.in_ok-case.case [] c.in_ok-case.ensures.gives.live (All-nil (CaseBelow (length new.trees)))));
       grows = search rules;
     }
@@ -62,5 +63,5 @@ returns-clause-gives c =
     let done = map (read_case c.loop-shape.table.trees) c.loop-shape.cases in
     record {
       live = c.loop-shape.invariant.live;
-      is = c.loop-shape.invariant.left ∙ ap (λ ss. cases_behind done (cases_in w c.args.inputs ss)) c.in-None.ensures.steps.0 ∙ cases-end w.names w.locals c.args.inputs done;
+      is = c.loop-shape.invariant.left ∙ ap (λ ss. behind done (cases_in w c.args.inputs ss)) c.in-None.ensures.steps.0 ∙ cases-end w.names w.locals c.args.inputs done;
     }

@@ -1,9 +1,9 @@
 use Rattle.std.proofs.Common.{◌≡◌, length, map, All}
+use Rattle.eo_base.proofs.ChecksLemmas.{behind}
 use Rattle.eo_sig.specs.Reading.{read_case, CaseBelow}
 use Rattle.eo_term.specs.Growth.{Grows}
 use Rattle.eo_names.specs.Worlds.{world_of}
 use Rattle.eo_elab.specs.Worlds.{cases_in}
-use Rattle.eo_elab.proofs.ProgramLemmas.{cases_behind}
 use Rattle.eo_elab.proofs.programs.mean_cases.Given as goal
 
 -- the cases read so far, and then those that are left, are all of them
@@ -11,7 +11,7 @@ abbrev pub invariant-loop-shape : goal.invariant-loop-shape
 invariant-loop-shape l =
     let w = world_of l.fn.table l.sig l.locals in
     record {
-      left : cases_in w l.inputs l.shapes ≡ cases_behind (map (read_case l.table.trees) l.cases) (cases_in w l.inputs l.shape-iterator);
+      left : cases_in w l.inputs l.shapes ≡ behind (map (read_case l.table.trees) l.cases) (cases_in w l.inputs l.shape-iterator);
       live : All (CaseBelow (length l.table.trees)) l.cases;
       grows : Grows l.fn.table l.table;
     }

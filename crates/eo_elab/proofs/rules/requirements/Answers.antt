@@ -3,12 +3,13 @@ use Rattle.std.specs.Prelude.{Ok}
 use Rattle.std.proofs.lemmas.Grind.{common_steps}
 use Rattle.std.proofs.lemmas.List.{map-append}
 use Rattle.std.proofs.lemmas.List.Elements.{All-nil, All-append, All-cons}
+use Rattle.eo_base.proofs.ChecksLemmas.{behind, behind-none}
 use Rattle.eo_base.proofs.Answering.{fails}
 use Rattle.eo_shape.specs.Reading.{read_pair as read_shape}
 use Rattle.eo_sig.specs.Reading.{read_pair}
 use Rattle.eo_names.specs.Worlds.{World, world_of}
 use Rattle.eo_elab.specs.RuleParts.{requirement_in, requirements_in, PairBelow}
-use Rattle.eo_elab.proofs.RuleLemmas.{pairs_behind, pairs_behind-none, pairs-next, pairs-refused, pairs-end, pairs-grown, pairs-more}
+use Rattle.eo_elab.proofs.RuleLemmas.{pairs-next, pairs-refused, pairs-end, pairs-grown, pairs-more}
 use Rattle.eo_elab.proofs.rules.requirements.Goals as goal
 
 pub loop-shape-init : goal.loop-shape-init
@@ -18,7 +19,7 @@ loop-shape-init c =
     let left = c.into_iter-shape-iterator.result in
     let all : left ≡ c.args.shapes.now = cc in
     record {
-      left = sym (ap (λ qs. pairs_behind (map (read_pair t.trees) qs) (requirements_in w left)) c.new-pairs.ensures ∙ pairs_behind-none (requirements_in w left) ∙ ap (requirements_in w) all);
+      left = sym (ap (λ qs. behind (map (read_pair t.trees) qs) (requirements_in w left)) c.new-pairs.ensures ∙ behind-none (requirements_in w left) ∙ ap (requirements_in w) all);
       live = subst (All (PairBelow (length t.trees))) (sym c.new-pairs.ensures) (All-nil (PairBelow (length t.trees)));
       grows = grind (arith, common_steps);
     }
@@ -32,7 +33,7 @@ returns-in_err-pair-clause-gives c =
     let same = (c.names_law.ensures.stays c.args.sig.now c.args.locals.now c.args.table.now c.loop-shape.table c.requires.ready c.loop-shape.invariant.grows).world in
     let done = map (read_pair c.loop-shape.table.trees) c.loop-shape.pairs in
     let q = read_shape c.in-Some.shape in
-    let step = c.loop-shape.invariant.left ∙ ap (λ qs. pairs_behind done (requirements_in w qs)) c.in-Some.ensures.steps in
+    let step = c.loop-shape.invariant.left ∙ ap (λ qs. behind done (requirements_in w qs)) c.in-Some.ensures.steps in
     fails _ _ _ _ _ _ _ c.from_residual.ensures.1 (λ f e. step ∙ pairs-refused w done q c.next.new.self f (ap (λ (u : World). requirement_in u q) (sym same) ∙ e)) c.in_err-pair.ensures.gives
 
 pub loop-shape-preserved : goal.loop-shape-preserved
@@ -45,7 +46,7 @@ loop-shape-preserved c =
     let q = read_shape c.in-Some.shape in
     let pair = c.in_ok-pair.pair in
     let p = read_pair new.trees pair in
-    let step = c.loop-shape.invariant.left ∙ ap (λ qs. pairs_behind done (requirements_in w qs)) c.in-Some.ensures.steps in
+    let step = c.loop-shape.invariant.left ∙ ap (λ qs. behind done (requirements_in w qs)) c.in-Some.ensures.steps in
     let own : requirement_in w q ≡ Ok p = ap (λ (u : World). requirement_in u q) (sym same) ∙ c.in_ok-pair.ensures.gives.is in
     let g = c.requirement.ensures.grows.now in
     let grown = pairs-grown (length now.trees) (length new.trees) now.trees new.trees g.more_trees g.tree c.loop-shape.pairs c.loop-shape.invariant.live in
@@ -54,7 +55,7 @@ loop-shape-preserved c =
     let before = pairs-more (length now.trees) (length new.trees) now.trees new.trees g.more_trees g.tree c.loop-shape.pairs c.loop-shape.invariant.live in
     let n = length new.trees in
     record {
-      left = step ∙ sym (pairs-next w done q c.next.new.self p own) ∙ ap (λ qs. pairs_behind qs (requirements_in w c.next.new.self)) (sym more);
+      left = step ∙ sym (pairs-next w done q c.next.new.self p own) ∙ ap (λ qs. behind qs (requirements_in w c.next.new.self)) (sym more);
       live = subst (All (PairBelow n)) (sym c.in_ok-push.ensures.pushed) (All-append (PairBelow n) c.loop-shape.pairs (pair ∷ []) before (All-cons (PairBelow n) pair [] c.in_ok-pair.ensures.gives.live (All-nil (PairBelow n))));
       grows = search rules;
     }
@@ -65,5 +66,5 @@ returns-clause-gives c =
     let done = map (read_pair c.loop-shape.table.trees) c.loop-shape.pairs in
     record {
       live = c.loop-shape.invariant.live;
-      is = c.loop-shape.invariant.left ∙ ap (λ qs. pairs_behind done (requirements_in w qs)) c.in-None.ensures.steps.0 ∙ pairs-end w done;
+      is = c.loop-shape.invariant.left ∙ ap (λ qs. behind done (requirements_in w qs)) c.in-None.ensures.steps.0 ∙ pairs-end w done;
     }

@@ -3,6 +3,7 @@ use Rattle.std.specs.Prelude.{Ok}
 use Rattle.std.proofs.lemmas.Grind.{common_steps}
 use Rattle.std.proofs.lemmas.List.{length-append}
 use Rattle.std.proofs.lemmas.List.Elements.{All-nil}
+use Rattle.eo_base.proofs.ChecksLemmas.{behind, behind-none}
 use Rattle.eo_base.proofs.Answering.{fails}
 use Rattle.eo_base.proofs.Elements.{push_same, push_below}
 use Rattle.eo_term.specs.Terms.{tree_at}
@@ -10,7 +11,7 @@ use Rattle.eo_term.specs.Growth.{tree_in, trees_in}
 use Rattle.eo_names.specs.Scopes.{read_setting}
 use Rattle.eo_names.specs.Worlds.{World}
 use Rattle.eo_elab.specs.Worlds.{meaning_in, meanings_in, world_in, in_setting}
-use Rattle.eo_elab.proofs.ConstantLemmas.{behind, behind-none, meanings-next, meanings-refused, meanings-end}
+use Rattle.eo_elab.proofs.ConstantLemmas.{meanings-next, meanings-refused, meanings-end}
 use Rattle.eo_elab.proofs.terms.mean_terms.Goals as goal
 
 pub loop-s-init : goal.loop-s-init

@@ -1,7 +1,7 @@
 use Rattle.std.proofs.Common.{◌≡◌, ◌+◌, ◌<◌, length, All}
+use Rattle.eo_base.proofs.ChecksLemmas.{behind}
 use Rattle.eo_term.specs.Growth.{trees_in, Grows}
 use Rattle.eo_elab.specs.Worlds.{meanings_in, world_in}
-use Rattle.eo_elab.proofs.ConstantLemmas.{behind}
 use Rattle.eo_elab.proofs.terms.mean_terms.Given as goal
 
 -- the terms read so far, and then those that are left, are all of them

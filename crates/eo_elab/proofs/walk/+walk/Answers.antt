@@ -25,7 +25,8 @@ use Rattle.eo_names.specs.Ready.{IsReady}
 use Rattle.eo_names.specs.Worlds.{World, world, made_in, bound_list_in}
 use Rattle.eo_elab.specs.Worlds.{place, labels_in, annotated_in, label_by, sexps, term_in, list_in, parts_in, application_in, form_in, headed_in, applied_in, use_in, all_in, let_in, binder_in, pairs_in, more_pairs_in}
 use Rattle.eo_elab.proofs.Giving.{adds_fault, labelled, relabelled, with_them, made_labels, list_labels, made_anywhere, place_stays, labels_grown, names_same, names_stay, names_join}
-use Rattle.eo_elab.proofs.Sizes.{size_inside, is_list, none_given, one_given, two_given, size_beside}
+use Rattle.eo_sexp.proofs.Sizes.{size_inside}
+use Rattle.eo_elab.proofs.Sizes.{is_list, none_given, one_given, two_given, size_beside}
 use Rattle.eo_elab.proofs.WalkSteps.{world_inside, of_no_list, annotated_next, annotated_fault, annotated_none, of_nothing, of_list, all_end, all_next, all_fault, let_fault, let_next, let_not_two, binder_next, binder_pairs_fault, binder_list_fault, binder_none, pairs_no_list, pairs_listed, pairs_end, pairs_other, pairs_twice, pairs_next, pairs_fault}
 use Rattle.eo_elab.proofs.walk.+walk.Goals as goal
 

@@ -3,7 +3,8 @@ use Rattle.eo_base.proofs.Elements.{all_at}
 use Rattle.eo_term.specs.Tree.{Tree, is_tall}
 use Rattle.eo_term.specs.Terms.{tree_at}
 use Rattle.eo_lists.specs.Lists.{link, spell}
-use Rattle.eo_lists.proofs.Building.{grows_on, spell_step, spell_step_tall}
+use Rattle.eo_term.proofs.Growing.{grows_on}
+use Rattle.eo_lists.proofs.Building.{spell_step, spell_step_tall}
 use Rattle.eo_lists.proofs.build.build.Goals as goal
 
 pub returns-in_err-made-clause-gives : goal.returns-in_err-made-clause-gives

@@ -4,7 +4,8 @@ use Rattle.eo_term.specs.Tree.{Tree, is_tall}
 use Rattle.eo_term.specs.Terms.{tree_at}
 use Rattle.eo_lists.specs.Lists.{link}
 use Rattle.eo_lists.specs.Parts.{onto}
-use Rattle.eo_lists.proofs.Building.{grows_on, onto_step, onto_step_tall}
+use Rattle.eo_term.proofs.Growing.{grows_on}
+use Rattle.eo_lists.proofs.Building.{onto_step, onto_step_tall}
 use Rattle.eo_lists.proofs.build.build_reversed.Goals as goal
 
 pub returns-in_err-made-clause-gives : goal.returns-in_err-made-clause-gives

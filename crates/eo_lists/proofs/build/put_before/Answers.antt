@@ -1,4 +1,4 @@
-use Rattle.eo_lists.proofs.Building.{grows_on}
+use Rattle.eo_term.proofs.Growing.{grows_on}
 use Rattle.eo_lists.proofs.build.put_before.Goals as goal
 
 pub returns-clause-grows : goal.returns-clause-grows

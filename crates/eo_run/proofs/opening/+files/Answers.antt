@@ -18,7 +18,7 @@ use Rattle.eo_run.specs.declared.Verdict.{Verdict}
 use Rattle.eo_run.specs.declared.opening.Source.{Source}
 use Rattle.eo_run.specs.declared.reading.Asked.{Asked}
 use Rattle.eo_run.specs.declared.reading.Stop.{Stop}
-use Rattle.eo_run.proofs.Ending.{tail_of}
+use Rattle.std.proofs.lemmas.List.{take_rest}
 use Rattle.eo_base.proofs.Answering.{at_exit}
 use Rattle.eo_run.proofs.Taking.{opens-later, taken-later, left-later, takes-later, open-later, ends-later, goes-on, goes-behind, leaves-behind, leaves-reference, finishes-here, stops-behind, stopped-here, extends-trans, stays-trans, reads-trans, stays-length, one-less, include-unfolded, refer-unfolded, refer-unbegun, unbegun-present, includes-again, includes-deep, includes-absent, includes-runs, includes-stops, refers-absent, refers-runs, refers-stops}
 use Rattle.eo_run.proofs.Numbers.{numbered-later, denotes-here, placed-in, ready-runs, opens-done, opens-exit}
@@ -112,7 +112,7 @@ take_piece-commands-preserved g t c =
     let a = c.in-Ok-Some.asked in
     let asked : IsAsked (origin_of s.from) st new c.commands.collector d rest a = subst (λ (o : Option Asked). ChecksPiece (origin_of s.from) (Ok o) st new c.commands.collector d rest) c.in-Ok-Some.field-0-is c.in-Ok-Some.ensures.checks in
     let opened = c.in_ok-open_next-in-Ok-Some.ensures in
-    let tail = tail_of rest a.used in
+    let tail = take_rest rest a.used in
     record {
       leads = subst (λ (q : List ℕ). Told told (λ files. LeadsIn files s old last (behind c.args.collector.now c.args.piece.now) (behind d q))) (sym tail)
           (goes-behind told s old st new included (behind c.args.collector.now c.args.piece.now) (behind c.commands.collector rest) i.leads (behind d (drop a.used rest)) a.next a.at asked.asks last paths tt

@@ -9,7 +9,8 @@ use Rattle.eo_run.specs.Reading.{LeadsOn, behind, count_of, ChecksPiece}
 use Rattle.eo_base.proofs.Answering.{at_exit}
 use Rattle.eo_run.proofs.Exits.{refused-piece, asked-piece}
 use Rattle.eo_run.proofs.Running.{on-trans, on-fails, on-command}
-use Rattle.eo_run.proofs.Ending.{fed-more, fed-command, fed-size, fed-gives, fed-live, fed-waiting, fed-here, fed-smaller, fed-fault, tail_of, tail_later}
+use Rattle.eo_run.proofs.Ending.{fed-more, fed-command, fed-size, fed-gives, fed-live, fed-waiting, fed-here, fed-smaller, fed-fault, tail_later}
+use Rattle.std.proofs.lemmas.List.{take_rest}
 use Rattle.eo_run.proofs.reading.check_piece.Goals as goal
 
 pub returns-in-Fault-clause-checks : goal.returns-in-Fault-clause-checks
@@ -34,7 +35,7 @@ commands-smaller c =
     let i = c.commands.invariant in
     let rest = c.commands.rest.now in
     let u = c.in-Command.used in
-    subst (λ (q : List ℕ). count_of (behind c.feed.new.self q false []) < count_of (behind c.commands.collector rest false [])) (sym (tail_of rest u))
+    subst (λ (q : List ℕ). count_of (behind c.feed.new.self q false []) < count_of (behind c.commands.collector rest false [])) (sym (take_rest rest u))
     (fed-smaller c.pieces_law.ensures c.answers_law.ensures (origin_of c.args.from) c.commands.collector c.feed.new.self i.live i.waiting rest c.in-Command.ensures.0 u c.in-Command.ensures.1)
 
 pub returns-in-More-clause-checks : goal.returns-in-More-clause-checks
@@ -85,7 +86,7 @@ returns-then-asks-clause-checks c =
     let here-before = i.here in
     let fewer-before = i.fewer in
     asked-piece from c.args.session.now.state c.commands.session.state c.check_command.new.session.state c.args.collector.now old d piece rest (drop u rest) k.command _ i.leads (fed-gives law alone from old d i.live i.waiting rest is u e)
-    (ap (λ (q : List ℕ). drop (length piece - length q) piece) (tail_of rest u) ∙ tail_later piece rest u i.tail i.size size) (omega arith)
+    (ap (λ (q : List ℕ). drop (length piece - length q) piece) (take_rest rest u) ∙ tail_later piece rest u i.tail i.size size) (omega arith)
     live (fed-waiting law alone from old d i.live i.waiting rest is u e) (omega arith) (omega arith) (c.in_ok-next-in-Command.ensures.checks k.command k.phase k.is) (c.start-at.ensures live ∙ ap start_of k.is)
 
 pub commands-preserved : goal.commands-preserved
@@ -110,7 +111,7 @@ commands-preserved c =
     let here-before = i.here in
     let size-before = i.size in
     let fewer-before = i.fewer in
-    let tail = sym (tail_of rest u) in
+    let tail = sym (take_rest rest u) in
     record {
       leads = subst (λ (q : List ℕ). LeadsOn from c.args.session.now.state (behind first piece) new (behind d q)) tail (on-trans from _ c.commands.session.state new _ _ _ i.leads
           (on-command from c.commands.session.state (behind old rest) (behind d (drop u rest)) k.command (fed-gives law alone from old d i.live i.waiting rest is u e) new

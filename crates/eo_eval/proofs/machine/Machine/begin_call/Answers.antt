@@ -1,6 +1,7 @@
 use Rattle.std.proofs.Common.{◌≡◌, ◌∙◌, false, length, sym, ap, subst, refl, arith}
 use Rattle.std.specs.List.{list_any}
 use Rattle.std.specs.Prelude.{is_some}
+use Rattle.eo_base.proofs.Tests.{none_is}
 use Rattle.indexmap.proofs.CallerLemmas.{insert_entry-new}
 use Rattle.indexmap.specs.IndexMap.{get}
 use Rattle.eo_base.specs.Limits.{calls_limit}
@@ -10,7 +11,7 @@ use Rattle.eo_eval.specs.Reading.{begun, read_call}
 use Rattle.eo_eval.specs.Ready.{Calling, called_at, told_call, waiting_in}
 use Rattle.eo_eval.specs.contracts.calls.CallKeyPartialEq.TheImpl as key_eq
 use Rattle.eo_eval.specs.declared.stack.Known.TheVariants as known
-use Rattle.eo_eval.proofs.Beginning.{found_called, none_of, below_test, above_test, full_told, began_called, began_calling, began_told}
+use Rattle.eo_eval.proofs.Beginning.{found_called, below_test, above_test, full_told, began_called, began_calling, began_told}
 use Rattle.eo_eval.proofs.Keys.{begun_found}
 use Rattle.eo_eval.proofs.Running.{begun_count}
 use Rattle.eo_eval.proofs.machine.Machine.begin_call.Goals as goal
@@ -50,7 +51,7 @@ returns-clause-calling c =
     let fresh : list_any (call_eq (read_call t.trees key)) b ≡ false = sym (begun_found t.trees c.laws.ensures.same key c.requires.key e.calls.entries c.requires.calling.held.keys_live) ∙ absent in
     let count : length b ≡ c.len-place.result = begun_count t.trees e.calls.entries ∙ sym c.len-place.ensures.len in
     let room = below_test (length b) calls_limit (omega (arith, count, c.if-place-ge-CALLS.false)) in
-    let added = c.in_ok-insert.ensures.entries ∙ insert_entry-new key_eq.ghosts.eq e.calls key known.Open (none_of (get key_eq.ghosts.eq e.calls key) absent) in
+    let added = c.in_ok-insert.ensures.entries ∙ insert_entry-new key_eq.ghosts.eq e.calls key known.Open (none_is (get key_eq.ghosts.eq e.calls key) absent) in
     subst (Calling k t typed later) (sym (ap (called_at t later) c.len-place.ensures.len ∙ began_called k t typed e later key c.requires.key c.requires.calling refl refl refl added refl refl fresh room))
     (began_calling k t typed e later key c.requires.key c.requires.calling refl refl refl added refl refl fresh room)
 
@@ -67,6 +68,6 @@ returns-clause-told c =
     let fresh : list_any (call_eq (read_call t.trees key)) b ≡ false = sym (begun_found t.trees c.laws.ensures.same key c.requires.key e.calls.entries c.requires.calling.held.keys_live) ∙ absent in
     let count : length b ≡ c.len-place.result = begun_count t.trees e.calls.entries ∙ sym c.len-place.ensures.len in
     let room = below_test (length b) calls_limit (omega (arith, count, c.if-place-ge-CALLS.false)) in
-    let added = c.in_ok-insert.ensures.entries ∙ insert_entry-new key_eq.ghosts.eq e.calls key known.Open (none_of (get key_eq.ghosts.eq e.calls key) absent) in
+    let added = c.in_ok-insert.ensures.entries ∙ insert_entry-new key_eq.ghosts.eq e.calls key known.Open (none_is (get key_eq.ghosts.eq e.calls key) absent) in
     ap (λ y. told_call k t later y c.args.left) (ap (called_at t later) c.len-place.ensures.len ∙ began_called k t typed e later key c.requires.key c.requires.calling refl refl refl added refl refl fresh room)
     ∙ began_told k t typed e later key c.requires.key c.requires.calling refl refl refl added refl refl fresh room c.args.left c.requires.left

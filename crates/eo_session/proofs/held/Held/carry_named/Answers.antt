@@ -22,7 +22,7 @@ next-carried-requires c =
 pub set_terms-requires : goal.set_terms-requires
 set_terms-requires c =
     let bs = c.args.names.now in
-    omega (arith, carried_long c.args.self.now c.carry_list.new.self c.in_ok-ids.ids.items c.in_ok-left.left c.in_ok-left.ensures, ap length c.in_ok-ids.ensures, ap length c.next-carried.ensures, length-map bs (λ (b : Binding). b.1))
+    omega (arith, carried_long c.args.self.now c.carry_list.new.self c.in_ok-ids.ids.items c.in_ok-left.left c.in_ok-left.ensures, ap length c.in_ok-ids.ensures, ap length c.next-carried.ensures, ap length c.rest.ensures, length-map bs (λ (b : Binding). b.1))
 
 pub returns-clause-leaves : goal.returns-clause-leaves
 returns-clause-leaves c =
@@ -47,11 +47,11 @@ returns-clause-names c =
     let mid = c.carry_list.new.self in
     let k = c.in_ok-left.ensures in
     let same = ap (map (tree_in mid.table)) (sym c.next-carried.ensures) ∙ k.trees ∙ ap (map (tree_in h.table)) c.in_ok-ids.ensures in
-    labels_moved h.table mid.table c.args.names.now c.set_terms.new.names c.set_terms.ensures.names (ap (map (tree_in mid.table)) c.set_terms.ensures.terms ∙ ap (drop 1) same)
+    labels_moved h.table mid.table c.args.names.now c.set_terms.new.names c.set_terms.ensures.names (ap (map (tree_in mid.table)) (c.set_terms.ensures.terms ∙ c.rest.ensures) ∙ ap (drop 1) same)
 
 pub returns-clause-below : goal.returns-clause-below
 returns-clause-below c =
     let n = length c.carry_list.new.self.table.trees in
     let k = c.in_ok-left.ensures in
     let low = All-tail (λ (j : ℕ). j < n) c.next-carried.result c.next-carried.new.self (subst (All (λ (j : ℕ). j < n)) c.next-carried.ensures k.below) in
-    bindings_below n c.set_terms.new.names (subst (All (λ (j : ℕ). j < n)) (sym c.set_terms.ensures.terms) low)
+    bindings_below n c.set_terms.new.names (subst (All (λ (j : ℕ). j < n)) (sym (c.set_terms.ensures.terms ∙ c.rest.ensures)) low)

@@ -1,11 +1,12 @@
 use Rattle.std.proofs.Common.{◌≡◌, ℕ, List, [], ◌∷◌, ◌++◌, ap, sym, subst, ◌∙◌}
 use Rattle.std.specs.Prelude.{Result}
+use Rattle.eo_base.proofs.ChecksLemmas.{behind, behind-none}
 use Rattle.eo_term.specs.Growth.{tree_in, trees_in}
 use Rattle.eo_session.specs.Held.{state_of}
 use Rattle.eo_session.specs.Step.{premises}
 use Rattle.eo_session.specs.Using.{AreValueIds, GivesIds}
 use Rattle.eo_session.specs.declared.refused.Refused.{Refused}
-use Rattle.eo_session.proofs.Concluding.{behind, behind-none, premises-next, premises-fault, premises-end}
+use Rattle.eo_session.proofs.Concluding.{premises-next, premises-fault, premises-end}
 use Rattle.eo_base.proofs.Answering.{at_exit}
 use Rattle.eo_session.proofs.Sessions.{refuses_on}
 use Rattle.eo_session.proofs.Used.{no_ids, ids_push, trees_more, since_self}

@@ -1,9 +1,9 @@
 use Rattle.std.proofs.Common.{◌≡◌}
+use Rattle.eo_base.proofs.ChecksLemmas.{behind}
 use Rattle.eo_term.specs.Growth.{trees_in}
 use Rattle.eo_session.specs.Held.{state_of, Keeps}
 use Rattle.eo_session.specs.Step.{values}
 use Rattle.eo_session.specs.Using.{AreValueIds}
-use Rattle.eo_session.proofs.Concluding.{behind}
 use Rattle.eo_session.proofs.held.Held.values.Given as goal
 
 -- the values found so far, and then those of the terms that are left, are those of all

@@ -3,7 +3,7 @@ use Rattle.eo_base.specs.Limits.{limits}
 use Rattle.eo_sexp.specs.declared.reader.ReaderTurn.TheVariants as turn
 use Rattle.eo_sexp.specs.Reader.{RunsTo, Runs}
 use Rattle.eo_sexp.proofs.LimitFacts.{command_is}
-use Rattle.eo_sexp.proofs.FedAnswers.{rest-of}
+use Rattle.std.proofs.lemmas.List.{take_rest}
 use Rattle.eo_sexp.proofs.RunSteps.{runs-trans}
 use Rattle.eo_sexp.proofs.AheadRuns.{runs-behind}
 use Rattle.eo_sexp.proofs.reader.Reader.run_within.Goals as goal
@@ -16,7 +16,7 @@ step-requires-clause-room c =
     let b = c.args.buffer.now in
     let rest = c.args.rest.now in
     let taken = c.loop-taken.taken in
-    omega (arith, c.requires.room, ap length (rest-of rest taken), length-drop taken rest, ap length c.loop-taken.invariant.bytes, length-append b.bytes (take taken rest), length-take-le taken rest c.loop-taken.invariant.within)
+    omega (arith, c.requires.room, ap length (take_rest rest taken), length-drop taken rest, ap length c.loop-taken.invariant.bytes, length-append b.bytes (take taken rest), length-take-le taken rest c.loop-taken.invariant.within)
 
 pub loop-taken-smaller : goal.loop-taken-smaller
 loop-taken-smaller c = let some = c.in_ok-step.ensures.moves c.in-Goes.is in omega (arith, some, c.loop-taken-test.true)
@@ -30,11 +30,11 @@ loop-taken-preserved c =
     let rest = c.args.rest.now in
     let left = take (length rest - c.loop-taken.taken) (drop c.loop-taken.taken rest) in
     let one = subst (λ t. Runs limits c.loop-taken.buffer c.loop-taken.self left k i t c.step.new.buffer c.step.new.self) c.in-Goes.is c.in_ok-step.ensures.runs in
-    let all = runs-behind limits c.args.buffer.now c.loop-taken.buffer c.step.new.buffer c.args.self.now c.loop-taken.self c.step.new.self rest left c.loop-taken.taken k c.loop-taken.lines i turn.Goes c.loop-taken.invariant (rest-of rest c.loop-taken.taken) one in
+    let all = runs-behind limits c.args.buffer.now c.loop-taken.buffer c.step.new.buffer c.args.self.now c.loop-taken.self c.step.new.self rest left c.loop-taken.taken k c.loop-taken.lines i turn.Goes c.loop-taken.invariant (take_rest rest c.loop-taken.taken) one in
     let count : c.loop-taken.lines + i + 0 ≡ c.loop-taken.lines + i = omega arith in
     subst (λ j. RunsTo limits c.args.buffer.now c.args.self.now rest (n + m) j c.run_plain-in-Goes.new.buffer c.step.new.self) count
     (runs-trans limits c.args.buffer.now c.step.new.buffer c.run_plain-in-Goes.new.buffer c.args.self.now c.step.new.self c.step.new.self rest n m (c.loop-taken.lines + i) 0 all.1
-    (subst (λ l. RunsTo limits c.step.new.buffer c.step.new.self l m 0 c.run_plain-in-Goes.new.buffer c.step.new.self) (rest-of rest n) c.in_ok-taken-in-Goes.ensures))
+    (subst (λ l. RunsTo limits c.step.new.buffer c.step.new.self l m 0 c.run_plain-in-Goes.new.buffer c.step.new.self) (take_rest rest n) c.in_ok-taken-in-Goes.ensures))
 
 pub returns-in_default : goal.returns-in_default
 returns-in_default c =
@@ -42,5 +42,5 @@ returns-in_default c =
     let i = c.in_ok-step.step.lines in
     let rest = c.args.rest.now in
     let left = take (length rest - c.loop-taken.taken) (drop c.loop-taken.taken rest) in
-    let all = runs-behind limits c.args.buffer.now c.loop-taken.buffer c.step.new.buffer c.args.self.now c.loop-taken.self c.step.new.self rest left c.loop-taken.taken k c.loop-taken.lines i c.in_ok-step.step.turn c.loop-taken.invariant (rest-of rest c.loop-taken.taken) c.in_ok-step.ensures.runs in
+    let all = runs-behind limits c.args.buffer.now c.loop-taken.buffer c.step.new.buffer c.args.self.now c.loop-taken.self c.step.new.self rest left c.loop-taken.taken k c.loop-taken.lines i c.in_ok-step.step.turn c.loop-taken.invariant (take_rest rest c.loop-taken.taken) c.in_ok-step.ensures.runs in
     record { counts = all.0; runs = all.1 }

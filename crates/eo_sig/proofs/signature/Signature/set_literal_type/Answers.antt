@@ -1,5 +1,6 @@
 use Rattle.std.proofs.Common.{◌≡◌, Bool, true, false, not, [], Option, Some, None, is_some, refl, sym, ap, ◌∙◌, subst, true≢false}
 use Rattle.std.specs.Prelude.{is_none, option_map, if◌then◌else◌}
+use Rattle.eo_base.proofs.Tests.{is_nothing}
 use Rattle.eo_base.specs.declared.FaultName.TheVariants as fault
 use Rattle.eo_term.specs.Terms.{tree_at}
 use Rattle.eo_sig.specs.Signature as sig
@@ -13,10 +14,6 @@ use Rattle.eo_sig.proofs.signature.Signature.set_literal_type.Goals as goal
 none_read : {X Y : Type 0} (f : X → Y) (o : Option X) (p : Option Y) (b : Bool) → option_map f o ≡ p → b ≡ is_some o → is_none p ≡ not b
 none_read f None p b e g = ap is_none (sym e) ∙ ap not (sym g)
 none_read f (Some x) p b e g = ap is_none (sym e) ∙ ap not (sym g)
-
-is_nothing : {X : Type 0} (p : Option X) → is_none p ≡ true → p ≡ None
-is_nothing None e = refl
-is_nothing (Some x) e = absurd (true≢false (sym e))
 
 told : (a b : Bool) (p q : Bool) → a ≡ p → b ≡ q → (if a then sig.first_wrong b true else Some fault.Redeclared) ≡ (if p then sig.first_wrong q true else Some fault.Redeclared)
 told a b p q e g = λ i. if e i then sig.first_wrong (g i) true else Some fault.Redeclared
