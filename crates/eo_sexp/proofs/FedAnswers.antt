@@ -13,6 +13,7 @@ use Rattle.eo_sexp.specs.Built.{Built, nothing}
 use Rattle.eo_sexp.specs.Texts.{Phase, spot_after}
 use Rattle.eo_sexp.specs.Collecting.{Collecting, Within, AtCommand, Failed, NoMemory, here_of, IsWithin, IsLive, ready, fed_from, fed_with, fed_answer, HasNoFault, HasRoom, Feeds}
 use Rattle.eo_sexp.specs.Machine.{phase_of, meaning_at, meaning, IsPlaced, IsSoundAt, IsSound, TakesByte, TakesBytes, answer_at, answer_of, FeedsByte, GoesOver, StopsIn}
+use Rattle.eo_sexp.proofs.Callers.{live-within}
 use Rattle.eo_sexp.proofs.Feeding.{joins_pieces}
 use Rattle.eo_sexp.proofs.Counting.{counts_pieces}
 use Rattle.eo_sexp.proofs.MachineSteps.{sound-is, placed-left}

@@ -1,4 +1,5 @@
 use Rattle.std.proofs.Common.{sym, arith, ◌+◌, length, ap}
+use Rattle.std.proofs.lemmas.List.{take_rest}
 use Rattle.eo_sexp.specs.Machine.{meaning}
 use Rattle.eo_sexp.proofs.FedAnswers.{feeding-stands, feeding-begins, feeding-ends, feed-some, feed-none, run-none, run-some, run-room}
 use Rattle.eo_sexp.proofs.incremental.Machine.feed.Goals as goal
