@@ -1,14 +1,10 @@
 //! The program `ethos`: it checks proofs against reference files, and loads signatures.
 #![tactic(auto)]
 
-mod program;
-mod words;
-
 use eo_base::{Status, Text};
 use eo_io::{DiskLibrary, StdSink};
+use eo_main::{OUT_OF_MEMORY, ethos_main};
 use eo_run::print_line;
-use program::OUT_OF_MEMORY;
-pub use program::{completeness_law, ethos_main, run_in_memory};
 use std::alloc::AllocError;
 use std::env;
 use std::io::ErrorKind;
@@ -59,6 +55,3 @@ fn words_of(rt: &HostRuntime) -> Result<Vec<Text>, AllocError> {
     }
     Ok(words)
 }
-
-#[cfg(test)]
-mod tests;

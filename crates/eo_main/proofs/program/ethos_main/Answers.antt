@@ -1,0 +1,73 @@
+use Rattle.std.proofs.Common.{◌≡◌, ◌∙◌, ap, sym, refl, arith, Some, None}
+use Rattle.eo_main.specs.CommandLine.{request}
+use Rattle.eo_main.specs.declared.Request.{Request}
+use Rattle.eo_main.specs.declared.Request.TheVariants.{Check, Load, Bench}
+use Rattle.eo_main.proofs.EndLemmas.{reading_ends, no_reading_ends, usage_ends, bench_ends_as, own_has_cause, own_ends, own_usage, own_bench, own_memory, wants_files, asks_bench}
+use Rattle.eo_main.proofs.AbsentLemmas.{absent_by_letter}
+use Rattle.eo_main.proofs.Refuting.{ok_refutes}
+use Rattle.eo_main.proofs.program.ethos_main.Goals as goal
+
+pub returns-in-Ok-Some-Check-clause-refutes : goal.returns-in-Ok-Some-Check-clause-refutes
+returns-in-Ok-Some-Check-clause-refutes g c =
+    let reading : Some (Check c.in-Ok-Some-Check.job) ≡ request c.args.words.now =
+    sym (c.in-Ok-Some-Check.field-0-is ∙ ap (λ (r : Request). Some r) c.in-Ok-Some-Check.field-0-0-is) ∙ c.in-Ok-Some-Check.ensures in
+    ok_refutes c.soundness_law.ensures.correct _ _ _ _ _ (reading_ends _ _ _ _ _ _ reading c.check.ensures.exact)
+
+pub returns-in-Ok-None-clause-exact : goal.returns-in-Ok-None-clause-exact
+returns-in-Ok-None-clause-exact g c =
+    let reading : None ≡ request c.args.words.now = sym c.in-Ok-None.field-0-is ∙ c.in-Ok-None.ensures in
+    reading_ends _ _ _ _ _ _ reading (no_reading_ends _ _ _ _ (usage_ends _ _ _ c.print_line.ensures.due))
+
+pub returns-in-Ok-None-clause-absent : goal.returns-in-Ok-None-clause-absent
+returns-in-Ok-None-clause-absent g c = λ files. absent_by_letter _ 117 _ _ _ _ _ _ _ (omega arith) c.print_line.ensures.due
+
+pub returns-in-Err-clause-absent : goal.returns-in-Err-clause-absent
+returns-in-Err-clause-absent g c = λ files. absent_by_letter _ 111 _ _ _ _ _ _ _ (omega arith) c.print_line-in-Err.ensures.due
+
+-- ---- what needs no files
+
+pub returns-in-Ok-Some-Check-clause-own : goal.returns-in-Ok-Some-Check-clause-own
+returns-in-Ok-Some-Check-clause-own g c =
+    let reading : Some (Check c.in-Ok-Some-Check.job) ≡ request c.args.words.now =
+    sym (c.in-Ok-Some-Check.field-0-is ∙ ap (λ (r : Request). Some r) c.in-Ok-Some-Check.field-0-0-is) ∙ c.in-Ok-Some-Check.ensures in
+    λ own. absurd (wants_files (Some (Check c.in-Ok-Some-Check.job)) (request c.args.words.now) reading refl own)
+
+pub returns-in-Ok-Some-Load-clause-own : goal.returns-in-Ok-Some-Load-clause-own
+returns-in-Ok-Some-Load-clause-own g c =
+    let reading : Some (Load c.in-Ok-Some-Load.file) ≡ request c.args.words.now =
+    sym (c.in-Ok-Some-Load.field-0-is ∙ ap (λ (r : Request). Some r) c.in-Ok-Some-Load.field-0-0-is) ∙ c.in-Ok-Some-Load.ensures in
+    λ own. absurd (wants_files (Some (Load c.in-Ok-Some-Load.file)) (request c.args.words.now) reading refl own)
+
+pub returns-in-Ok-None-clause-own : goal.returns-in-Ok-None-clause-own
+returns-in-Ok-None-clause-own g c =
+    let reading : None ≡ request c.args.words.now = sym c.in-Ok-None.field-0-is ∙ c.in-Ok-None.ensures in
+    λ own. own_ends _ _ _ _ _ reading (own_usage _ _ _ c.print_line.ensures.due)
+
+pub returns-in-Err-clause-own : goal.returns-in-Err-clause-own
+returns-in-Err-clause-own g c = λ own. own_memory _ _ _ (request c.args.words.now) c.print_line-in-Err.ensures.due
+
+-- ---- a bench
+
+pub returns-in-Ok-Some-Bench-clause-exact : goal.returns-in-Ok-Some-Bench-clause-exact
+returns-in-Ok-Some-Bench-clause-exact g c =
+    let n = c.in-Ok-Some-Bench.n in
+    let reading : Some (Bench n) ≡ request c.args.words.now =
+    sym (c.in-Ok-Some-Bench.field-0-is ∙ ap (λ (r : Request). Some r) c.in-Ok-Some-Bench.field-0-0-is) ∙ c.in-Ok-Some-Bench.ensures in
+    reading_ends _ _ _ _ _ _ reading (bench_ends_as _ _ n _ _ c.run_bench.ensures.exact)
+
+pub returns-in-Ok-Some-Bench-clause-own : goal.returns-in-Ok-Some-Bench-clause-own
+returns-in-Ok-Some-Bench-clause-own g c =
+    let n = c.in-Ok-Some-Bench.n in
+    let reading : Some (Bench n) ≡ request c.args.words.now =
+    sym (c.in-Ok-Some-Bench.field-0-is ∙ ap (λ (r : Request). Some r) c.in-Ok-Some-Bench.field-0-0-is) ∙ c.in-Ok-Some-Bench.ensures in
+    λ own. own_ends _ _ _ _ _ reading (own_bench _ n _ _ c.run_bench.ensures.exact)
+
+pub returns-in-Ok-Some-Bench-clause-cause : goal.returns-in-Ok-Some-Bench-clause-cause
+returns-in-Ok-Some-Bench-clause-cause g c = own_has_cause _ _ _ _ _ c.run_bench.ensures.no_read_fault c.run_bench.ensures.cause
+
+pub returns-in-Ok-Some-Bench-clause-absent : goal.returns-in-Ok-Some-Bench-clause-absent
+returns-in-Ok-Some-Bench-clause-absent g c =
+    let n = c.in-Ok-Some-Bench.n in
+    let reading : Some (Bench n) ≡ request c.args.words.now =
+    sym (c.in-Ok-Some-Bench.field-0-is ∙ ap (λ (r : Request). Some r) c.in-Ok-Some-Bench.field-0-0-is) ∙ c.in-Ok-Some-Bench.ensures in
+    λ files. absurd (asks_bench (Some (Bench n)) (request c.args.words.now) reading refl files)

@@ -1,0 +1,30 @@
+use Rattle.std.proofs.Common.{ap, ap₂, ◌≡◌, ◌∙◌, ◌||◌, Bool}
+use Rattle.std.proofs.lemmas.Result.{IfOk-weaker}
+use Rattle.clap.specs.Simple.{app_of_fields}
+use Rattle.clap.specs.Words.{App, app_of, with_rule, with_subcommand}
+use Rattle.eo_main.specs.CommandLine as line
+use Rattle.eo_main.proofs.words.program.Goals as goal
+
+abbrev or : Bool → Bool → Bool
+or a b = a || b
+
+pub returns : goal.returns
+returns c =
+    let check_is : app_of c.in_ok-check.check ≡ line.check_command = c.in_ok-check.ensures.shape c.positional.ensures.local
+    ∙ ap₂ with_rule (c.in_ok-arg-3.ensures.shape c.flag.ensures.local
+    ∙ ap₂ with_rule (c.in_ok-arg-2.ensures.shape c.valued-2.ensures.local
+    ∙ ap₂ with_rule (c.in_ok-arg.ensures.shape c.valued.ensures.local ∙ ap₂ with_rule c.new.ensures.app c.valued.ensures.rule)
+    c.valued-2.ensures.rule) c.flag.ensures.rule) c.positional.ensures.rule in
+    let load_is : app_of c.in_ok-load.load ≡ line.load_command =
+    c.in_ok-load.ensures.shape c.positional-2.ensures.local ∙ ap₂ with_rule c.new-2.ensures.app c.positional-2.ensures.rule in
+    let ethos_is : app_of c.subcommand_required.result ≡ line.requires_subcommand (app_of c.new-4.result) = ap app_of_fields c.subcommand_required.ensures in
+    let check_local = c.in_ok-check.ensures.globals ∙ ap₂ or (c.in_ok-arg-3.ensures.globals ∙ ap₂ or (c.in_ok-arg-2.ensures.globals
+    ∙ ap₂ or (c.in_ok-arg.ensures.globals ∙ ap₂ or c.new.ensures.local c.valued.ensures.local) c.valued-2.ensures.local) c.flag.ensures.local) c.positional.ensures.local in
+    let load_local = c.in_ok-load.ensures.globals ∙ ap₂ or c.new-2.ensures.local c.positional-2.ensures.local in
+    let bench_is : app_of c.in_ok-bench.bench ≡ line.bench_command =
+    c.in_ok-bench.ensures.shape c.positional-3.ensures.local ∙ ap₂ with_rule c.new-3.ensures.app c.positional-3.ensures.rule in
+    let with_check_is = c.in_ok-subcommand.ensures.shape check_local
+    ∙ ap₂ with_subcommand (ethos_is ∙ ap line.requires_subcommand c.new-4.ensures.app) (ap (λ (a : App). a.top) check_is) in
+    let bench_local = c.in_ok-bench.ensures.globals ∙ ap₂ or c.new-3.ensures.local c.positional-3.ensures.local in
+    let with_load_is = c.in_ok-subcommand-2.ensures.shape load_local ∙ ap₂ with_subcommand with_check_is (ap (λ (a : App). a.top) load_is) in
+    IfOk-weaker c.subcommand-3.result _ _ (λ m h. h.shape bench_local ∙ ap₂ with_subcommand with_load_is (ap (λ (a : App). a.top) bench_is)) c.subcommand-3.ensures

@@ -1,0 +1,92 @@
+-- The words of the command line, read as `clap` reads them.
+use Rattle.std.specs.Prelude.{ℕ, nat_le, ◌&&◌, List, [], ◌∷◌, fold, Option, Some, None, Bool, true, false, codes, bytes_eq, option_map, option_and_then, if◌then◌else◌}
+use Rattle.std.specs.Option.{option_map_or}
+use Rattle.clap.specs.declared.builder.action.ArgAction.TheVariants.{Set, SetTrue}
+use Rattle.clap.specs.Words.{App, Row, Rule, Text, first_of, new_app, new_rule, subcommand_of, takes, with_rule, with_subcommand}
+use Rattle.eo_lit.specs.Literals.{numeral}
+use Rattle.eo_run.specs.declared.CheckJob.{CheckJob}
+use Rattle.eo_main.specs.declared.Request.{Request}
+use Rattle.eo_main.specs.declared.Request.TheVariants.{Check, Load, Bench}
+
+-- ---- the commands
+
+-- `--name=VALUE` or `--name VALUE`
+abbrev pub valued : Text → Rule
+valued name = record (new_rule name) { long = Some name; action = Some Set }
+
+-- `--name`
+abbrev pub flag : Text → Rule
+flag name = record (new_rule name) { long = Some name; action = Some SetTrue }
+
+-- a word that has to be there
+abbrev pub positional : Text → Rule
+positional name = record (new_rule name) { action = Some Set; required = true }
+
+-- a command with these arguments
+abbrev pub command : Text → List Rule → App
+command name rules = fold with_rule (new_app name) rules
+
+-- `check [--include=F] [--reference=F] [--closed] PROOF`
+abbrev pub check_command : App
+check_command =
+    command (codes "check")
+    (valued (codes "include") ∷ valued (codes "reference") ∷ flag (codes "closed") ∷ positional (codes "PROOF") ∷ [])
+
+-- `load FILE`
+abbrev pub load_command : App
+load_command = command (codes "load") (positional (codes "FILE") ∷ [])
+
+-- `bench N`
+abbrev pub bench_command : App
+bench_command = command (codes "bench") (positional (codes "N") ∷ [])
+
+abbrev pub requires_subcommand : App → App
+requires_subcommand a = record a { top = record a.top { subcommand_required = true } }
+
+-- `ethos`, with one of the three
+abbrev pub program : App
+program =
+    with_subcommand (with_subcommand (with_subcommand (requires_subcommand (new_app (codes "ethos"))) check_command.top) load_command.top) bench_command.top
+
+-- ---- what the words ask for
+
+-- a flag's value is the text `true` where it stands among the words
+abbrev pub is_set : Text → List Row → Bool
+is_set name rows = option_map_or (λ value. bytes_eq value (codes "true")) (first_of name rows) false
+
+abbrev pub job_of : List Row → (proof : Text) → CheckJob
+job_of rows proof = record {
+  include = first_of (codes "include") rows;
+  reference = first_of (codes "reference") rows;
+  proof = proof;
+  closed = is_set (codes "closed") rows;
+}
+
+abbrev pub check_of : List Row → Option Request
+check_of rows = option_map (λ proof. Check (job_of rows proof)) (first_of (codes "PROOF") rows)
+
+abbrev pub load_of : List Row → Option Request
+load_of rows = option_map Load (first_of (codes "FILE") rows)
+
+-- the most hops of a bench
+abbrev pub bench_limit : ℕ
+bench_limit = 100000
+
+-- a number from 1 to the limit, in digits without sign and without a leading zero
+abbrev pub size_of : Text → Option ℕ
+size_of word = option_and_then (λ n. if nat_le 1 n && nat_le n bench_limit then Some n else None) (numeral word)
+
+abbrev pub bench_of : List Row → Option Request
+bench_of rows = option_and_then (λ word. option_map Bench (size_of word)) (first_of (codes "N") rows)
+
+-- by the name of the command that stands among the words, and what was found for it
+abbrev pub request_of : Text × List Row → Option Request
+request_of found =
+    if bytes_eq found.0 (codes "check") then check_of found.1
+    else if bytes_eq found.0 (codes "load") then load_of found.1
+    else if bytes_eq found.0 (codes "bench") then bench_of found.1
+    else None
+
+-- The reading of the words, the first of which is the program's name: none where `clap` does not take them, or a bench has no size.
+unfoldable pub request : List Text → Option Request
+request words = if takes program words then option_and_then request_of (subcommand_of program words) else None

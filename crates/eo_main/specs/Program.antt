@@ -1,0 +1,66 @@
+-- What is due for the words, and what a run proves.
+use Rattle.std.specs.Prelude.{◌≡◌, ℕ, Bool, true, false, List, Option, Some, None, Ok, Err, IfSome}
+use Rattle.eo_base.specs.Causes.{Rose}
+use Rattle.eo_base.specs.declared.Status.{Status}
+use Rattle.eo_base.specs.declared.Status.TheVariants as status
+use Rattle.eo_io.specs.Library.{Files}
+use Rattle.eo_run.specs.Bench.{bench_files, bench_job}
+use Rattle.eo_run.specs.Check.{verdict, load_verdict}
+use Rattle.eo_run.specs.Printed.{Due, verdict_due, usage_due, bench_text}
+use Rattle.eo_run.specs.Refutation.{Refutes, ClosedKeepsRules}
+use Rattle.eo_session.specs.Roots.{live_count}
+use Rattle.eo_run.specs.Run.{Ran, run_check}
+use Rattle.eo_run.specs.Verdict.{Verdict, Correct, Refused}
+use Rattle.eo_run.specs.declared.CheckJob.{CheckJob}
+use Rattle.eo_main.specs.Ends.{Ends, EndsInFull}
+use Rattle.eo_main.specs.declared.Request.{Request}
+use Rattle.eo_main.specs.declared.Request.TheVariants.{Check, Load, Bench}
+
+-- A correct bench tells how many commands were accepted, and how many different trees are alive at the end of its run.
+abbrev pub correct_bench : ℕ → Ran → Due
+correct_bench n (Ok p) = record { status = status.Ok; text = bench_text n p.state.commands (live_count p.state) }
+correct_bench n (Err refusal) = verdict_due (Refused refusal)
+
+abbrev pub judged_bench : ℕ → Verdict → Due
+judged_bench n Correct = correct_bench n (run_check (bench_files n) bench_job)
+judged_bench n v = verdict_due v
+
+unfoldable pub bench_due : ℕ → Due
+bench_due n = judged_bench n (verdict (bench_files n) bench_job)
+
+-- What is due for a reading of the words.
+unfoldable pub due : Files → Option Request → Due
+due files None = usage_due
+due files (Some (Check job)) = verdict_due (verdict files job)
+due files (Some (Load file)) = verdict_due (load_verdict files file)
+due files (Some (Bench n)) = bench_due n
+
+-- what is due does not depend on the library's files
+abbrev pub needs_no_files : Option Request → Bool
+needs_no_files None = true
+needs_no_files (Some (Check job)) = false
+needs_no_files (Some (Load file)) = false
+needs_no_files (Some (Bench n)) = true
+
+-- the words ask for a bench, whose files are not the library's
+abbrev pub is_bench : Option Request → Bool
+is_bench None = false
+is_bench (Some (Check job)) = false
+is_bench (Some (Load file)) = false
+is_bench (Some (Bench n)) = true
+
+-- The run ends as is due for the reading of its words, where files are told.
+abbrev pub EndsAs : Option Files → Status → Option Request → (before after : Option (List ℕ)) → Type 0
+EndsAs told s reading before after = IfSome told (λ files. Ends s (due files reading) before after)
+
+-- Where files are told and no call of the sink failed, all that is due is written, unless there is no memory left.
+abbrev pub Completes : Option Files → Status → Option Request → (before after : Option (List ℕ)) → (sink_before sink_now : ℕ) → Type 0
+Completes told s reading before after sink_before sink_now = (Rose sink_before sink_now → ⊥) → IfSome told (λ files. EndsInFull s (due files reading) before after)
+
+-- A check that ends with status 0, where files are told, refutes what its reference file asserts.
+abbrev pub OkRefutes : Option Files → Status → Option Request → Type 0
+OkRefutes told s reading = (job : CheckJob) → reading ≡ Some (Check job) → s ≡ status.Ok → IfSome told (λ files. Refutes files job)
+
+-- In a closed check, where files are told, the proof declares no program and no rule.
+abbrev pub ClosedKeeps : Option Files → Option Request → Type 0
+ClosedKeeps told reading = (job : CheckJob) → reading ≡ Some (Check job) → IfSome told (λ files. ClosedKeepsRules files job)

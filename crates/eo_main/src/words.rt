@@ -1,0 +1,179 @@
+//! The words of the command line, read by `clap`.
+ghost use Rattle.std.specs.Prelude.{◌≡◌, IfOk, map, option_map, option_and_then, false};
+ghost use Rattle.clap.specs.Words.{app_of, first_of, rule_of, subcommand_rows_of};
+ghost use Rattle.eo_main.specs.CommandLine as line;
+ghost use Rattle.eo_main.specs.Words.{rows_in};
+
+use crate::Request;
+use clap::error::ErrorKind;
+use clap::{Arg, ArgAction, ArgMatches, Command};
+use eo_base::Text;
+use eo_lit::read_numeral;
+use eo_run::CheckJob;
+use std::alloc::{AllocError, Global};
+
+/// The most hops of a bench.
+const BENCH_LIMIT: u128 = 100_000;
+
+/// Reads the words behind the first, which is the program's name and may be any:
+///
+/// - `check [--include=F] [--reference=F] [--closed] PROOF`
+/// - `load FILE`
+/// - `bench N`, with N from 1 to 100,000 in digits without sign and without a leading zero
+///
+/// A value F may also be the next word. Options and PROOF come in any order, and each option at most
+/// once. Behind `--` each word is PROOF, FILE or N. All other words have no reading, a request for help
+/// among them. `Err` is want of memory.
+pub fn read_words(alloc: Global, words: &[Text]) -> Result<Option<Request>, AllocError>
+    ensures { IfOk result (λ reading. reading ≡ line.request words.now) }
+{
+    let texts = texts_of(alloc, words)?;
+    match program(alloc)?.try_get_matches_from(texts.as_slice()) {
+        Ok(matches) => request_of(alloc, &matches),
+        Err(error) => match error.kind() {
+            ErrorKind::OutOfMemory => Err(AllocError),
+            _ => Ok(None),
+        },
+    }
+}
+
+/// The words as `clap` takes them.
+fn texts_of<'a>(alloc: Global, words: &'a [Text]) -> Result<Vec<&'a str>, AllocError>
+    ensures { IfOk result (λ texts. map (λ text. text.now) texts.items ≡ words.now) }
+{
+    let mut texts = Vec::new(alloc);
+    for word in words {
+        texts.push(word.as_str())?;
+    }
+    Ok(texts)
+}
+
+// ---- the command
+
+/// The command `ethos`, with one of its three.
+fn program<'a>(alloc: Global) -> Result<Command<'a>, AllocError>
+    ensures { IfOk result (λ command. app_of command ≡ line.program) }
+{
+    let check = Command::new(alloc, "check")
+        .arg(valued(alloc, "include"))?
+        .arg(valued(alloc, "reference"))?
+        .arg(flag(alloc, "closed"))?
+        .arg(positional(alloc, "PROOF"))?;
+    let load = Command::new(alloc, "load").arg(positional(alloc, "FILE"))?;
+    let bench = Command::new(alloc, "bench").arg(positional(alloc, "N"))?;
+    Command::new(alloc, "ethos")
+        .subcommand_required(true)
+        .subcommand(check)?
+        .subcommand(load)?
+        .subcommand(bench)
+}
+
+/// `--name=VALUE` or `--name VALUE`
+fn valued<'a>(alloc: Global, name: &'a str) -> Arg<'a>
+    ensures rule { rule_of result ≡ line.valued name.entry.now }
+    ensures local { result.global ≡ false }
+{
+    Arg::new(alloc, name).long(name).action(ArgAction::Set)
+}
+
+/// `--name`
+fn flag<'a>(alloc: Global, name: &'a str) -> Arg<'a>
+    ensures rule { rule_of result ≡ line.flag name.entry.now }
+    ensures local { result.global ≡ false }
+{
+    Arg::new(alloc, name).long(name).action(ArgAction::SetTrue)
+}
+
+/// A word that has to be there.
+fn positional<'a>(alloc: Global, name: &'a str) -> Arg<'a>
+    ensures rule { rule_of result ≡ line.positional name.entry.now }
+    ensures local { result.global ≡ false }
+{
+    Arg::new(alloc, name).required(true).action(ArgAction::Set)
+}
+
+// ---- what was found
+
+/// What the command that stands among the words asks for. `Err` is want of memory.
+fn request_of(alloc: Global, matches: &ArgMatches<'_>) -> Result<Option<Request>, AllocError>
+    ensures { IfOk result (λ reading. reading ≡ option_and_then line.request_of (subcommand_rows_of matches.now)) }
+{
+    match matches.subcommand() {
+        Some(("check", found)) => check_of(alloc, found),
+        Some(("load", found)) => load_of(alloc, found),
+        Some(("bench", found)) => Ok(bench_of(found)),
+        _ => Ok(None),
+    }
+}
+
+fn check_of(alloc: Global, found: &ArgMatches<'_>) -> Result<Option<Request>, AllocError>
+    ensures { IfOk result (λ reading. reading ≡ line.check_of (rows_in found.now)) }
+{
+    match value_of(found, "PROOF") {
+        Some(proof) => Ok(Some(Request::Check(job_of(alloc, found, proof)?))),
+        None => Ok(None),
+    }
+}
+
+fn load_of(alloc: Global, found: &ArgMatches<'_>) -> Result<Option<Request>, AllocError>
+    ensures { IfOk result (λ reading. reading ≡ line.load_of (rows_in found.now)) }
+{
+    match value_of(found, "FILE") {
+        Some(file) => Ok(Some(Request::Load(Text::new(alloc, file)?))),
+        None => Ok(None),
+    }
+}
+
+fn bench_of(found: &ArgMatches<'_>) -> Option<Request>
+    ensures { result ≡ line.bench_of (rows_in found.now) }
+{
+    let word = value_of(found, "N")?;
+    Some(Request::Bench(size_of(word.as_bytes())?))
+}
+
+/// The size of a bench, where it has these digits.
+fn size_of(digits: &[u8]) -> Option<u32>
+    ensures { result ≡ line.size_of digits.now }
+{
+    let n = read_numeral(digits)?;
+    if n < 1 || n > BENCH_LIMIT {
+        return None;
+    }
+    Some(n as u32)
+}
+
+/// The job of checking this proof.
+fn job_of(alloc: Global, found: &ArgMatches<'_>, proof: &str) -> Result<CheckJob, AllocError>
+    ensures { IfOk result (λ job. job ≡ line.job_of (rows_in found.now) proof.now) }
+{
+    Ok(CheckJob {
+        include: text_of(alloc, found, "include")?,
+        reference: text_of(alloc, found, "reference")?,
+        proof: Text::new(alloc, proof)?,
+        closed: is_set(found, "closed"),
+    })
+}
+
+/// The value of an option, as a text of its own.
+fn text_of(alloc: Global, found: &ArgMatches<'_>, name: &str) -> Result<Option<Text>, AllocError>
+    ensures { IfOk result (λ text. text ≡ first_of name.now (rows_in found.now)) }
+{
+    match value_of(found, name) {
+        Some(value) => Ok(Some(Text::new(alloc, value)?)),
+        None => Ok(None),
+    }
+}
+
+/// Whether a flag stands among the words: `clap` gives it the text `true` then, and else `false`.
+fn is_set(found: &ArgMatches<'_>, name: &str) -> bool
+    ensures { result ≡ line.is_set name.now (rows_in found.now) }
+{
+    matches!(value_of(found, name), Some("true"))
+}
+
+/// The value of an argument.
+fn value_of<'a>(found: &ArgMatches<'a>, name: &str) -> Option<&'a str>
+    ensures { option_map (λ value. value.now) result ≡ first_of name.now (rows_in found.now) }
+{
+    found.get_str(name)
+}
