@@ -1,8 +1,9 @@
 //! Facts in scopes.
-ghost use Rattle.std.specs.Prelude.{◌≡◌, ℕ, ◌<◌, List, ◌∷◌, ◌++◌, [], false, map, length, None, is_some, option_map};
+ghost use Rattle.std.specs.Prelude.{◌≡◌, ℕ, ◌<◌, List, ◌∷◌, ◌++◌, [], false, true, not, map, length, None, is_some, option_map};
 ghost use Rattle.std.specs.Prelude.{IfOk, IfSome, OnOk, OnErr};
 ghost use Rattle.std.specs.Map.{lookup};
 ghost use Rattle.std.specs.Str.{bytes_eq};
+ghost use Rattle.indexmap.specs.IndexMap.{set_value_at};
 ghost use Rattle.eo_term.specs.Growth.{IsTable};
 ghost use Rattle.eo_term.specs.Terms.{Terms, tree_at};
 ghost use Rattle.eo_term.specs.Tree.{Tree};
@@ -102,26 +103,14 @@ impl Facts {
     #[tactic(auto, using(crate::proofs::Reading::live_is_named))]
     pub fn add(&mut self, name: &[u8], id: Id) -> Result<(), FactRefused>
         ensures adds { (ts : List Tree) → Added result (scopes ts self.old) name.now (tree_at ts id) (scopes ts self.new) }
-        ensures below { (m : ℕ) → AreBelow m self.old → id < m → AreBelow m self.new }
-        ensures same { OnErr result (self.new ≡ self.old) }
-    {
-        if self.has(name) {
-            return Err(FactRefused::Redeclared);
-        }
-        self.add_new(name, id)?;
-        Ok(())
-    }
-
-    /// Adds a fact to the innermost scope, by a name that no fact has. The error is want of memory.
-    pub fn add_new(&mut self, name: &[u8], id: Id) -> Result<(), AllocError>
-        requires { (ts : List Tree) → scope.is_live (scopes ts self.old) name.now ≡ false }
-        ensures adds { OnOk result ((ts : List Tree) → scopes ts self.new ≡ scope.with_fact (scopes ts self.old) name.now (tree_at ts id)) }
         ensures kept { OnOk result (self.new ≡ with_named self.old (name.now, id)) }
         ensures below { (m : ℕ) → AreBelow m self.old → id < m → AreBelow m self.new }
         ensures same { OnErr result (self.new ≡ self.old) }
     {
         let name = Name::new(self.alloc, name)?;
-        self.put(name, id)?;
+        if !self.put(name, id)? {
+            return Err(FactRefused::Redeclared);
+        }
         Ok(())
     }
 
@@ -243,17 +232,21 @@ impl Facts {
         self.refutes | (id == FALSE)
     }
 
-    // Adds a fact to the innermost scope, whose name none has.
-    fn put(&mut self, name: Name, id: Id) -> Result<(), AllocError>
-        requires { lookup (bytes_eq name) self.old.facts ≡ None }
-        ensures added { OnOk result (self.new ≡ with_named self.old (name, id)) }
-        ensures adds { OnOk result ((ts : List Tree) → scopes ts self.new ≡ scope.with_fact (scopes ts self.old) name (tree_at ts id)) }
+    // Adds a fact to the innermost scope, and answers whether no other has the name.
+    fn put(&mut self, name: Name, id: Id) -> Result<bool, AllocError>
+        ensures free { IfOk result (λ added. added ≡ not (is_some (lookup (bytes_eq name) self.old.facts))) }
+        ensures added { IfOk result (λ added. added ≡ true → self.new ≡ with_named self.old (name, id)) }
+        ensures adds { IfOk result (λ added. added ≡ true →
+            (ts : List Tree) → scopes ts self.new ≡ scope.with_fact (scopes ts self.old) name (tree_at ts id)) }
+        ensures taken { IfOk result (λ added. added ≡ false → self.new ≡ self.old) }
         ensures same { OnErr result (self.new ≡ self.old) }
     {
         let refutes = self.refutes_with(id);
-        self.formulas.insert(name, id)?;
+        if !put_new(&mut self.formulas, name, id)? {
+            return Ok(false);
+        }
         self.refutes = refutes;
-        Ok(())
+        Ok(true)
     }
 
     // Opens a scope, with an assumption whose name no fact has.
@@ -272,4 +265,39 @@ impl Facts {
         })?;
         Ok(())
     }
+}
+
+/// Puts a term at the end, by a name that no other has, and answers whether none had it. The error
+/// is want of memory. The name is hashed once.
+fn put_new(
+    formulas: &mut IndexMap<Name, Id, BuildHasherDefault<DefaultHasher>>,
+    name: Name,
+    id: Id,
+) -> Result<bool, AllocError>
+    ensures added { IfOk result (λ added. added ≡ not (is_some (lookup (bytes_eq name) formulas.old.entries))) }
+    ensures new { IfOk result (λ added. added ≡ true → formulas.new.entries ≡ formulas.old.entries ++ (name, id) ∷ []) }
+    ensures taken { IfOk result (λ added. added ≡ false → formulas.new.entries ≡ formulas.old.entries) }
+    ensures same { OnErr result (formulas.new.entries ≡ formulas.old.entries) }
+{
+    let (place, held) = formulas.insert_full(name, id)?;
+    match held {
+        None => Ok(true),
+        Some(held) => {
+            put_back(formulas, place, held);
+            Ok(false)
+        }
+    }
+}
+
+// Puts another term in the place of the one at this place. The name stays.
+fn put_back(
+    formulas: &mut IndexMap<Name, Id, BuildHasherDefault<DefaultHasher>>,
+    place: usize,
+    id: Id,
+)
+    requires { place < length formulas.old.entries }
+    ensures { formulas.new.entries ≡ set_value_at formulas.old.entries place id }
+{
+    let held = formulas.get_index_mut(place).unwrap();
+    *held = id;
 }

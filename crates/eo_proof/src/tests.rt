@@ -43,20 +43,11 @@ fn first_wrong(facts: &mut Facts) -> Result<Option<usize>, FactRefused> {
     if facts.pop() != Ok(FALSE) || !is_right_outside(facts) {
         return Ok(Some(2));
     }
-    add_new(facts, b"b", FALSE)?;
+    facts.add(b"b", FALSE)?;
     if facts.has_false() && facts.find(b"b") == Ok(FALSE) && !facts.is_free_outside(b"b") {
         return Ok(None);
     }
     Ok(Some(3))
-}
-
-// Adds a fact by a name that is looked up here.
-fn add_new(facts: &mut Facts, name: &[u8], id: Id) -> Result<(), FactRefused> {
-    if facts.find(name).is_ok() {
-        return Err(FactRefused::Redeclared);
-    }
-    facts.add_new(name, id)?;
-    Ok(())
 }
 
 // `a` is outside, and `h` and `b` are in one scope.

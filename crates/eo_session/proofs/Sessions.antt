@@ -26,8 +26,11 @@ use Rattle.eo_session.specs.declared.refused.Refused.TheVariants as refused
 use Rattle.eo_session.specs.Stepping.{of_elab, of_fact, Refuses, GivesTerm, Does}
 use Rattle.std.proofs.lemmas.Bool.Decides.{nat_tests}
 use Rattle.eo_base.proofs.Answering.{at_exit}
+use Rattle.eo_base.proofs.ChecksLemmas.{bind_fails}
+use Rattle.eo_sig.specs.Signature.{is_reserved}
+use Rattle.eo_session.specs.Using.{added_fact, asserted_formula, NameFirst}
 use Rattle.eo_proof.specs.Scopes.{Scopes, depth, has_false, is_live, scope_limit}
-use Rattle.eo_proof.specs.Outcomes.{Pushed}
+use Rattle.eo_proof.specs.Outcomes.{Added, Pushed}
 use Rattle.eo_proof.specs.declared.facts.FactRefused.{FactRefused}
 use Rattle.eo_proof.specs.declared.facts.FactRefused.TheVariants as fact
 use Rattle.eo_session.specs.State.{State, context, with_fact, with_scope, with_command, is_asserted, is_in_scope, begin_reference, end_fault}
@@ -35,6 +38,13 @@ use Rattle.eo_session.specs.Step.{is_in_reference, is_free_fact, evaluated, valu
 use Rattle.eo_session.specs.Commands.{by_command, may_be_in_scope, next_by, scoped_command, placed_command, uncounted, step}
 use Rattle.eo_session.specs.Origin.{Origin}
 use Rattle.eo_session.specs.declared.Next.{Next}
+
+-- ---- refusals
+
+pub refuses_on : {B C : Type 0} (m : Checked B) (n : Checked C) (x : Refused) → Refuses m x → ((name : FaultName) → m ≡ Err name → n ≡ Err name) → Refuses n x
+refuses_on m n (refused.Fault name) h f = (f name h.0, h.1)
+refuses_on m n refused.Ended h f = h
+refuses_on m n (refused.Memory e) h f = h
 
 -- ---- values
 
@@ -133,39 +143,81 @@ not_taken true b e = absurd (true≢false (sym e))
 
 -- ---- assumptions
 
-module _ (st : State) (name : List ℕ) (s : Sexp) where
-  abbrev after_test : Tree → Bool → Checked State
-  after_test v b = require b NotAsserted >>= λ _. Ok (with_fact st name v)
+module _ (st : State) (s : Sexp) where
+  abbrev after_test : Tree → Bool → Checked Tree
+  after_test v b = require b NotAsserted >>= λ _. Ok v
 
-  abbrev after_reference : Tree → Bool → Checked State
+  abbrev after_reference : Tree → Bool → Checked Tree
   after_reference v b = require b NoReference >>= λ _. after_test v (is_asserted st v)
 
-  abbrev after_formula : Checked Tree → Checked State
+  abbrev after_formula : Checked Tree → Checked Tree
   after_formula m = m >>= λ v. after_reference v st.has_reference
 
-  abbrev by_free : Bool → Checked State
-  by_free b = require b Redeclared >>= λ _. after_formula (formula st s)
+  pub stated-fault : (fault : FaultName) → formula st s ≡ Err fault → asserted_formula st s ≡ Err fault
+  unfolding ◌>>=◌
+  stated-fault fault h = ap after_formula h
 
-  pub assume-redeclared : is_free_fact st name ≡ false → assume st name s ≡ Err Redeclared
-  unfolding assume ◌>>=◌ require
-  assume-redeclared e = ap by_free e
+  module _ (v : Tree) (h : formula st s ≡ Ok v) where
+    pub stated-no_reference : st.has_reference ≡ false → asserted_formula st s ≡ Err NoReference
+    unfolding ◌>>=◌ require
+    stated-no_reference r = ap after_formula h ∙ ap (after_reference v) r
 
-  module _ (free : is_free_fact st name ≡ true) where
-    pub assume-fault : (fault : FaultName) → formula st s ≡ Err fault → assume st name s ≡ Err fault
-    unfolding assume ◌>>=◌ require
-    assume-fault fault h = ap by_free free ∙ ap after_formula h
+    pub stated-not_asserted : st.has_reference ≡ true → is_asserted st v ≡ false → asserted_formula st s ≡ Err NotAsserted
+    unfolding ◌>>=◌ require
+    stated-not_asserted r a = ap after_formula h ∙ ap (after_reference v) r ∙ ap (after_test v) a
 
-    pub assume-no_reference : (v : Tree) → formula st s ≡ Ok v → st.has_reference ≡ false → assume st name s ≡ Err NoReference
-    unfolding assume ◌>>=◌ require
-    assume-no_reference v h r = ap by_free free ∙ ap after_formula h ∙ ap (after_reference v) r
+    pub stated-ok : st.has_reference ≡ true → is_asserted st v ≡ true → asserted_formula st s ≡ Ok v
+    unfolding ◌>>=◌ require
+    stated-ok r a = ap after_formula h ∙ ap (after_reference v) r ∙ ap (after_test v) a
 
-    pub assume-not_asserted : (v : Tree) → formula st s ≡ Ok v → st.has_reference ≡ true → is_asserted st v ≡ false → assume st name s ≡ Err NotAsserted
-    unfolding assume ◌>>=◌ require
-    assume-not_asserted v h r a = ap by_free free ∙ ap after_formula h ∙ ap (after_reference v) r ∙ ap (after_test v) a
+tested : (b : Bool) (v : Tree) (f : Tree → State) → (require b NotAsserted >>= λ _. Ok (f v)) ≡ ((require b NotAsserted >>= λ _. Ok v) >>= λ v. Ok (f v))
+unfolding ◌>>=◌ require
+tested true v f = refl
+tested false v f = refl
 
-    pub assume-ok : (v : Tree) → formula st s ≡ Ok v → st.has_reference ≡ true → is_asserted st v ≡ true → assume st name s ≡ Ok (with_fact st name v)
-    unfolding assume ◌>>=◌ require
-    assume-ok v h r a = ap by_free free ∙ ap after_formula h ∙ ap (after_reference v) r ∙ ap (after_test v) a
+regrouped : (m : Checked Tree) (r : Bool) (t : Tree → Bool) (f : Tree → State) →
+    (m >>= λ v. require r NoReference >>= λ _. require (t v) NotAsserted >>= λ _. Ok (f v)) ≡ ((m >>= λ v. require r NoReference >>= λ _. require (t v) NotAsserted >>= λ _. Ok v) >>= λ v. Ok (f v))
+unfolding ◌>>=◌ require
+regrouped (Err fault) r t f = refl
+regrouped (Ok v) false t f = refl
+regrouped (Ok v) true t f = tested (t v) v f
+
+-- an assumption is a formula that is asserted, by a name that is free
+pub assume-is : (st : State) (name : List ℕ) (s : Sexp) → assume st name s ≡ (require (is_free_fact st name) Redeclared >>= λ _. asserted_formula st s >>= λ v. Ok (with_fact st name v))
+unfolding assume
+assume-is st name s = ap (λ (m : Checked State). require (is_free_fact st name) Redeclared >>= λ _. m) (regrouped (formula st s) st.has_reference (is_asserted st) (with_fact st name))
+
+-- ---- names that are looked up last
+
+pub name-refused : {A : Type 0} (free : Bool) (m : Checked A) (go : A → Checked State) (e r : Refused) → Refuses m e → NameFirst free e r → Refuses (require free Redeclared >>= λ _. m >>= go) r
+unfolding ◌>>=◌ require
+name-refused true m go e r h n = subst (λ (x : Refused). Refuses (m >>= go) x) (sym n) (refuses_on m (m >>= go) e h (bind_fails m go))
+name-refused false m go e r h n = subst (λ (x : Refused). Refuses {A = State} (Err Redeclared) x) (sym n) (refl, λ q. absurd cc)
+
+pub name-ok : {A : Type 0} (free : Bool) (m : Checked A) (go : A → Checked State) (x : A) → m ≡ Ok x → (require free Redeclared >>= λ _. m >>= go) ≡ (require free Redeclared >>= λ _. go x)
+unfolding ◌>>=◌
+name-ok {A = A} free m go x e = ap (λ (n : Checked A). require free Redeclared >>= λ _. n >>= go) e
+
+module _ (st : State) (name : List ℕ) (t : Tree) where
+  abbrev by_name : Bool → Checked State
+  by_name b = require b Redeclared >>= λ _. Ok (with_fact st name t)
+
+  pub added-taken : is_free_fact st name ≡ false → added_fact st name t ≡ Err Redeclared
+  unfolding ◌>>=◌ require
+  added-taken e = ap by_name e
+
+  pub added-free : is_free_fact st name ≡ true → added_fact st name t ≡ Ok (with_fact st name t)
+  unfolding ◌>>=◌ require
+  added-free e = ap by_name e
+
+  -- a name that is not reserved is free if no fact has it
+  pub added-live : (live : Bool) → is_reserved name ≡ false → is_live st.scopes name ≡ live → is_free_fact st name ≡ not live
+  added-live live u l = λ i. not (u i) && not (l i)
+
+  pub fact-refused : (e : FactRefused) (old new : Scopes) (u : Tree) → is_reserved name ≡ false → old ≡ st.scopes → Added (Err e) old name u new → Refuses (added_fact st name t) (of_fact e)
+  fact-refused fact.Redeclared old new u r is h = (added-taken (added-live true r (ap (λ (s : Scopes). is_live s name) (sym is) ∙ h)), λ q. absurd cc)
+  fact-refused fact.ScopeDepth old new u r is h = absurd h
+  fact-refused (fact.Memory e) old new u r is h = (tt, tt)
 
 -- ---- pushed assumptions
 
@@ -284,11 +336,6 @@ pub gives-same : (h : Held) (r : Result ℕ Refused) (m n : Checked Tree) → m 
 gives-same h r m n e g = subst (λ k. GivesTerm h r k) (sym e) g
 
 -- a refusal that is passed on, of what leads to the same fault
-pub refuses_on : {B C : Type 0} (m : Checked B) (n : Checked C) (x : Refused) → Refuses m x → ((name : FaultName) → m ≡ Err name → n ≡ Err name) → Refuses n x
-refuses_on m n (refused.Fault name) h f = (f name h.0, h.1)
-refuses_on m n refused.Ended h f = h
-refuses_on m n (refused.Memory e) h f = h
-
 -- ---- the reference file, and the end
 
 module _ (st : State) where

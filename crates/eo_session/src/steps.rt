@@ -1,5 +1,5 @@
 //! Steps, which add what a rule concludes to the facts.
-ghost use Rattle.std.specs.Prelude.{◌≡◌, ◌<◌, length, true, Some, Ok, IfOk, option_map, OnOk};
+ghost use Rattle.std.specs.Prelude.{◌≡◌, ◌<◌, length, true, Some, IfOk, option_map, OnOk};
 ghost use Rattle.eo_eval.specs.Outcomes.{IsValueOf};
 ghost use Rattle.eo_proof.specs.Scopes.{innermost_hypothesis};
 ghost use Rattle.eo_rule.specs.Answers.{GivesTerm as GivesConclusion};
@@ -9,10 +9,10 @@ ghost use Rattle.eo_sig.specs.Reading.{rules_of};
 ghost use Rattle.eo_term.specs.Growth.{tree_in};
 ghost use Rattle.eo_session.specs.Held.{state_of, IsWhole, Keeps};
 ghost use Rattle.eo_session.specs.Step as step;
-ghost use Rattle.eo_session.specs.Step.{step_plain, step_pop as popped, is_free_fact, is_free_outer_fact, with_conclusion};
+ghost use Rattle.eo_session.specs.Step.{step_plain, step_pop as popped, is_free_outer_fact};
 ghost use Rattle.eo_session.specs.Stepping.{Does};
 ghost use Rattle.eo_session.specs.Using.{MayDischarge, GivesConcluded, concluded_from, read_conclusion};
-ghost use Rattle.eo_session.specs.Using.{conclusion_with, conclusion_outside};
+ghost use Rattle.eo_session.specs.Using.{added_conclusion, conclusion_outside};
 
 use crate::Refused;
 use crate::held::Held;
@@ -38,10 +38,10 @@ impl Held {
         ensures whole { OnOk result (IsWhole self.new) }
         ensures does { Does result (step_plain (state_of self.old) (read_step shape.now)) self.new }
     {
-        if self.is_taken(shape.name) {
-            return Err(Refused::Fault(FaultName::Redeclared));
+        match self.concluded(None, shape) {
+            Ok(concluded) => self.add_conclusion(shape.name, concluded),
+            Err(e) => Err(self.name_first(shape.name, e)),
         }
-        self.step_free(shape)
     }
 
     /// Closes the innermost scope, and adds what a rule concludes from its assumption to the facts
@@ -58,17 +58,6 @@ impl Held {
             return Err(Refused::Fault(FaultName::Redeclared));
         }
         self.step_outside(assumed, shape)
-    }
-
-    // A step whose name is free.
-    fn step_free(&mut self, shape: &StepShape<'_>) -> Result<(), Refused>
-        requires whole { IsWhole self.old }
-        requires free { is_free_fact (state_of self.old) shape.now.name.now ≡ true }
-        ensures whole { OnOk result (IsWhole self.new) }
-        ensures does { Does result (conclusion_with (state_of self.old) (read_step shape.now)) self.new }
-    {
-        let concluded = self.concluded(None, shape)?;
-        self.add_conclusion(shape.name, concluded)
     }
 
     // A step out of the innermost scope, which has this assumption. Its name is free outside.
@@ -98,9 +87,8 @@ impl Held {
     fn add_conclusion(&mut self, name: &[u8], concluded: Conclusion) -> Result<(), Refused>
         requires whole { IsWhole self.old }
         requires value { IsValueOf self.old.table concluded.formula }
-        requires free { is_free_fact (state_of self.old) name.now ≡ true }
         ensures whole { OnOk result (IsWhole self.new) }
-        ensures does { Does result (Ok (with_conclusion (state_of self.old) name.now (read_conclusion self.old.table concluded))) self.new }
+        ensures does { Does result (added_conclusion (state_of self.old) name.now (read_conclusion self.old.table concluded)) self.new }
     {
         self.add_fact(name, concluded.formula)?;
         self.sorry |= concluded.sorry;

@@ -1,4 +1,4 @@
-use Rattle.std.proofs.Common.{◌≡◌, ap, sym, subst, ◌∙◌}
+use Rattle.std.proofs.Common.{◌≡◌, true, ap, sym, subst, ◌∙◌}
 use Rattle.std.specs.Prelude.{Ok, Result}
 use Rattle.eo_shape.specs.Reading.{read_step}
 use Rattle.eo_term.specs.Growth.{tree_in}
@@ -10,7 +10,7 @@ use Rattle.eo_session.specs.Step.{is_free_fact, with_conclusion}
 use Rattle.eo_session.specs.Stepping.{Does}
 use Rattle.eo_session.specs.Using.{conclusion_outside, read_conclusion}
 use Rattle.eo_session.specs.declared.refused.Refused.{Refused}
-use Rattle.eo_session.proofs.Concluding.{outside-fault, outside-ok}
+use Rattle.eo_session.proofs.Concluding.{concluding-free, outside-fault, outside-ok}
 use Rattle.eo_base.proofs.Answering.{at_exit}
 use Rattle.eo_session.proofs.Adding.{does-same}
 use Rattle.eo_session.proofs.Sessions.{refuses_on}
@@ -33,12 +33,6 @@ returns-in_err-concluded-clause-does c =
 pub add_conclusion-requires-clause-value : goal.add_conclusion-requires-clause-value
 add_conclusion-requires-clause-value c = subst (λ (t : Terms). IsValueOf t c.in_ok-concluded.concluded.formula) (sym c.close_scope.ensures.table) c.in_ok-concluded.ensures.gives.live
 
-pub add_conclusion-requires-clause-free : goal.add_conclusion-requires-clause-free
-add_conclusion-requires-clause-free c =
-    let closed : state_of c.close_scope.new.self ≡ without_scope (state_of c.args.self.now) = c.close_scope.ensures.closed ∙ ap without_scope c.in_ok-concluded.ensures.keeps.same in
-    ap (λ (z : State). is_free_fact z c.args.shape.now.name.now) closed
-    ∙ free_outside (state_of c.args.self.now) c.args.shape.now.name.now c.requires.free
-
 pub returns-clause-does : goal.returns-clause-does
 returns-clause-does c =
     let h = c.args.self.now in
@@ -48,6 +42,8 @@ returns-clause-does c =
     let d = c.in_ok-concluded.concluded in
     let k = read_conclusion c.concluded.new.self.table d in
     let closed : state_of c.close_scope.new.self ≡ without_scope (state_of c.args.self.now) = c.close_scope.ensures.closed ∙ ap without_scope c.in_ok-concluded.ensures.keeps.same in
+    let free : is_free_fact (state_of c.close_scope.new.self) s.name ≡ true = ap (λ (z : State). is_free_fact z s.name) closed ∙ free_outside st s.name c.requires.free in
     does-same _ _ c.add_conclusion.result c.add_conclusion.new.self
-    (outside-ok st s a k c.in_ok-concluded.ensures.gives.is ∙ (λ i. Ok (with_conclusion (sym closed i) s.name (read_conclusion (sym c.close_scope.ensures.table i) d))))
+    (outside-ok st s a k c.in_ok-concluded.ensures.gives.is ∙ (λ i. Ok (with_conclusion (sym closed i) s.name (read_conclusion (sym c.close_scope.ensures.table i) d)))
+    ∙ sym (concluding-free (state_of c.close_scope.new.self) s.name (read_conclusion c.close_scope.new.self.table d) free))
     c.add_conclusion.ensures.does
