@@ -49,9 +49,12 @@ impl Handed {
 
     /// Those that are left.
     pub(crate) fn rest(&self) -> &[Id]
-        ensures { result.now ≡ self }
+        ensures { result.now ≡ self.now }
     {
-        &self.ids[self.next..]
+        match self.ids.as_slice().get(self.next..) {
+            Some(rest) => rest,
+            None => &[],
+        }
     }
 }
 
