@@ -8,7 +8,7 @@ invariant_of-self-2 c =
     let f : NamedId = (c.args.name, c.args.id) in
     let k = c.args.self.now in
     let added : kept_of c.put_new.new.formulas.entries c.self.inside.begun.items ≡ with_named k f =
-      ap (λ xs. kept_of xs c.self.inside.begun.items) (c.in_ok-put_new.ensures.new c.if-not-branch.false) ∙ ap (λ (k : Kept). with_named k f) c.self.view_is in
+    ap (λ xs. kept_of xs c.self.inside.begun.items) (c.in_ok-put_new.ensures.new c.if-not-branch.false) ∙ ap (λ (k : Kept). with_named k f) c.self.view_is in
     subst (λ (k : Kept). IsKept k c.refutes_with-refutes.result) (sym added)
     (kept_named k c.self.inside.refutes c.refutes_with-refutes.result f (subst (λ (k : Kept). IsKept k c.self.inside.refutes) c.self.view_is c.self.invariant) (c.refutes_with-refutes.ensures c.args.name))
 
@@ -17,6 +17,6 @@ returns-clause-adds c = λ _.
     let f : NamedId = (c.args.name, c.args.id) in
     let k = c.args.self.now in
     let added : kept_of c.put_new.new.formulas.entries c.self.inside.begun.items ≡ with_named k f =
-      ap (λ xs. kept_of xs c.self.inside.begun.items) (c.in_ok-put_new.ensures.new c.if-not-branch.false) ∙ ap (λ (k : Kept). with_named k f) c.self.view_is in
+    ap (λ xs. kept_of xs c.self.inside.begun.items) (c.in_ok-put_new.ensures.new c.if-not-branch.false) ∙ ap (λ (k : Kept). with_named k f) c.self.view_is in
     let is : IsKept k c.self.inside.refutes = subst (λ (k : Kept). IsKept k c.self.inside.refutes) c.self.view_is c.self.invariant in
     (λ ts. ap (scopes ts) added ∙ added_to ts k c.self.inside.refutes f is)
