@@ -279,6 +279,7 @@ fn put_new(
     ensures taken { IfOk result (λ added. added ≡ false → formulas.new.entries ≡ formulas.old.entries) }
     ensures same { OnErr result (formulas.new.entries ≡ formulas.old.entries) }
 {
+    make_room(formulas);
     let (place, held) = formulas.insert_full(name, id)?;
     match held {
         None => Ok(true),
@@ -286,6 +287,19 @@ fn put_new(
             put_back(formulas, place, held);
             Ok(false)
         }
+    }
+}
+
+// Makes room for four times as many formulas where there is none for one more. A map that grows finds
+// a new place for each name that it has, all over its memory, which is what it costs most: so it does
+// that a third of a time for each name, where doubling does it once. Where there is no memory for so
+// many, the map stays as it is.
+fn make_room(formulas: &mut IndexMap<Name, Id, BuildHasherDefault<DefaultHasher>>)
+    ensures { formulas.new.entries ≡ formulas.old.entries }
+{
+    let count = formulas.len();
+    if count == formulas.capacity() {
+        let _ = formulas.reserve(count.saturating_mul(3));
     }
 }
 
