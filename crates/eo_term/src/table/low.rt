@@ -1,11 +1,11 @@
 //! Terms that are known not to be too tall.
-ghost use Rattle.std.specs.Prelude.{◌≡◌, ◌<◌, length, false, All, OnErr};
+ghost use Rattle.std.specs.Prelude.{◌≡◌, ◌<◌, length, false, All, IfSome, OnErr};
 ghost use Rattle.eo_term.specs.Tree.{Con, Op, NoTree, is_tall};
 ghost use Rattle.eo_term.specs.Terms.{trees_at, tree_of, PartsBelow, TextsBelow, IsPlain, IsProper, HasArity};
-ghost use Rattle.eo_term.specs.Growth.{Grows, Makes};
+ghost use Rattle.eo_term.specs.Growth.{Grows, IsTerm, Makes};
 
 use super::{Table, TermRefused};
-use crate::{Id, Node, OpCode};
+use crate::{BOOL, FALSE, Id, Node, OpCode, TRUE, TYPE};
 use std::alloc::AllocError;
 
 impl Table {
@@ -51,6 +51,23 @@ impl Table {
         ensures err { OnErr result (self.new ≡ self.old) }
         ensures grows { Grows self.old self.new }
     {
-        self.intern_low(Node::Con(k))
+        match self.first_constant(k) {
+            Some(id) => Ok(id),
+            None => self.intern_low(Node::Con(k)),
+        }
+    }
+
+    // The constant of this number, if it is one of those that each table has: they are never looked up.
+    fn first_constant(&self, k: usize) -> Option<Id>
+        ensures { IfSome result (λ i. IsTerm self.now (Con k) i) }
+    {
+        self.laws();
+        match k {
+            0 => Some(TYPE),
+            1 => Some(BOOL),
+            2 => Some(TRUE),
+            3 => Some(FALSE),
+            _ => None,
+        }
     }
 }
