@@ -130,7 +130,8 @@ fn function_macro(
     table: &mut Table,
 ) -> Result<MacroDecl, ElabRefused>
     requires { IsBelow (length table.old.trees) sig.now }
-    ensures gives { GivesMacro table.new result (defined_fun (reference_context table.old sig.now) name.now params.now output.now body.now) }
+    ensures gives { GivesMacro table.new result
+        (defined_fun (reference_context table.old sig.now) name.now params.now output.now body.now) }
     ensures may { IfOk result (λ d. MayBeMacro (context_in table.old sig.now) (read_macro table.new.trees d)) }
     ensures grows { GrowsUnder sig.now table.old table.new }
 {
