@@ -14,8 +14,6 @@ mod memory_library;
 mod memory_sink;
 mod path_table;
 mod system;
-#[cfg(test)]
-mod tests;
 mod writing;
 
 pub use folding::fold_path;

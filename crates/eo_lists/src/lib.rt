@@ -13,8 +13,6 @@ mod items;
 mod joining;
 mod operators;
 mod spelling;
-#[cfg(test)]
-mod tests;
 
 use crate::operators::operate;
 use crate::spelling::{Spelling, terminator};

@@ -6,8 +6,6 @@ mod hexadecimal;
 mod literals;
 mod spelling;
 mod strings;
-#[cfg(test)]
-mod tests;
 
 pub use decimal::read_numeral;
 pub use literals::read_literal;

@@ -12,6 +12,3 @@ pub use laws::{matching_law, putting_law};
 pub use matching::match_terms;
 pub use subst::Subst;
 pub use substitution::substitute;
-
-#[cfg(test)]
-mod tests;

@@ -4,8 +4,6 @@
 mod facts;
 mod ids;
 mod scopes;
-#[cfg(test)]
-mod tests;
 
 pub use facts::{FactRefused, Facts, NoScope, UnknownPremise};
 pub use ids::FactIds;

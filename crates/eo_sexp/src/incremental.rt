@@ -745,6 +745,3 @@ impl Collector {
         self.machine.here()
     }
 }
-
-#[cfg(test)]
-mod tests;

@@ -1,8 +1,8 @@
 //! Checks against reference files, which are SMT-LIB benchmarks.
 ghost use Rattle.std.specs.Prelude.{◌≤◌};
 
-use super::running::run;
 use eo_cpc::suite;
+use memory_runs::run;
 use std::alloc::{AllocError, Global};
 
 /// A reference file, a proof, and the line that is printed.

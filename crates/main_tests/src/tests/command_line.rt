@@ -1,9 +1,9 @@
 //! Words of the command line, over files in memory.
 ghost use Rattle.std.specs.Prelude.{◌≤◌};
 
-use super::running::{self, File};
 use eo_base::Status;
 use eo_io::MemorySink;
+use memory_runs::File;
 use std::alloc::{AllocError, Global};
 
 const USAGE: &[u8] =
@@ -30,7 +30,7 @@ fn files() -> &'static [File<'static>] {
 fn run(alloc: Global, line: &str, piece: usize) -> Result<(Status, MemorySink), AllocError>
     requires { 1 ≤ piece }
 {
-    running::run(
+    memory_runs::run(
         alloc,
         line,
         (b"p.eo", b"(assume @p1 false)\n"),

@@ -1,8 +1,8 @@
 //! Files at the limits, and one beyond them.
 ghost use Rattle.std.specs.Prelude.{◌<◌};
 
-use super::running::{File, library, run_over};
 use eo_cpc::suite;
+use memory_runs::{File, library, run_over};
 use std::alloc::{AllocError, Global};
 
 /// Whether the words give this line, over a proof and other files with their paths.

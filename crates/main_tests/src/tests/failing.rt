@@ -1,10 +1,10 @@
 //! Checks during which calls of the library or of the sink fail, and checks of a proof that is cut.
 ghost use Rattle.std.specs.Prelude.{◌≤◌};
 
-use super::running::{self, CHECK, File, ROOM, library, run_into};
 use eo_base::Status;
 use eo_cpc::suite;
 use eo_io::MemorySink;
+use memory_runs::{CHECK, File, ROOM, library, run_into};
 use std::alloc::{AllocError, Global};
 
 /// The words, the proof, the other files with their paths, and the line that is printed.
@@ -14,7 +14,7 @@ type Job<'a> = (&'a str, &'a [u8], &'a [File<'a>], &'a [u8]);
 /// is one of a call.
 fn run(alloc: Global, job: &Job<'_>, failing: u64) -> Result<(Status, MemorySink), AllocError> {
     let (line, proof, texts, _printed) = *job;
-    running::run(alloc, line, (b"p.eo", proof), texts, 8, failing)
+    memory_runs::run(alloc, line, (b"p.eo", proof), texts, 8, failing)
 }
 
 /// How many calls of the library a job makes: each run in which one of them fails ends with a read

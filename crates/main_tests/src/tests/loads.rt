@@ -1,9 +1,9 @@
 //! Signature files that are run alone, with the files that they include.
 ghost use Rattle.std.specs.Prelude.{◌≤◌};
 
-use super::running::{self, File, add_chain, library, run_over};
 use eo_base::Status;
 use eo_io::MemorySink;
+use memory_runs::{File, add_chain, library, run_over};
 use std::alloc::{AllocError, Global};
 
 /// The files that `a.eo` may include, each with its path.
@@ -27,7 +27,7 @@ fn files() -> &'static [File<'static>] {
 fn run(alloc: Global, a: &[u8], piece: usize) -> Result<(Status, MemorySink), AllocError>
     requires { 1 ≤ piece }
 {
-    running::run(alloc, "ethos load a.eo", (b"a.eo", a), files(), piece, 0)
+    memory_runs::run(alloc, "ethos load a.eo", (b"a.eo", a), files(), piece, 0)
 }
 
 /// Whether `load a.eo` gives this answer, whole and with reads of 1 and of 3 bytes.

@@ -1,9 +1,9 @@
 //! Checks of files whose commands open other files.
 ghost use Rattle.std.specs.Prelude.{◌≤◌};
 
-use super::running::{self, File, add_chain, library, run_over};
 use eo_base::Status;
 use eo_io::MemorySink;
+use memory_runs::{File, add_chain, library, run_over};
 use std::alloc::{AllocError, Global};
 
 /// The files that a proof may open, each with its path.
@@ -40,7 +40,7 @@ fn run(
 ) -> Result<(Status, MemorySink), AllocError>
     requires { 1 ≤ piece }
 {
-    running::run(alloc, line, (b"p.eo", proof), files(), piece, failing)
+    memory_runs::run(alloc, line, (b"p.eo", proof), files(), piece, failing)
 }
 
 /// Whether the words of a line and this proof give this answer, whole and with reads of 1 and of 3

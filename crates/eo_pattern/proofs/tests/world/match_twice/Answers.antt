@@ -1,4 +1,0 @@
-use Rattle.eo_pattern.proofs.tests.world.match_twice.Goals as goal
-
-pub match_terms-matches-requires-clause-below : goal.match_terms-matches-requires-clause-below
-match_terms-matches-requires-clause-below c = c.reserve.ensures.below _ (c.in_ok-subst.ensures.below _)

@@ -1,7 +1,0 @@
-use Rattle.std.proofs.Common.{length}
-use Rattle.eo_pattern.proofs.tests.world.put_in.Goals as goal
-
-pub substitute-requires-clause-below : goal.substitute-requires-clause-below
-substitute-requires-clause-below c =
-    let n = length c.args.table.now.trees in
-    c.put.ensures.below n (c.in_ok-reserve.ensures.below n (c.in_ok-subst.ensures.below n)) c.requires.value

@@ -1,0 +1,6 @@
+//! Tests of the program as a call (`eo_main`), by what it answers to commands, in a crate of their own: with them in
+//! its own crate the layer would be proved once more.
+#![tactic(auto)]
+
+#[cfg(test)]
+mod tests;
