@@ -1,2 +1,2 @@
 pub mod Reading
-pub mod Putting
+pub mod Found

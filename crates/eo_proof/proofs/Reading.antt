@@ -1,6 +1,6 @@
 -- Facts with numbers of terms, as facts in scopes.
 use Rattle.std.proofs.Common.{◌≡◌, refl, sym, ap, ◌∙◌, ℕ, zero, suc, ◌+◌, ◌<◌, ◌≤◌, Bool, true, false, not, cond, ◌||◌, List, [], ◌∷◌, ◌++◌, length, map, take, drop, subst, All, Option, Some, None, option_map, is_some, true≢false, arith}
-use Rattle.std.specs.Prelude.{IfSome, bytes_eq, find, nat_eq, nat_lt, nat_le, position}
+use Rattle.std.specs.Prelude.{IfSome, bytes_eq, find, nat_lt, nat_le, position}
 use Rattle.std.specs.List.{position_or_len}
 use Rattle.std.specs.Map.{keys_of}
 use Rattle.std.proofs.lemmas.Option.{same_Some, none-some}

@@ -1,3 +1,4 @@
 pub mod Scopes
 pub mod Kept
 pub mod Outcomes
+pub mod Places

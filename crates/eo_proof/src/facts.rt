@@ -3,7 +3,6 @@ ghost use Rattle.std.specs.Prelude.{◌≡◌, ℕ, ◌<◌, List, ◌∷◌, �
 ghost use Rattle.std.specs.Prelude.{IfOk, IfSome, OnOk, OnErr};
 ghost use Rattle.std.specs.Map.{lookup};
 ghost use Rattle.std.specs.Str.{bytes_eq};
-ghost use Rattle.indexmap.specs.IndexMap.{set_value_at};
 ghost use Rattle.eo_term.specs.Growth.{IsTable};
 ghost use Rattle.eo_term.specs.Terms.{Terms, tree_at};
 ghost use Rattle.eo_term.specs.Tree.{Tree};
@@ -13,11 +12,9 @@ ghost use Rattle.eo_proof.specs.Scopes as scope;
 ghost use Rattle.eo_proof.specs.Scopes.{no_facts};
 
 use crate::FactIds;
-use eo_base::{Name, NameRef};
+use crate::named::NamedIds;
 use eo_term::{FALSE, Id};
-use indexmap::IndexMap;
 use std::alloc::{AllocError, Global};
-use std::hash::{BuildHasherDefault, DefaultHasher};
 use std::marker::Model;
 
 /// Why a fact was not added, or a scope not opened. The facts are then as they were before.
@@ -60,13 +57,11 @@ pub(crate) struct Begun {
 }
 
 /// Formulas by their names, in scopes. Each scope but the outermost begins with an assumption, which
-/// is a fact of it. No two facts have the same name. A name is found by its hash, which is SipHash,
-/// since the proof chooses the names.
+/// is a fact of it. No two facts have the same name.
 #[derive(Drop)]
 pub struct Facts {
-    pub(crate) alloc: Global,
     // Those of all scopes, the oldest first.
-    pub(crate) formulas: IndexMap<Name, Id, BuildHasherDefault<DefaultHasher>>,
+    pub(crate) formulas: NamedIds,
     // The open scopes, the innermost last.
     pub(crate) begun: Vec<Begun>,
     // Whether a fact of the outermost scope is `false`.
@@ -78,9 +73,9 @@ impl Model for Facts {
 
     ghost Value = { Kept };
 
-    ghost view = { λ a. kept_of a.formulas.entries a.begun.items };
+    ghost view = { λ a. kept_of a.formulas a.begun.items };
 
-    ghost invariant = { λ a. IsKept (kept_of a.formulas.entries a.begun.items) a.refutes };
+    ghost invariant = { λ a. IsKept (kept_of a.formulas a.begun.items) a.refutes };
 }
 
 impl Facts {
@@ -90,8 +85,7 @@ impl Facts {
         ensures none { IfOk result (λ f. (ts : List Tree) → scopes ts f ≡ no_facts) }
     {
         Ok(Facts {
-            alloc,
-            formulas: IndexMap::with_hasher(alloc, BuildHasherDefault::new()),
+            formulas: NamedIds::new(alloc),
             begun: Vec::new(alloc),
             refutes: false,
         })
@@ -107,7 +101,6 @@ impl Facts {
         ensures below { (m : ℕ) → AreBelow m self.old → id < m → AreBelow m self.new }
         ensures same { OnErr result (self.new ≡ self.old) }
     {
-        let name = Name::new(self.alloc, name)?;
         if !self.put(name, id)? {
             return Err(FactRefused::Redeclared);
         }
@@ -141,7 +134,7 @@ impl Facts {
         ensures { (ts : List Tree) → result ≡ scope.is_free_outside (scopes ts self.now) name.now }
     {
         let outer = self.outer_count();
-        match self.formulas.get_index_of(NameRef(name)) {
+        match self.formulas.place(name) {
             Some(place) => place >= outer,
             None => true,
         }
@@ -172,12 +165,11 @@ impl Facts {
     }
 
     /// The formulas of all facts, the oldest first.
-    #[tactic(auto, using(crate::proofs::Reading::formulas_are))]
     pub fn roots(&self) -> FactIds<'_>
         ensures { (ts : List Tree) → map (tree_at ts) result ≡ scope.formulas (scopes ts self.now) }
     {
         FactIds {
-            left: self.formulas.values(),
+            left: self.formulas.as_slice(),
         }
     }
 
@@ -185,14 +177,14 @@ impl Facts {
     fn named(&self, name: &[u8]) -> Option<Id>
         ensures { result ≡ lookup (bytes_eq name.now) self.now.facts }
     {
-        self.formulas.get(NameRef(name)).copied()
+        self.formulas.get(name)
     }
 
     // Whether a fact has the name.
     pub(crate) fn has(&self, name: &[u8]) -> bool
         ensures { result ≡ is_some (lookup (bytes_eq name.now) self.now.facts) }
     {
-        self.formulas.contains_key(NameRef(name))
+        self.formulas.has(name)
     }
 
     // How many scopes are open.
@@ -233,16 +225,16 @@ impl Facts {
     }
 
     // Adds a fact to the innermost scope, and answers whether no other has the name.
-    fn put(&mut self, name: Name, id: Id) -> Result<bool, AllocError>
-        ensures free { IfOk result (λ added. added ≡ not (is_some (lookup (bytes_eq name) self.old.facts))) }
-        ensures added { IfOk result (λ added. added ≡ true → self.new ≡ with_named self.old (name, id)) }
+    fn put(&mut self, name: &[u8], id: Id) -> Result<bool, AllocError>
+        ensures free { IfOk result (λ added. added ≡ not (is_some (lookup (bytes_eq name.now) self.old.facts))) }
+        ensures added { IfOk result (λ added. added ≡ true → self.new ≡ with_named self.old (name.now, id)) }
         ensures adds { IfOk result (λ added. added ≡ true →
-            (ts : List Tree) → scopes ts self.new ≡ scope.with_fact (scopes ts self.old) name (tree_at ts id)) }
+            (ts : List Tree) → scopes ts self.new ≡ scope.with_fact (scopes ts self.old) name.now (tree_at ts id)) }
         ensures taken { IfOk result (λ added. added ≡ false → self.new ≡ self.old) }
         ensures same { OnErr result (self.new ≡ self.old) }
     {
         let refutes = self.refutes_with(id);
-        if !put_new(&mut self.formulas, name, id)? {
+        if !self.formulas.add(name, id)? {
             return Ok(false);
         }
         self.refutes = refutes;
@@ -250,68 +242,19 @@ impl Facts {
     }
 
     // Opens a scope, with an assumption whose name no fact has.
-    pub(crate) fn begin(&mut self, name: Name, id: Id) -> Result<(), AllocError>
-        requires { lookup (bytes_eq name) self.old.facts ≡ None }
-        ensures added { OnOk result (self.new ≡ with_begun self.old (name, id)) }
-        ensures begins { OnOk result ((ts : List Tree) → scopes ts self.new ≡ scope.with_scope (scopes ts self.old) name (tree_at ts id)) }
+    pub(crate) fn begin(&mut self, name: &[u8], id: Id) -> Result<(), AllocError>
+        requires { lookup (bytes_eq name.now) self.old.facts ≡ None }
+        ensures added { OnOk result (self.new ≡ with_begun self.old (name.now, id)) }
+        ensures begins { OnOk result ((ts : List Tree) → scopes ts self.new ≡ scope.with_scope (scopes ts self.old) name.now (tree_at ts id)) }
         ensures same { OnErr result (self.new ≡ self.old) }
     {
         self.begun.reserve(1)?;
         let first = self.formulas.len();
-        self.formulas.insert(name, id)?;
+        self.formulas.push(name, id)?;
         self.begun.push(Begun {
             first,
             hypothesis: id,
         })?;
         Ok(())
     }
-}
-
-/// Puts a term at the end, by a name that no other has, and answers whether none had it. The error
-/// is want of memory. The name is hashed once.
-fn put_new(
-    formulas: &mut IndexMap<Name, Id, BuildHasherDefault<DefaultHasher>>,
-    name: Name,
-    id: Id,
-) -> Result<bool, AllocError>
-    ensures added { IfOk result (λ added. added ≡ not (is_some (lookup (bytes_eq name) formulas.old.entries))) }
-    ensures new { IfOk result (λ added. added ≡ true → formulas.new.entries ≡ formulas.old.entries ++ (name, id) ∷ []) }
-    ensures taken { IfOk result (λ added. added ≡ false → formulas.new.entries ≡ formulas.old.entries) }
-    ensures same { OnErr result (formulas.new.entries ≡ formulas.old.entries) }
-{
-    make_room(formulas);
-    let (place, held) = formulas.insert_full(name, id)?;
-    match held {
-        None => Ok(true),
-        Some(held) => {
-            put_back(formulas, place, held);
-            Ok(false)
-        }
-    }
-}
-
-// Makes room for four times as many formulas where there is none for one more. A map that grows finds
-// a new place for each name that it has, all over its memory, which is what it costs most: so it does
-// that a third of a time for each name, where doubling does it once. Where there is no memory for so
-// many, the map stays as it is.
-fn make_room(formulas: &mut IndexMap<Name, Id, BuildHasherDefault<DefaultHasher>>)
-    ensures { formulas.new.entries ≡ formulas.old.entries }
-{
-    let count = formulas.len();
-    if count == formulas.capacity() {
-        let _ = formulas.reserve(count.saturating_mul(3));
-    }
-}
-
-// Puts another term in the place of the one at this place. The name stays.
-fn put_back(
-    formulas: &mut IndexMap<Name, Id, BuildHasherDefault<DefaultHasher>>,
-    place: usize,
-    id: Id,
-)
-    requires { place < length formulas.old.entries }
-    ensures { formulas.new.entries ≡ set_value_at formulas.old.entries place id }
-{
-    let held = formulas.get_index_mut(place).unwrap();
-    *held = id;
 }

@@ -1,21 +1,20 @@
 //! The formulas of facts, one after another.
-use eo_base::Name;
+use crate::places::Named;
 use eo_term::Id;
-use indexmap::map::Values;
 use std::marker::Model;
 
 /// The formulas of facts, the oldest first.
 #[derive(Drop)]
 pub struct FactIds<'a> {
-    pub(crate) left: Values<'a, Name, Id>,
+    pub(crate) left: &'a [Named],
 }
 
 impl<'a> Model for FactIds<'a> {
-    ghost use Rattle.std.specs.Prelude.{ℕ, List};
+    ghost use Rattle.std.specs.Prelude.{ℕ, List, map};
 
     ghost Value = { List ℕ };
 
-    ghost view = { λ a. a.left };
+    ghost view = { λ a. map (λ e. e.id) a.left.now };
 }
 
 impl<'a> Iterator for FactIds<'a> {
@@ -28,6 +27,8 @@ impl<'a> Iterator for FactIds<'a> {
     ghost remaining = { item_count (λ rest. rest) };
 
     fn next(&mut self) -> Option<Id> {
-        self.left.next().copied()
+        let (first, rest) = self.left.split_first()?;
+        self.left = rest;
+        Some(first.id)
     }
 }

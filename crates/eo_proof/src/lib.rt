@@ -3,6 +3,8 @@
 
 mod facts;
 mod ids;
+mod named;
+mod places;
 mod scopes;
 
 pub use facts::{FactRefused, Facts, NoScope, UnknownPremise};

@@ -9,7 +9,6 @@ ghost use Rattle.eo_proof.specs.Outcomes.{Pushed, Popped};
 
 use crate::facts::Begun;
 use crate::{FactRefused, Facts, NoScope};
-use eo_base::Name;
 use eo_base::limits::SCOPES;
 use eo_term::Id;
 
@@ -31,7 +30,6 @@ impl Facts {
         if self.has(name) {
             return Err(FactRefused::Redeclared);
         }
-        let name = Name::new(self.alloc, name)?;
         self.begin(name, id)?;
         Ok(())
     }

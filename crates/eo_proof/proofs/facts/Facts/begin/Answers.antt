@@ -1,8 +1,5 @@
-use Rattle.std.proofs.Common.{◌≡◌, ◌∙◌, ap, sym, subst, List, ℕ, ◌∷◌, ◌++◌, [], None, reverse}
-use Rattle.std.specs.Map.{lookup}
-use Rattle.std.specs.Str.{bytes_eq}
+use Rattle.std.proofs.Common.{◌∙◌, ap, sym, subst, List, ℕ, ◌∷◌, ◌++◌, [], reverse}
 use Rattle.std.proofs.lemmas.List.{reverse-append}
-use Rattle.indexmap.proofs.CallerLemmas.{insert_entry-new}
 use Rattle.eo_proof.specs.declared.facts.Begun.{Begun}
 use Rattle.eo_proof.specs.Kept.{NamedId, IsKept, kept_of, scopes, with_begun}
 use Rattle.eo_proof.proofs.Reading.{kept_begun, begun_in}
@@ -10,24 +7,23 @@ use Rattle.eo_proof.proofs.facts.Facts.begin.Goals as goal
 
 pub returns-clause-added : goal.returns-clause-added
 returns-clause-added c =
-    let name = c.args.name in
-    let es = c.self.inside.formulas.entries in
+    let name = c.args.name.now in
+    let es = c.self.inside.formulas in
     let scope : Begun = record { first = c.len-first.result; hypothesis = c.args.id } in
-    let absent : lookup (bytes_eq name) es ≡ None = ap (λ k. lookup (bytes_eq name) k.facts) c.self.view_is ∙ c.requires in
-    let facts_is = c.in_ok-insert.ensures.entries ∙ insert_entry-new bytes_eq c.self.inside.formulas name c.args.id absent in
-    let items_is = c.in_ok-push.ensures.items ∙ ap (λ (xs : List Begun). xs ++ scope ∷ []) c.in_ok-reserve.ensures.items in
+    let facts_is = c.in_ok-push.ensures.new in
+    let items_is = c.in_ok-push-2.ensures.items ∙ ap (λ (xs : List Begun). xs ++ scope ∷ []) c.in_ok-reserve.ensures.items in
     (λ i. kept_of (facts_is i) (items_is i))
     ∙ ap (λ (bs : List Begun). record { facts = es ++ (name, c.args.id) ∷ []; begun = bs }) (reverse-append c.self.inside.begun.items (scope ∷ []))
-    ∙ ap (λ (n : ℕ). record { facts = es ++ (name, c.args.id) ∷ []; begun = record { first = n; hypothesis = c.args.id } ∷ reverse c.self.inside.begun.items }) c.len-first.ensures.len
+    ∙ ap (λ (n : ℕ). record { facts = es ++ (name, c.args.id) ∷ []; begun = record { first = n; hypothesis = c.args.id } ∷ reverse c.self.inside.begun.items }) c.len-first.ensures
     ∙ ap (λ k. with_begun k (name, c.args.id)) c.self.view_is
 
 pub returns-clause-begins : goal.returns-clause-begins
 returns-clause-begins c =
-    let f : NamedId = (c.args.name, c.args.id) in
+    let f : NamedId = (c.args.name.now, c.args.id) in
     (λ ts. ap (scopes ts) (returns-clause-added c) ∙ begun_in ts c.args.self.now f)
 
 pub invariant_of-self-2 : goal.invariant_of-self-2
 invariant_of-self-2 c =
-    let f : NamedId = (c.args.name, c.args.id) in
+    let f : NamedId = (c.args.name.now, c.args.id) in
     subst (λ k. IsKept k c.self.inside.refutes) (sym (returns-clause-added c))
     (kept_begun c.args.self.now c.self.inside.refutes f (subst (λ k. IsKept k c.self.inside.refutes) c.self.view_is c.self.invariant))
