@@ -1,23 +1,37 @@
-ghost use Rattle.std.specs.Prelude.{◌≡◌, [], ◌∷◌};
+ghost use Rattle.std.specs.Prelude.{◌≡◌, [], ◌∷◌, IfOk};
 ghost use Rattle.eo_io.specs.Library.{Rest};
 
 use eo_io::*;
 use std::alloc::{AllocError, Global};
+use std::path::Path;
 use std::test::Fail;
-use std::{env, fs, process};
+use std::{env, fs, io, process};
 
-/// Reads what is left of the one open file through a small buffer, and answers whether it came to
-/// the end.
-fn read_rest<L: Library>(library: &mut L, bytes: &mut Vec<u8>) -> Result<bool, AllocError>
+/// Reads a piece of the one open file through a small buffer, and answers whether that was its end,
+/// where nothing more is to be read.
+fn read_piece<L: Library>(library: &mut L, bytes: &mut Vec<u8>) -> Result<Option<bool>, AllocError>
     requires { (rest : Rest) × (L.open_files library.old ≡ rest ∷ []) }
     ensures { (rest : Rest) × (L.open_files library.new ≡ rest ∷ []) }
 {
     let mut buf = [0; 4];
+    match library.read(&mut buf) {
+        Got::Failed => Ok(Some(false)),
+        Got::Bytes(0) => Ok(Some(true)),
+        Got::Bytes(n) => {
+            bytes.extend_from_slice(&buf[..n])?;
+            Ok(None)
+        }
+    }
+}
+
+/// Reads what is left of the one open file, and answers whether it came to the end.
+fn read_rest<L: Library>(library: &mut L, bytes: &mut Vec<u8>) -> Result<bool, AllocError>
+    requires { (rest : Rest) × (L.open_files library.old ≡ rest ∷ []) }
+    ensures { (rest : Rest) × (L.open_files library.new ≡ rest ∷ []) }
+{
     for _ in 0..100 {
-        match library.read(&mut buf) {
-            Got::Failed => return Ok(false),
-            Got::Bytes(0) => return Ok(true),
-            Got::Bytes(n) => bytes.extend_from_slice(&buf[..n])?,
+        if let Some(ended) = read_piece(library, bytes)? {
+            return Ok(ended);
         }
     }
     Ok(false)
@@ -45,73 +59,149 @@ fn read_file<L: Library>(
     }
 }
 
-#[test]
-fn honest_library(rt: HostRuntime) -> Result<(), Fail> {
-    let mut library = HonestLibrary::new(rt.alloc())?;
+// Whether opening the file answers this, and reading it comes to the end or not, with these bytes.
+fn is_read_so<L: Library>(
+    alloc: Global,
+    library: &mut L,
+    path: &[u8],
+    want: (Opened, bool, &[u8]),
+) -> Result<bool, AllocError>
+    requires { L.open_files library.old ≡ [] }
+    ensures { L.open_files library.new ≡ [] }
+{
+    let (opened, ended, bytes) = read_file(alloc, library, path)?;
+    Ok((opened, ended, bytes.as_slice()) == want)
+}
+
+// A library with two files, of which one was added twice.
+fn library_of_two(alloc: Global) -> Result<HonestLibrary, AllocError>
+    ensures { IfOk result (λ library. library.unread ≡ []) }
+{
+    let mut library = HonestLibrary::new(alloc)?;
     library.add(b"a", b"first")?;
     library.add(b"b", b"")?;
     library.add(b"a", b"the second one")?;
-    let cases: [(&[u8], Opened, &[u8]); 3] = [
-        (b"a", Opened::Ready, b"the second one"),
-        (b"b", Opened::Ready, b""),
-        (b"c", Opened::Absent, b""),
-    ];
-    for (path, opened, bytes) in cases {
-        let (answer, ended, read) = read_file(rt.alloc(), &mut library, path)?;
-        assert_eq!(rt; answer, opened);
-        assert_eq!(rt; ended, opened == Opened::Ready);
-        assert_eq!(rt; read.as_slice(), bytes);
-    }
+    Ok(library)
+}
+
+// Whether both files of that library are read, and a third is absent.
+fn reads_two(alloc: Global, library: &mut HonestLibrary) -> Result<[bool; 3], AllocError>
+    requires { library.old.unread ≡ [] }
+{
+    Ok([
+        is_read_so(
+            alloc,
+            library,
+            b"a",
+            (Opened::Ready, true, b"the second one"),
+        )?,
+        is_read_so(alloc, library, b"b", (Opened::Ready, true, b""))?,
+        is_read_so(alloc, library, b"c", (Opened::Absent, false, b""))?,
+    ])
+}
+
+fn told_of_two(alloc: Global) -> Result<[bool; 3], AllocError> {
+    let mut library = library_of_two(alloc)?;
+    reads_two(alloc, &mut library)
+}
+
+#[test]
+fn honest_library(rt: HostRuntime) -> Result<(), Fail> {
+    assert_eq!(rt; told_of_two(rt.alloc())?, [true; 3]);
     Ok(())
+}
+
+// A library with one file, of which no read gives more than three bytes.
+fn library_of_pieces(alloc: Global) -> Result<MemoryLibrary, AllocError>
+    ensures { IfOk result (λ library. library.stored.unread ≡ []) }
+{
+    let mut library = MemoryLibrary::new(alloc)?;
+    library.add(b"a", b"abcdefg")?;
+    library.piece(3);
+    Ok(library)
+}
+
+// Whether the file is read whole, then not to the end, and then not opened, and another is absent.
+fn reads_pieces(alloc: Global, library: &mut MemoryLibrary) -> Result<[bool; 4], AllocError>
+    requires { library.old.stored.unread ≡ [] }
+{
+    // an open and four reads
+    let whole = is_read_so(alloc, library, b"a", (Opened::Ready, true, b"abcdefg"))?;
+    library.fail(8)?;
+    library.fail(9)?;
+    Ok([
+        whole,
+        // an open, a read, and a read that fails
+        is_read_so(alloc, library, b"a", (Opened::Ready, false, b"abc"))?,
+        is_read_so(alloc, library, b"a", (Opened::Failed, false, b""))?,
+        is_read_so(alloc, library, b"b", (Opened::Absent, false, b""))?,
+    ])
+}
+
+fn told_of_pieces(alloc: Global) -> Result<[bool; 4], AllocError> {
+    let mut library = library_of_pieces(alloc)?;
+    reads_pieces(alloc, &mut library)
 }
 
 #[test]
 fn memory_library(rt: HostRuntime) -> Result<(), Fail> {
-    let mut library = MemoryLibrary::new(rt.alloc())?;
-    library.add(b"a", b"abcdefg")?;
-    library.piece(3);
-    // an open and four reads
-    let (opened, ended, bytes) = read_file(rt.alloc(), &mut library, b"a")?;
-    assert_eq!(rt; opened, Opened::Ready);
-    assert!(rt; ended);
-    assert_eq!(rt; bytes.as_slice(), b"abcdefg".as_slice());
-    library.fail(8)?;
-    library.fail(9)?;
-    // an open, a read, and a read that fails
-    let (opened, ended, bytes) = read_file(rt.alloc(), &mut library, b"a")?;
-    assert_eq!(rt; opened, Opened::Ready);
-    assert!(rt; !ended);
-    assert_eq!(rt; bytes.as_slice(), b"abc".as_slice());
-    let (opened, _, _) = read_file(rt.alloc(), &mut library, b"a")?;
-    assert_eq!(rt; opened, Opened::Failed);
-    let (opened, _, _) = read_file(rt.alloc(), &mut library, b"b")?;
-    assert_eq!(rt; opened, Opened::Absent);
+    assert_eq!(rt; told_of_pieces(rt.alloc())?, [true; 4]);
     Ok(())
+}
+
+// Whether writing the piece comes to its end or not, and leaves these bytes in the sink.
+fn is_written_so(sink: &mut MemorySink, piece: &[u8], ended: bool, bytes: &[u8]) -> bool {
+    write_all(sink, piece) == ended && sink.bytes() == bytes
+}
+
+// Whether one piece is written, one up to the call that fails, one up to the room, and then one of
+// no bytes.
+fn writes_pieces(sink: &mut MemorySink) -> Result<[bool; 4], AllocError> {
+    sink.piece(2);
+    let whole = is_written_so(sink, b"hello", true, b"hello");
+    sink.fail(5)?;
+    Ok([
+        whole,
+        is_written_so(sink, b"abc", false, b"helloab"),
+        is_written_so(sink, b"cdef", false, b"helloabcd"),
+        is_written_so(sink, b"", true, b"helloabcd"),
+    ])
+}
+
+fn told_of_sink(alloc: Global) -> Result<[bool; 4], AllocError> {
+    let mut sink = MemorySink::new(alloc, 9)?;
+    writes_pieces(&mut sink)
 }
 
 #[test]
 fn memory_sink(rt: HostRuntime) -> Result<(), Fail> {
-    let mut sink = MemorySink::new(rt.alloc(), 9)?;
-    sink.piece(2);
-    assert!(rt; write_all(&mut sink, b"hello"));
-    assert_eq!(rt; sink.bytes(), b"hello".as_slice());
-    sink.fail(5)?;
-    assert!(rt; !write_all(&mut sink, b"abc"));
-    assert_eq!(rt; sink.bytes(), b"helloab".as_slice());
-    assert!(rt; !write_all(&mut sink, b"cdef"));
-    assert_eq!(rt; sink.bytes(), b"helloabcd".as_slice());
-    assert!(rt; write_all(&mut sink, b""));
+    assert_eq!(rt; told_of_sink(rt.alloc())?, [true; 4]);
     Ok(())
+}
+
+// The numbers of two paths, and of the first once more.
+fn add_paths(paths: &mut Paths) -> Result<[usize; 3], AllocError> {
+    Ok([
+        paths.add(b"lib/a.eo")?,
+        paths.add(b"b.eo")?,
+        paths.add(b"lib/a.eo")?,
+    ])
+}
+
+// Those numbers, and those of a path that was added and of one that was not.
+fn number_paths(paths: &mut Paths) -> Result<([usize; 3], [Option<usize>; 2]), AllocError> {
+    let added = add_paths(paths)?;
+    Ok((added, [paths.find(b"b.eo"), paths.find(b"c.eo")]))
+}
+
+fn told_of_paths(alloc: Global) -> Result<([usize; 3], [Option<usize>; 2]), AllocError> {
+    let mut paths = Paths::new(alloc)?;
+    number_paths(&mut paths)
 }
 
 #[test]
 fn paths(rt: HostRuntime) -> Result<(), Fail> {
-    let mut paths = Paths::new(rt.alloc())?;
-    assert_eq!(rt; paths.add(b"lib/a.eo")?, 0);
-    assert_eq!(rt; paths.add(b"b.eo")?, 1);
-    assert_eq!(rt; paths.add(b"lib/a.eo")?, 0);
-    assert_eq!(rt; paths.find(b"b.eo"), Some(1));
-    assert_eq!(rt; paths.find(b"c.eo"), None);
+    assert_eq!(rt; told_of_paths(rt.alloc())?, ([0, 1, 0], [Some(1), None]));
     Ok(())
 }
 
@@ -193,27 +283,71 @@ fn folded_paths_have_a_limit(rt: HostRuntime) -> Result<(), Fail> {
     Ok(())
 }
 
+// Whether a file of the folder is read so.
+fn is_read_in<L: Library>(
+    alloc: Global,
+    library: &mut L,
+    folder: Path<'_>,
+    name: &str,
+    want: (Opened, bool, &[u8]),
+) -> Result<bool, AllocError>
+    requires { L.open_files library.old ≡ [] }
+    ensures { L.open_files library.new ≡ [] }
+{
+    let path = folder.join(alloc, name)?;
+    is_read_so(alloc, library, path.as_str().as_bytes(), want)
+}
+
+const WRITTEN: &str = "(exit) ; and more\n";
+
+// Whether a file of the folder is read, an absent one and one whose name is no text are absent, and
+// the folder itself is opened and not read.
+fn reads_folder<L: Library>(
+    alloc: Global,
+    library: &mut L,
+    folder: Path<'_>,
+) -> Result<[bool; 4], AllocError>
+    requires { L.open_files library.old ≡ [] }
+{
+    let there = (Opened::Ready, true, WRITTEN.as_bytes());
+    let missing = (Opened::Absent, false, b"".as_slice());
+    let closed = (Opened::Ready, false, b"".as_slice());
+    Ok([
+        is_read_in(alloc, library, folder, "file.eo", there)?,
+        is_read_in(alloc, library, folder, "absent.eo", missing)?,
+        is_read_so(alloc, library, b"\xff", missing)?,
+        is_read_so(alloc, library, folder.as_str().as_bytes(), closed)?,
+    ])
+}
+
+fn told_of_folder(rt: &HostRuntime, folder: Path<'_>) -> Result<[bool; 4], AllocError> {
+    let mut library = DiskLibrary::new(rt, rt.alloc())?;
+    reads_folder(rt.alloc(), &mut library, folder)
+}
+
+fn make_folder(rt: &HostRuntime, folder: Path<'_>) -> io::Result<()> {
+    fs::create_dir_all(rt, folder)?;
+    let file = folder.join(rt.alloc(), "file.eo")?;
+    fs::write(rt, file.as_path(), WRITTEN)
+}
+
+// What is told of a folder that is there for that time.
+fn told_meanwhile(rt: &HostRuntime, folder: Path<'_>) -> io::Result<[bool; 4]> {
+    make_folder(rt, folder)?;
+    let told = told_of_folder(rt, folder);
+    fs::remove_dir_all(rt, folder)?;
+    Ok(told?)
+}
+
+fn told_of_disk(rt: &HostRuntime) -> io::Result<[bool; 4]> {
+    let name = format!(in rt.alloc(); "ethos_eo_io_{}", process::id(rt.process()))?;
+    let folder = env::temp_dir(rt)?.join(rt.alloc(), &name)?;
+    told_meanwhile(rt, folder.as_path())
+}
+
 #[test]
 fn system(rt: HostRuntime) -> Result<(), Fail> {
-    let name = format!(in rt.alloc(); "ethos_eo_io_{}", process::id(rt.process()))?;
-    let folder = env::temp_dir(&rt)?.join(rt.alloc(), &name)?;
-    let file = folder.join(rt.alloc(), "file.eo")?;
-    let absent = folder.join(rt.alloc(), "absent.eo")?;
-    fs::create_dir_all(&rt, folder.as_path())?;
-    fs::write(&rt, file.as_path(), "(exit) ; and more\n")?;
-    let mut library = DiskLibrary::new(&rt, rt.alloc())?;
-    let there = read_file(rt.alloc(), &mut library, file.as_str().as_bytes())?;
-    let missing = read_file(rt.alloc(), &mut library, absent.as_str().as_bytes())?;
-    let no_text = read_file(rt.alloc(), &mut library, b"\xff")?;
-    let of_folder = read_file(rt.alloc(), &mut library, folder.as_str().as_bytes())?;
-    fs::remove_dir_all(&rt, folder.as_path())?;
-    assert_eq!(rt; there.0, Opened::Ready);
-    assert!(rt; there.1);
-    assert_eq!(rt; there.2.as_slice(), b"(exit) ; and more\n".as_slice());
-    assert_eq!(rt; missing.0, Opened::Absent);
-    assert_eq!(rt; no_text.0, Opened::Absent);
-    assert_eq!(rt; of_folder.0, Opened::Ready);
-    assert!(rt; !of_folder.1);
+    assert_eq!(rt; told_of_disk(&rt)?, [true; 4]);
     assert!(rt; write_all(&mut StdSink::new(&rt), b"written\n"));
     Ok(())
 }

@@ -1,5 +1,8 @@
 //! Values and spellings that are known.
-use eo_lit::{BadLiteral, LitRead, read_literal, read_string, write_literal, write_string};
+use eo_lit::{
+    BadLiteral, LitRead, StringRefused, read_literal, read_string, write_literal, write_string,
+};
+use std::alloc::{AllocError, Global};
 use std::test::Fail;
 
 const LEAST: &str = "-170141183460469231731687303715884105728";
@@ -8,9 +11,22 @@ const GREATEST: &str = "170141183460469231731687303715884105727";
 
 const ONES: &str = "#xffffffffffffffffffffffffffffffff";
 
+const WIDEST: &str =
+    "#b00000000000000000000000000000000000000000000000000000000000000000000000000000000000000000000000000000000000000000000000000000001";
+
+// The first word that is read as something else than what stands beside it.
+fn misread<'a>(rows: &[(&'a str, LitRead)]) -> Option<&'a str> {
+    for row in rows {
+        if read_literal(row.0.as_bytes()) != Ok(row.1) {
+            return Some(row.0);
+        }
+    }
+    None
+}
+
 #[test]
 fn literals(rt: HostRuntime) {
-    for (word, want) in [
+    let rows = [
         ("0", LitRead::Num(0)),
         ("1024", LitRead::Num(1024)),
         ("-1", LitRead::Num(-1)),
@@ -39,14 +55,23 @@ fn literals(rt: HostRuntime) {
                 value: u128::MAX,
             },
         ),
-    ] {
-        assert_eq!(rt; read_literal(word.as_bytes()), Ok(want), "at {word}");
+    ];
+    assert_eq!(rt; misread(&rows), None);
+}
+
+// The first word that is read as a literal.
+fn read_at_all<'a>(words: &[&'a str]) -> Option<&'a str> {
+    for word in words {
+        if read_literal(word.as_bytes()) != Err(BadLiteral) {
+            return Some(word);
+        }
     }
+    None
 }
 
 #[test]
 fn words_that_are_no_literals(rt: HostRuntime) {
-    for word in [
+    let words = [
         "",
         "007",
         "00",
@@ -69,73 +94,146 @@ fn words_that_are_no_literals(rt: HostRuntime) {
         "#xg",
         "#o7",
         "#x000000000000000000000000000000000",
-    ] {
-        assert_eq!(rt; read_literal(word.as_bytes()), Err(BadLiteral), "at {word}");
+    ];
+    assert_eq!(rt; read_at_all(&words), None);
+}
+
+// Whether the word is read as the literal, and what was read is written as the word.
+fn is_written_back(alloc: Global, word: &str, want: LitRead) -> Result<bool, AllocError> {
+    let Ok(literal) = read_literal(word.as_bytes()) else {
+        return Ok(false);
+    };
+    let text = write_literal(alloc, literal)?;
+    Ok(literal == want && text.as_str() == word)
+}
+
+// The first word that is read as something else than what stands beside it, or not written so.
+fn not_written_back<'a>(
+    alloc: Global,
+    rows: &[(&'a str, LitRead)],
+) -> Result<Option<&'a str>, AllocError> {
+    for row in rows {
+        if !is_written_back(alloc, row.0, row.1)? {
+            return Ok(Some(row.0));
+        }
     }
+    Ok(None)
 }
 
 #[test]
 fn literals_are_written_and_read_back(rt: HostRuntime) -> Result<(), Fail> {
-    for (literal, want) in [
-        (LitRead::Num(0), "0"),
-        (LitRead::Num(-1), "-1"),
-        (LitRead::Num(i128::MAX), GREATEST),
-        (LitRead::Num(i128::MIN), LEAST),
-        (LitRead::Bits { width: 1, value: 1 }, "#b1"),
-        (LitRead::Bits { width: 4, value: 5 }, "#b0101"),
-    ] {
-        let text = write_literal(rt.alloc(), literal)?;
-        assert_eq!(rt; text.as_str(), want);
-        assert_eq!(rt; read_literal(text.as_bytes()), Ok(literal), "at {want}");
-    }
-    let widest = LitRead::Bits {
-        width: 128,
-        value: 1,
-    };
-    let text = write_literal(rt.alloc(), widest)?;
-    assert_eq!(rt; text.as_bytes().len(), 130);
-    assert_eq!(rt; read_literal(text.as_bytes()), Ok(widest));
+    let rows = [
+        ("0", LitRead::Num(0)),
+        ("-1", LitRead::Num(-1)),
+        (GREATEST, LitRead::Num(i128::MAX)),
+        (LEAST, LitRead::Num(i128::MIN)),
+        ("#b1", LitRead::Bits { width: 1, value: 1 }),
+        ("#b0101", LitRead::Bits { width: 4, value: 5 }),
+        (
+            WIDEST,
+            LitRead::Bits {
+                width: 128,
+                value: 1,
+            },
+        ),
+    ];
+    assert_eq!(rt; not_written_back(rt.alloc(), &rows)?, None);
     Ok(())
+}
+
+/// What stands between the quotes, how many characters that is and which is the last, and how they
+/// are written.
+#[derive(Clone, Copy)]
+struct StringRow<'a> {
+    body: &'a str,
+    length: usize,
+    last: u32,
+    want: &'a str,
+}
+
+fn row<'a>(body: &'a str, length: usize, last: u32, want: &'a str) -> StringRow<'a> {
+    StringRow {
+        body,
+        length,
+        last,
+        want,
+    }
+}
+
+// Whether that many characters are read, with this one as the last.
+fn are_read_so(characters: &[u32], length: usize, last: u32) -> bool {
+    characters.len() == length && characters.last().copied().unwrap_or(0) == last
+}
+
+// Whether the text is read as these characters.
+fn are_read_back(alloc: Global, text: &str, characters: &[u32]) -> Result<bool, Fail> {
+    let read = read_string(alloc, text.as_bytes())?;
+    Ok(read.as_slice() == characters)
+}
+
+// Whether a string is read and written as its row says, and then read back.
+fn is_right(alloc: Global, row: &StringRow<'_>) -> Result<bool, Fail> {
+    let characters = read_string(alloc, row.body.as_bytes())?;
+    let text = write_string(alloc, &characters)?;
+    Ok(
+        are_read_so(characters.as_slice(), row.length, row.last)
+            && text.as_str() == row.want
+            && are_read_back(alloc, text.as_str(), characters.as_slice())?,
+    )
+}
+
+// The first string that is read or written in another way.
+fn wrong_string<'a>(alloc: Global, rows: &[StringRow<'a>]) -> Result<Option<&'a str>, Fail> {
+    for row in rows {
+        if !is_right(alloc, row)? {
+            return Ok(Some(row.body));
+        }
+    }
+    Ok(None)
 }
 
 #[test]
 fn strings_are_read_and_written(rt: HostRuntime) -> Result<(), Fail> {
-    for (body, length, last, want) in [
-        (r#""#, 0, 0, ""),
-        ("a\"\"b", 3, 98, "a\"\"b"),
-        (r"\u{2FFFF}", 1, 0x2_ffff, r"\u{2ffff}"),
-        (r"\u{30000}", 9, 125, r"\u{5c}u{30000}"),
-        (r"\u{5c}u{41}", 6, 125, r"\u{5c}u{41}"),
-        (r"\u0041", 1, 65, "A"),
-        (r"\u41", 4, 49, r"\u{5c}u41"),
-        (r"\u{}", 4, 125, r"\u{5c}u{}"),
-        (r"\u{000041}", 10, 125, r"\u{5c}u{000041}"),
-        (r"\u{0}", 1, 0, r"\u{0}"),
-        (r"\u{1F}", 1, 31, r"\u{1f}"),
-        (r"\ud800", 1, 0xd800, r"\u{d800}"),
-        ("\\\\", 2, 92, r"\u{5c}\u{5c}"),
-        ("\t\r\n", 3, 10, r"\u{9}\u{d}\u{a}"),
-        (" ~", 2, 126, " ~"),
-        (r"\u{7f}", 1, 127, r"\u{7f}"),
-    ] {
-        let characters = read_string(rt.alloc(), body.as_bytes())?;
-        assert_eq!(rt; characters.as_slice().len(), length, "at {body}");
-        assert_eq!(rt;
-            characters.as_slice().last().copied().unwrap_or(0),
-            last,
-            "at {body}"
-        );
-        let text = write_string(rt.alloc(), &characters)?;
-        assert_eq!(rt; text.as_str(), want, "at {body}");
-        let again = read_string(rt.alloc(), text.as_bytes())?;
-        assert_eq!(rt; again.as_slice(), characters.as_slice(), "at {body}");
-    }
+    let rows = [
+        row(r#""#, 0, 0, ""),
+        row("a\"\"b", 3, 98, "a\"\"b"),
+        row(r"\u{2FFFF}", 1, 0x2_ffff, r"\u{2ffff}"),
+        row(r"\u{30000}", 9, 125, r"\u{5c}u{30000}"),
+        row(r"\u{5c}u{41}", 6, 125, r"\u{5c}u{41}"),
+        row(r"\u0041", 1, 65, "A"),
+        row(r"\u41", 4, 49, r"\u{5c}u41"),
+        row(r"\u{}", 4, 125, r"\u{5c}u{}"),
+        row(r"\u{000041}", 10, 125, r"\u{5c}u{000041}"),
+        row(r"\u{0}", 1, 0, r"\u{0}"),
+        row(r"\u{1F}", 1, 31, r"\u{1f}"),
+        row(r"\ud800", 1, 0xd800, r"\u{d800}"),
+        row("\\\\", 2, 92, r"\u{5c}\u{5c}"),
+        row("\t\r\n", 3, 10, r"\u{9}\u{d}\u{a}"),
+        row(" ~", 2, 126, " ~"),
+        row(r"\u{7f}", 1, 127, r"\u{7f}"),
+    ];
+    assert_eq!(rt; wrong_string(rt.alloc(), &rows)?, None);
     Ok(())
+}
+
+// Whether the body is refused as that of no string.
+fn is_bad(alloc: Global, body: &[u8]) -> bool {
+    matches!(read_string(alloc, body), Err(StringRefused::Bad))
+}
+
+// The first body that is not refused so.
+fn not_bad<'a>(alloc: Global, bodies: &[&'a [u8]]) -> Option<&'a [u8]> {
+    for body in bodies {
+        if !is_bad(alloc, body) {
+            return Some(body);
+        }
+    }
+    None
 }
 
 #[test]
 fn bodies_that_are_no_strings(rt: HostRuntime) {
-    for body in [
+    let bodies = [
         b"\"".as_slice(),
         b"a\"b",
         b"\"\"\"",
@@ -143,11 +241,6 @@ fn bodies_that_are_no_strings(rt: HostRuntime) {
         b"\x0b",
         b"\x7f",
         b"a\xc3\xa9",
-    ] {
-        let refused = read_string(rt.alloc(), body);
-        assert!(rt;
-            matches!(refused, Err(eo_lit::StringRefused::Bad)),
-            "at {body:?}"
-        );
-    }
+    ];
+    assert_eq!(rt; not_bad(rt.alloc(), &bodies), None);
 }
