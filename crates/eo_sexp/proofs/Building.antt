@@ -11,6 +11,8 @@ use Rattle.eo_sexp.specs.Sexp.{sexps_of}
 use Rattle.eo_sexp.specs.declared.lent.Node.{Node}
 use Rattle.eo_sexp.specs.declared.lent.Node.TheVariants as node
 use Rattle.eo_sexp.specs.declared.buffer.Open.{Open}
+use Rattle.eo_sexp.specs.declared.count.Count.{Count}
+use Rattle.eo_sexp.specs.Counts.{count_of}
 use Rattle.eo_sexp.specs.Nodes.{trees, token_text, AreLinked, HasText, Holds, IsSexp, first_tree, first_of}
 use Rattle.eo_sexp.specs.Built.{OpenList, Built, with_child, closed, parts_in, parts_of}
 use Rattle.eo_sexp.specs.Buffers.{open_lists, outside, built, AreOpen, counted}
@@ -27,7 +29,8 @@ take_more n xs ys h = take-append-le n xs ys h
 pub trees-append : (bytes : List ℕ) (ns more : List Node) → AreLinked bytes ns → trees bytes (ns ++ more) ≡ trees bytes ns ++ trees bytes more
 trees-append bytes [] more h = refl
 trees-append bytes (node.Atom k d from to ∷ ns) more h = ap (λ ss. Atom (kind_meant k) (token_text bytes d from to) (record { from = from; to = to }) ∷ ss) (trees-append bytes ns more h.1)
-trees-append bytes (node.List c i from to ∷ ns) more h =
+trees-append bytes (node.List k i from to ∷ ns) more h =
+    let c : ℕ = count_of k in
     let ts : List Sexp = trees bytes ns in
     let many : c ≤ length ts = h.0.many in
     ap (λ ss. Listed (sexps_of (take c ss)) (record { from = from; to = to }) ∷ drop c ss) (trees-append bytes ns more h.1)
@@ -51,7 +54,7 @@ holds-append bytes c i ns more linked h =
 pub linked-append : (bytes : List ℕ) (ns more : List Node) → AreLinked bytes ns → AreLinked bytes more → AreLinked bytes (ns ++ more)
 linked-append bytes [] more h m = m
 linked-append bytes (node.Atom k d from to ∷ ns) more h m = (h.0, linked-append bytes ns more h.1 m)
-linked-append bytes (node.List c i from to ∷ ns) more h m = (holds-append bytes c i ns more h.1 h.0, linked-append bytes ns more h.1 m)
+linked-append bytes (node.List k i from to ∷ ns) more h m = (holds-append bytes (count_of k) i ns more h.1 h.0, linked-append bytes ns more h.1 m)
 
 -- ---- a child more
 
@@ -84,12 +87,12 @@ added-open bytes ns more (o ∷ os) s h m e =
 -- ---- a list that is closed
 
 -- the node of a list of which all children stand behind it
-whole-linked : (bytes : List ℕ) (ns : List Node) (c i from to : ℕ) → AreLinked bytes ns → c ≡ length (trees bytes ns) → i ≡ length ns → AreLinked bytes (node.List c i from to ∷ ns)
+whole-linked : (bytes : List ℕ) (ns : List Node) (c : Count) (i from to : ℕ) → AreLinked bytes ns → count_of c ≡ length (trees bytes ns) → i ≡ length ns → AreLinked bytes (node.List c i from to ∷ ns)
 whole-linked bytes ns c i from to h e f = (
   record {
     inner = omega arith;
     many = omega arith;
-    behind = ap (trees bytes) (drop_of_length-le ns {i = i} (omega arith)) ∙ sym (drop_of_length-le (trees bytes ns) {i = c} (omega arith));
+    behind = ap (trees bytes) (drop_of_length-le ns {i = i} (omega arith)) ∙ sym (drop_of_length-le (trees bytes ns) {i = count_of c} (omega arith));
   },
   h,
 )
@@ -97,31 +100,31 @@ whole-linked bytes ns c i from to h e f = (
 take_all : {A : Type 0} → (xs : List A) (n : ℕ) → n ≡ length xs → take n xs ≡ xs
 take_all xs n e = ap (λ k. take k xs) e ∙ take-length xs
 
-whole-tree : (bytes : List ℕ) (ns : List Node) (c i from to : ℕ) → c ≡ length (trees bytes ns) → trees bytes (node.List c i from to ∷ ns) ≡ Listed (sexps_of (trees bytes ns)) (record { from = from; to = to }) ∷ []
+whole-tree : (bytes : List ℕ) (ns : List Node) (c : Count) (i from to : ℕ) → count_of c ≡ length (trees bytes ns) → trees bytes (node.List c i from to ∷ ns) ≡ Listed (sexps_of (trees bytes ns)) (record { from = from; to = to }) ∷ []
 whole-tree bytes ns c i from to e =
-    ap (λ ss. Listed (sexps_of ss) (record { from = from; to = to }) ∷ drop c (trees bytes ns)) (take_all (trees bytes ns) c e)
-    ∙ ap (λ ss. Listed (sexps_of (trees bytes ns)) (record { from = from; to = to }) ∷ ss) (drop_of_length-le (trees bytes ns) {i = c} (omega arith))
+    ap (λ ss. Listed (sexps_of ss) (record { from = from; to = to }) ∷ drop (count_of c) (trees bytes ns)) (take_all (trees bytes ns) (count_of c) e)
+    ∙ ap (λ ss. Listed (sexps_of (trees bytes ns)) (record { from = from; to = to }) ∷ ss) (drop_of_length-le (trees bytes ns) {i = count_of c} (omega arith))
 
 -- what a write makes of the nodes
 split-set : (ns : List Node) (i : ℕ) (n : Node) → i < length ns → set ns i n ≡ take i ns ++ n ∷ drop (i + 1) ns
 split-set ns i n h = sym (take-append-drop i (set ns i n)) ∙ ap (λ ms. ms ++ drop i (set ns i n)) (take-set ns i n) ∙ ap (λ ms. take i ns ++ ms) (drop-set ns i n h)
 
-pub list-closed : (bytes : List ℕ) (ns : List Node) (o : Open) (os : List Open) (i to : ℕ) → AreOpen bytes ns (o ∷ os) → i ≡ length ns - o.node - 1 →
-    built bytes (set ns o.node (node.List o.children i o.at to)) (counted os) ≡ closed (built bytes ns (o ∷ os)) to
-list-closed bytes ns o os i to h e =
+pub list-closed : (bytes : List ℕ) (ns : List Node) (o : Open) (os : List Open) (c : Count) (i to : ℕ) → AreOpen bytes ns (o ∷ os) → count_of c ≡ o.children → i ≡ length ns - o.node - 1 →
+    built bytes (set ns o.node (node.List c i o.at to)) (counted os) ≡ closed (built bytes ns (o ∷ os)) to
+list-closed bytes ns o os c i to h d e =
     let more = drop (o.node + 1) ns in
-    ap (λ (ms : List Node). built bytes ms (counted os)) (split-set ns o.node (node.List o.children i o.at to) h.0.within)
-    ∙ added bytes (take o.node ns) (node.List o.children i o.at to ∷ more) os (Listed (sexps_of (trees bytes more)) (record { from = o.at; to = to })) h.1 (whole-tree bytes more o.children i o.at to h.0.many)
+    ap (λ (ms : List Node). built bytes ms (counted os)) (split-set ns o.node (node.List c i o.at to) h.0.within)
+    ∙ added bytes (take o.node ns) (node.List c i o.at to ∷ more) os (Listed (sexps_of (trees bytes more)) (record { from = o.at; to = to })) h.1 (whole-tree bytes more c i o.at to (d ∙ h.0.many))
 
-pub list-closed-open : (bytes : List ℕ) (ns : List Node) (o : Open) (os : List Open) (i to : ℕ) → AreOpen bytes ns (o ∷ os) → i ≡ length ns - o.node - 1 →
-    AreOpen bytes (set ns o.node (node.List o.children i o.at to)) (counted os)
-list-closed-open bytes ns o os i to h e =
+pub list-closed-open : (bytes : List ℕ) (ns : List Node) (o : Open) (os : List Open) (c : Count) (i to : ℕ) → AreOpen bytes ns (o ∷ os) → count_of c ≡ o.children → i ≡ length ns - o.node - 1 →
+    AreOpen bytes (set ns o.node (node.List c i o.at to)) (counted os)
+list-closed-open bytes ns o os c i to h d e =
     let more = drop (o.node + 1) ns in
     let within : o.node < length ns = h.0.within in
     let size : i ≡ length more = omega (arith, length-drop (o.node + 1) ns) in
-    subst (λ (ms : List Node). AreOpen bytes ms (counted os)) (sym (split-set ns o.node (node.List o.children i o.at to) within))
-    (added-open bytes (take o.node ns) (node.List o.children i o.at to ∷ more) os (Listed (sexps_of (trees bytes more)) (record { from = o.at; to = to })) h.1
-    (whole-linked bytes more o.children i o.at to h.0.linked h.0.many size) (whole-tree bytes more o.children i o.at to h.0.many))
+    subst (λ (ms : List Node). AreOpen bytes ms (counted os)) (sym (split-set ns o.node (node.List c i o.at to) within))
+    (added-open bytes (take o.node ns) (node.List c i o.at to ∷ more) os (Listed (sexps_of (trees bytes more)) (record { from = o.at; to = to })) h.1
+    (whole-linked bytes more c i o.at to h.0.linked (d ∙ h.0.many) size) (whole-tree bytes more c i o.at to (d ∙ h.0.many)))
 
 -- ---- a list that is opened
 
@@ -152,7 +155,7 @@ trees-bytes bytes more [] h = refl
 trees-bytes bytes more (node.Atom k d from to ∷ ns) h =
     ap (λ t. Atom (kind_meant k) t (record { from = from; to = to }) ∷ trees (bytes ++ more) ns) (text-append bytes more d from to h.0)
     ∙ ap (λ ss. Atom (kind_meant k) (token_text bytes d from to) (record { from = from; to = to }) ∷ ss) (trees-bytes bytes more ns h.1)
-trees-bytes bytes more (node.List c i from to ∷ ns) h = ap (λ ss. Listed (sexps_of (take c ss)) (record { from = from; to = to }) ∷ drop c ss) (trees-bytes bytes more ns h.1)
+trees-bytes bytes more (node.List c i from to ∷ ns) h = ap (λ ss. Listed (sexps_of (take (count_of c) ss)) (record { from = from; to = to }) ∷ drop (count_of c) ss) (trees-bytes bytes more ns h.1)
 
 text-within : (bytes more : List ℕ) (d : Bool) (from to : ℕ) → HasText bytes d from to → HasText (bytes ++ more) d from to
 text-within bytes more true from to h = (h.0, omega (arith, h.1, length-append bytes more))
@@ -165,8 +168,8 @@ linked-bytes bytes more (node.List c i from to ∷ ns) h =
     let same = trees-bytes bytes more ns h.1 in (
       record {
         inner = h.0.inner;
-        many = subst (λ ss. c ≤ length ss) (sym same) h.0.many;
-        behind = trees-bytes bytes more (drop i ns) (linked_behind bytes ns i h.1) ∙ h.0.behind ∙ ap (drop c) (sym same);
+        many = subst (λ ss. count_of c ≤ length ss) (sym same) h.0.many;
+        behind = trees-bytes bytes more (drop i ns) (linked_behind bytes ns i h.1) ∙ h.0.behind ∙ ap (drop (count_of c)) (sym same);
       },
       linked-bytes bytes more ns h.1,
     )
@@ -202,7 +205,7 @@ open-bytes bytes more ns (o ∷ os) h = (
 pub count-trees : (bytes : List ℕ) (ns : List Node) → length (trees bytes ns) ≤ length ns
 count-trees bytes [] = omega arith
 count-trees bytes (node.Atom k d from to ∷ ns) = omega (arith, count-trees bytes ns)
-count-trees bytes (node.List c i from to ∷ ns) = omega (arith, count-trees bytes ns, length-drop c (trees bytes ns))
+count-trees bytes (node.List c i from to ∷ ns) = omega (arith, count-trees bytes ns, length-drop (count_of c) (trees bytes ns))
 
 pub count-children : (bytes : List ℕ) (ns : List Node) (o : Open) (os : List Open) → AreOpen bytes ns (o ∷ os) → o.children < length ns
 count-children bytes ns o os h =
@@ -218,7 +221,7 @@ count-open bytes ns (o ∷ os) = ap suc (count-open bytes (take o.node ns) os)
 size-trees : (bytes : List ℕ) (ns : List Node) → size_of_all (trees bytes ns) ≡ length ns
 size-trees bytes [] = refl
 size-trees bytes (node.Atom k d from to ∷ ns) = omega (arith, size-trees bytes ns)
-size-trees bytes (node.List c i from to ∷ ns) = omega (arith, size-trees bytes ns, size-split c (trees bytes ns))
+size-trees bytes (node.List c i from to ∷ ns) = omega (arith, size-trees bytes ns, size-split (count_of c) (trees bytes ns))
 
 size-open : (bytes : List ℕ) (ns : List Node) (os : List Open) → AreOpen bytes ns os → parts_in (open_lists bytes ns os) + size_of_all (outside bytes ns os) ≡ length ns
 size-open bytes ns [] h = omega (arith, size-trees bytes ns)

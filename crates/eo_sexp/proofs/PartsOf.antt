@@ -4,6 +4,7 @@ use Rattle.eo_sexp.specs.Sexp.{Sexp, sexps_of}
 use Rattle.eo_sexp.specs.declared.lent.Node.{Node}
 use Rattle.eo_sexp.specs.declared.lent.Node.TheVariants as node
 use Rattle.eo_sexp.specs.declared.buffer.Open.{Open}
+use Rattle.eo_sexp.specs.Counts.{count_of}
 use Rattle.eo_sexp.specs.Buffers.{AreOpen, open_lists, outside}
 use Rattle.eo_sexp.specs.Nodes.{trees, first_of, AreLinked}
 use Rattle.eo_sexp.specs.Parts.{IsPart, AreParts}
@@ -30,7 +31,7 @@ all-parts bytes [] h = tt
 all-parts bytes (node.Atom k delimited from to ∷ ns) h = ((delimited, h.0, refl), all-parts bytes ns h.1)
 all-parts bytes (node.List children inside from to ∷ ns) h =
     let later = all-parts bytes ns h.1 in
-    (first-parts bytes children (trees bytes ns) later, later-parts bytes children (trees bytes ns) later)
+    (first-parts bytes (count_of children) (trees bytes ns) later, later-parts bytes (count_of children) (trees bytes ns) later)
 
 first-part : (bytes : List ℕ) (ss : List Sexp) → AllParts bytes ss → IsPart bytes (first_of ss)
 unfolding AllParts

@@ -2,6 +2,7 @@ pub mod Answering
 pub mod AtomKind
 pub mod Collecting
 pub mod Commands
+pub mod Counts
 pub mod Cutting
 pub mod Kinds
 pub mod Lexicon

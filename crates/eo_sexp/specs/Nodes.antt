@@ -6,6 +6,7 @@ use Rattle.eo_sexp.specs.Sexp.{sexps_of}
 use Rattle.eo_sexp.specs.declared.token.AtomKind.{AtomKind}
 use Rattle.eo_sexp.specs.declared.lent.Node.{Node}
 use Rattle.eo_sexp.specs.declared.lent.Node.TheVariants as node
+use Rattle.eo_sexp.specs.Counts.{count_of}
 use Rattle.eo_sexp.specs.Token.{kind_meant}
 
 -- the bytes of a token, without its delimiters
@@ -22,7 +23,7 @@ abbrev pub trees : List ℕ → List Node → List Sexp
 trees bytes [] = []
 trees bytes (node.Atom k delimited from to ∷ ns) = Atom (kind_meant k) (token_text bytes delimited from to) (record { from = from; to = to }) ∷ trees bytes ns
 trees bytes (node.List children inside from to ∷ ns) =
-    Listed (sexps_of (take children (trees bytes ns))) (record { from = from; to = to }) ∷ drop children (trees bytes ns)
+    Listed (sexps_of (take (count_of children) (trees bytes ns))) (record { from = from; to = to }) ∷ drop (count_of children) (trees bytes ns)
 
 abbrev pub first_of : List Sexp → Sexp
 first_of [] = Listed NoSexp (record { from = 0; to = 0 })
@@ -46,7 +47,7 @@ pub record Holds (bytes : List ℕ) (children inside : ℕ) (ns : List Node) : T
 -- a node fits those behind it
 abbrev pub Fits : List ℕ → Node → List Node → Type 0
 Fits bytes (node.Atom k delimited from to) ns = HasText bytes delimited from to
-Fits bytes (node.List children inside from to) ns = Holds bytes children inside ns
+Fits bytes (node.List children inside from to) ns = Holds bytes (count_of children) inside ns
 
 abbrev pub AreLinked : List ℕ → List Node → Type 0
 AreLinked bytes [] = Unit {0}

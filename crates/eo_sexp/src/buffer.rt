@@ -5,6 +5,7 @@ ghost use Rattle.eo_sexp.specs.Nodes.{token_atom, HasText, first_of};
 ghost use Rattle.eo_sexp.specs.Parts.{IsPart};
 ghost use Rattle.eo_sexp.specs.Built.{nothing, with_child, closed, opened, width_of, parts_of};
 
+use crate::count::Count;
 use crate::lent::{Node, Sexp, first};
 use crate::token::AtomKind;
 use std::alloc::{AllocError, Global};
@@ -169,7 +170,7 @@ impl Buffer {
             children: 0,
         })?;
         let list = Node::List {
-            children: 0,
+            children: Count::new(0),
             inside: 0,
             from: at as u32,
             to: at as u32,
@@ -185,14 +186,15 @@ impl Buffer {
     /// Closes the innermost list before this byte. It takes no memory.
     pub(crate) fn close_list(&mut self, to: usize)
         requires some { 0 < length self.old.open_lists }
-        requires short { to ≤ 2 ^ 31 }
+        requires short { to ≤ 2 ^ 24 + 1 }
+        requires own { parts_of self.old < to }
         requires behind { length self.old.bytes < to }
         ensures { self.new ≡ closed self.old to }
     {
         let Open { at, node, children } = self.lists.pop().unwrap();
         let inside = self.nodes.len() - node - 1;
         self.nodes[node] = Node::List {
-            children,
+            children: Count::new(children as usize),
             inside: inside as u32,
             from: at,
             to: to as u32,

@@ -7,6 +7,7 @@ ghost use Rattle.eo_sexp.specs.Pairs.{pair_of_span, only_one, first_one, first_t
 ghost use Rattle.eo_sexp.specs.Nodes.{IsSexp, first_tree, AreLinked, trees};
 
 use crate::Kind;
+use crate::count::Count;
 use crate::token::AtomKind;
 use std::marker::Model;
 
@@ -14,8 +15,8 @@ use std::marker::Model;
 /// before its children, and each of these before what lies inside of it.
 ///
 /// A command has up to one node for each of its bytes, and the time to read a large one is that of
-/// touching their memory. So a node has numbers of 32 bits, which a command's bytes are below, and
-/// takes 20 bytes.
+/// touching their memory. So a node has numbers of 24 and 32 bits, which a command's bytes are below,
+/// and takes 16 bytes.
 #[derive(Clone, Copy, Debug)]
 pub(crate) enum Node {
     /// A token from one byte up to but without another. `delimited` tells whether it has a bar or a
@@ -28,7 +29,7 @@ pub(crate) enum Node {
     },
     /// A list of so many children. So many nodes are in it.
     List {
-        children: u32,
+        children: Count,
         inside: u32,
         from: u32,
         to: u32,
@@ -144,7 +145,7 @@ impl<'b> Sexp<'b> {
             Some((Node::List { children, .. }, nodes)) => Some(Children {
                 bytes,
                 nodes,
-                left: *children as usize,
+                left: children.get(),
             }),
             _ => None,
         }
@@ -160,7 +161,7 @@ impl<'b> Sexp<'b> {
             Some((Node::List { children, .. }, nodes)) => Children {
                 bytes,
                 nodes,
-                left: *children as usize,
+                left: children.get(),
             },
             _ => Children {
                 bytes,

@@ -7,6 +7,7 @@ ghost use Rattle.eo_sexp.specs.Cutting.{ReadsInPieces};
 
 mod buffer;
 mod classes;
+mod count;
 mod incremental;
 mod lent;
 mod plain;

@@ -84,7 +84,8 @@ fn add_atom(
 fn close_list(buffer: &mut Buffer, to: usize) -> bool
     requires inside { 0 < length buffer.old.open_lists }
     requires nested { length buffer.old.open_lists ≤ limits.nesting }
-    requires short { to ≤ 2 ^ 31 }
+    requires short { to ≤ 2 ^ 24 + 1 }
+    requires own { parts_of buffer.old < to }
     requires behind { length buffer.old.bytes < to }
     ensures bytes { buffer.new.bytes ≡ buffer.old.bytes }
     ensures closed { ClosesList limits buffer.old to buffer.new result }
@@ -229,7 +230,7 @@ impl Reader {
     ) -> Result<ReaderTurn, AllocError>
         requires reader { IsReader limits (held buffer.old self.old) at }
         requires at { length buffer.old.bytes ≡ at }
-        requires room { at < 2 ^ 31 }
+        requires room { at ≤ 2 ^ 24 }
         ensures bytes { OnOk result (buffer.new.bytes ≡ buffer.old.bytes) }
         ensures turns { IfOk result (λ t. Turns limits (held buffer.old self.old) at x t (held (with_byte buffer.new x) self.new)) }
     {
@@ -600,7 +601,7 @@ impl Reader {
         requires reader { IsReader limits (held buffer.old self.old) at }
         requires gap { self.old.position ≡ Position.Gap }
         requires at { length buffer.old.bytes ≡ at }
-        requires room { at < 2 ^ 31 }
+        requires room { at ≤ 2 ^ 24 }
         ensures bytes { OnOk result (buffer.new.bytes ≡ buffer.old.bytes) }
         ensures turns { IfOk result (λ t. Turns limits (held buffer.old self.old) at x t (held (with_byte buffer.new x) self.new)) }
     {
@@ -660,7 +661,7 @@ impl Reader {
         requires reader { IsReader limits (held buffer.old self.old) at }
         requires token { self.old.position ≡ Position.Token token }
         requires at { length buffer.old.bytes ≡ at }
-        requires room { at < 2 ^ 31 }
+        requires room { at ≤ 2 ^ 24 }
         ensures bytes { OnOk result (buffer.new.bytes ≡ buffer.old.bytes) }
         ensures turns { IfOk result (λ t. Turns limits (held buffer.old self.old) at x t (held (with_byte buffer.new x) self.new)) }
     {
