@@ -5,9 +5,9 @@ ghost use Rattle.std.specs.List.{position};
 ghost use Rattle.std.specs.Map.{lookup, keys_of};
 ghost use Rattle.std.specs.Str.{bytes_eq};
 ghost use Rattle.eo_proof.specs.Kept.{NamedId};
-ghost use Rattle.eo_proof.specs.Places.{named_in};
+ghost use Rattle.eo_proof.specs.Places.{named_in, number_in};
 
-use crate::places::{Named, Places};
+use crate::places::{Named, Places, number_in};
 use eo_base::Name;
 use eo_term::Id;
 use std::alloc::{AllocError, Global};
@@ -56,15 +56,31 @@ impl NamedIds {
     pub(crate) fn place(&self, name: &[u8]) -> Option<usize>
         ensures { result ≡ position (bytes_eq name.now) (keys_of self.now) }
     {
-        self.places.find(self.entries.as_slice(), name)
+        self.place_by(name, number_in(name))
+    }
+
+    // The place of the name, which ends in this number.
+    fn place_by(&self, name: &[u8], number: usize) -> Option<usize>
+        requires { number ≡ number_in name.now }
+        ensures { result ≡ position (bytes_eq name.now) (keys_of self.now) }
+    {
+        self.places.find(self.entries.as_slice(), name, number)
     }
 
     /// Whether one has the name.
-    #[tactic(auto, using(indexmap::proofs::MapLemmas::some_index))]
     pub(crate) fn has(&self, name: &[u8]) -> bool
         ensures { result ≡ is_some (lookup (bytes_eq name.now) self.now) }
     {
-        self.place(name).is_some()
+        self.has_by(name, number_in(name))
+    }
+
+    // Whether one has the name, which ends in this number.
+    #[tactic(auto, using(indexmap::proofs::MapLemmas::some_index))]
+    fn has_by(&self, name: &[u8], number: usize) -> bool
+        requires { number ≡ number_in name.now }
+        ensures { result ≡ is_some (lookup (bytes_eq name.now) self.now) }
+    {
+        self.place_by(name, number).is_some()
     }
 
     /// The term with the name.
@@ -93,10 +109,11 @@ impl NamedIds {
         ensures taken { IfOk result (λ added. added ≡ false → self.new ≡ self.old) }
         ensures same { OnErr result (self.new ≡ self.old) }
     {
-        if self.has(name) {
+        let number = number_in(name);
+        if self.has_by(name, number) {
             return Ok(false);
         }
-        self.push(name, id)?;
+        self.push_by(name, number, id)?;
         Ok(true)
     }
 
@@ -106,12 +123,23 @@ impl NamedIds {
         ensures new { OnOk result (self.new ≡ self.old ++ (name.now, id) ∷ []) }
         ensures same { OnErr result (self.new ≡ self.old) }
     {
+        self.push_by(name, number_in(name), id)
+    }
+
+    // The same by a name that ends in this number.
+    fn push_by(&mut self, name: &[u8], number: usize, id: Id) -> Result<(), AllocError>
+        requires number { number ≡ number_in name.now }
+        requires free { lookup (bytes_eq name.now) self.old ≡ None }
+        ensures new { OnOk result (self.new ≡ self.old ++ (name.now, id) ∷ []) }
+        ensures same { OnErr result (self.new ≡ self.old) }
+    {
         let entry = Named {
             name: Name::new(self.alloc, name)?,
             id,
         };
         self.entries.reserve(1)?;
-        self.places.add(self.alloc, self.entries.as_slice(), name)?;
+        self.places
+            .add(self.alloc, self.entries.as_slice(), name, number)?;
         self.entries.push_reserved(entry);
         Ok(())
     }

@@ -36,7 +36,7 @@ const NOWHERE: u32 = u32::MAX;
 
 /// The number of at most nine digits that a name ends in, or 0. A longer one is begun anew behind its
 /// tenth digit.
-fn number_in(name: &[u8]) -> usize
+pub(crate) fn number_in(name: &[u8]) -> usize
     ensures { result ≡ number_in name.now }
 {
     let mut number = 0u32;
@@ -99,21 +99,22 @@ impl Places {
         }
     }
 
-    /// The place of a name among these.
-    pub(crate) fn find(&self, entries: &[Named], name: &[u8]) -> Option<usize>
+    /// The place of a name among these, by the number that it ends in.
+    pub(crate) fn find(&self, entries: &[Named], name: &[u8], number: usize) -> Option<usize>
+        requires { number ≡ number_in name.now }
         ensures { result ≡ place_in (named_in entries.now) self.now.numbered.items self.now.others.entries name.now }
     {
-        match self.by_number(entries, name) {
+        match self.by_number(entries, name, number) {
             Some(place) => Some(place),
             None => self.by_hash(entries, name),
         }
     }
 
-    // The place that the number of a name leads to, where the name stands there.
-    fn by_number(&self, entries: &[Named], name: &[u8]) -> Option<usize>
-        ensures { result ≡ option_and_then (at_place (named_in entries.now) name.now) (slice_get self.now.numbered.items (number_in name.now)) }
+    // The place that a number leads to, where the name stands there.
+    fn by_number(&self, entries: &[Named], name: &[u8], number: usize) -> Option<usize>
+        ensures { result ≡ option_and_then (at_place (named_in entries.now) name.now) (slice_get self.now.numbered.items number) }
     {
-        let place = *self.numbered.get(number_in(name))?;
+        let place = *self.numbered.get(number)?;
         at_place(entries, name, place as usize)
     }
 
@@ -128,13 +129,16 @@ impl Places {
         at_place(entries, name, place)
     }
 
-    /// Keeps the place behind these names, which is that of a name more, which is none of them.
+    /// Keeps the place behind these names, which is that of a name more, which is none of them and ends
+    /// in this number.
     pub(crate) fn add(
         &mut self,
         alloc: Global,
         entries: &[Named],
         name: &[u8],
+        number: usize,
     ) -> Result<(), AllocError>
+        requires number { number ≡ number_in name.now }
         requires found { AreFound (named_in entries.now) self.old.numbered.items self.old.others.entries }
         requires new { place_in (named_in entries.now) self.old.numbered.items self.old.others.entries name.now ≡ None }
         ensures added { OnOk result ((id : ℕ) →
@@ -142,7 +146,6 @@ impl Places {
         ensures numbered { OnErr result (self.new.numbered.items ≡ self.old.numbered.items) }
         ensures others { OnErr result (self.new.others.entries ≡ self.old.others.entries) }
     {
-        let number = number_in(name);
         let place = entries.len();
         if may_lead(number, place) && self.is_free(entries, number) {
             self.lead(number, place as u32)?;

@@ -16,13 +16,13 @@ returns-then-is_free-clause-added c = λ id.
     let es = named_in c.args.entries.now in
     let numbered = c.args.self.now.numbered.items in
     let others = c.args.self.now.others.entries in
-    let number : c.number_in-number.result ≡ number_in name = c.number_in-number.ensures in
+    let number : c.args.number ≡ number_in name = c.requires.number in
     let long : length es ≡ length c.args.entries.now = count c.args.entries.now in
     let free : IsFree es numbered (number_in name) = subst (IsFree es numbered) number (c.is_free.ensures c.if-is_free.true) in
     let short : length es < 4294967295 = omega (arith, long, (c.may_lead.ensures c.if-may_lead.true).0) in
     let leads : LeadsTo numbered (number_in name) (length es) c.lead.new.self.numbered.items =
     subst (λ k. LeadsTo numbered k (length es) c.lead.new.self.numbered.items) number
-    (subst (λ n. LeadsTo numbered c.number_in-number.result n c.lead.new.self.numbered.items) (sym long) c.in_ok-lead.ensures.leads) in
+    (subst (λ n. LeadsTo numbered c.args.number n c.lead.new.self.numbered.items) (sym long) c.in_ok-lead.ensures.leads) in
     subst (AreFound (es ++ (name, id) ∷ []) c.lead.new.self.numbered.items) (sym c.lead.ensures.others)
     (found-numbered es numbered others name id c.requires.found c.requires.new c.lead.new.self.numbered.items free short leads)
 

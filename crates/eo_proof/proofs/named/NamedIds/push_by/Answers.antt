@@ -5,7 +5,7 @@ use Rattle.eo_proof.specs.declared.places.Named.{Named}
 use Rattle.eo_proof.specs.Kept.{NamedId}
 use Rattle.eo_proof.specs.Places.{named_in, place_in, AreFound}
 use Rattle.eo_proof.proofs.Found.{unplaced, named_more}
-use Rattle.eo_proof.proofs.named.NamedIds.push.Goals as goal
+use Rattle.eo_proof.proofs.named.NamedIds.push_by.Goals as goal
 
 pub add-requires-clause-new : goal.add-requires-clause-new
 add-requires-clause-new c =
@@ -13,7 +13,7 @@ add-requires-clause-new c =
     let numbered = c.self.inside.places.numbered.items in
     let others = c.self.inside.places.others.entries in
     ap (λ (es : List Named). place_in (named_in es) numbered others name) (c.as_slice.ensures.value ∙ c.reserve.ensures.items)
-    ∙ unplaced (named_in c.self.inside.entries.items) numbered others name c.self.invariant (ap (lookup (bytes_eq name)) c.self.view_is ∙ c.requires)
+    ∙ unplaced (named_in c.self.inside.entries.items) numbered others name c.self.invariant (ap (lookup (bytes_eq name)) c.self.view_is ∙ c.requires.free)
 
 pub invariant_of-self-2 : goal.invariant_of-self-2
 invariant_of-self-2 c =

@@ -6,7 +6,7 @@ use Rattle.eo_proof.specs.declared.places.Named.{Named}
 use Rattle.eo_proof.specs.Kept.{NamedId}
 use Rattle.eo_proof.specs.Places.{named_in, place_in}
 use Rattle.eo_proof.proofs.Found.{place-is}
-use Rattle.eo_proof.proofs.named.NamedIds.place.Goals as goal
+use Rattle.eo_proof.proofs.named.NamedIds.place_by.Goals as goal
 
 pub returns : goal.returns
 returns c =
