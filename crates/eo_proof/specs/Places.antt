@@ -1,12 +1,10 @@
 -- How a name is found by the number that it ends in, and else by its hash.
-use Rattle.std.specs.Prelude.{◌≡◌, ◌≢◌, ℕ, ◌*◌, ◌+◌, ◌-◌, ◌⊎◌, nat_le, nat_lt, ◌&&◌, if◌then◌else◌, List, [], ◌∷◌, map, Option, Some, None, option_and_then, slice_get, bytes_eq}
+use Rattle.std.specs.Prelude.{◌≡◌, ◌≢◌, ℕ, ◌*◌, ◌+◌, ◌-◌, ◌⊎◌, nat_le, nat_lt, ◌&&◌, if◌then◌else◌, List, [], ◌∷◌, Option, Some, None, option_and_then, slice_get, bytes_eq}
 use Rattle.std.specs.Map.{lookup}
-use Rattle.eo_proof.specs.declared.places.Named.{Named}
-use Rattle.eo_proof.specs.Kept.{NamedId}
 
--- the names with their terms
-abbrev pub named_in : List Named → List NamedId
-named_in es = map (λ (e : Named). (e.name, e.id)) es
+-- a name, and its place
+abbrev pub Entry : Type 0
+Entry = List ℕ × ℕ
 
 -- the number behind one byte more: a digit is its last one, any other byte ends it
 abbrev pub next_number : ℕ → ℕ → ℕ
@@ -20,31 +18,31 @@ number_from n (b ∷ bs) = number_from (next_number n b) bs
 abbrev pub number_in : List ℕ → ℕ
 number_in name = number_from 0 name
 
-abbrev pub held_at : List ℕ → (place : ℕ) → Option NamedId → Option ℕ
+abbrev pub held_at : List ℕ → (place : ℕ) → Option (List ℕ) → Option ℕ
 held_at name place None = None
-held_at name place (Some e) = if bytes_eq name e.0 then Some place else None
+held_at name place (Some other) = if bytes_eq name other then Some place else None
 
 -- the place, where the name stands there
-abbrev pub at_place : List NamedId → List ℕ → (place : ℕ) → Option ℕ
-at_place es name place = held_at name place (slice_get es place)
+abbrev pub at_place : List (List ℕ) → List ℕ → (place : ℕ) → Option ℕ
+at_place names name place = held_at name place (slice_get names place)
 
 abbrev pub first_of : Option ℕ → Option ℕ → Option ℕ
 first_of (Some place) other = Some place
 first_of None other = other
 
 -- The place of a name: the one that its number leads to, where the name stands there, or else the one that its hash leads to.
-abbrev pub place_in : List NamedId → (numbered : List ℕ) → (others : List NamedId) → List ℕ → Option ℕ
-place_in es numbered others name =
-    first_of (option_and_then (at_place es name) (slice_get numbered (number_in name)))
-    (option_and_then (at_place es name) (lookup (bytes_eq name) others))
+abbrev pub place_in : List (List ℕ) → (numbered : List ℕ) → (others : List Entry) → List ℕ → Option ℕ
+place_in names numbered others name =
+    first_of (option_and_then (at_place names name) (slice_get numbered (number_in name)))
+    (option_and_then (at_place names name) (lookup (bytes_eq name) others))
 
 -- each name is found
-abbrev pub AreFound : List NamedId → (numbered : List ℕ) → (others : List NamedId) → Type 0
-AreFound es numbered others = (i : ℕ) (e : NamedId) → slice_get es i ≡ Some e → place_in es numbered others e.0 ≡ Some i
+abbrev pub AreFound : List (List ℕ) → (numbered : List ℕ) → (others : List Entry) → Type 0
+AreFound names numbered others = (i : ℕ) (name : List ℕ) → slice_get names i ≡ Some name → place_in names numbered others name ≡ Some i
 
 -- the number leads to no name that ends in it
-abbrev pub IsFree : List NamedId → (numbered : List ℕ) → (number : ℕ) → Type 0
-IsFree es numbered number = (i : ℕ) (e : NamedId) → slice_get numbered number ≡ Some i → slice_get es i ≡ Some e → number_in e.0 ≢ number
+abbrev pub IsFree : List (List ℕ) → (numbered : List ℕ) → (number : ℕ) → Type 0
+IsFree names numbered number = (i : ℕ) (name : List ℕ) → slice_get numbered number ≡ Some i → slice_get names i ≡ Some name → number_in name ≢ number
 
 -- the number leads to the place now, other numbers where they led, and those between to no place
 pub record LeadsTo (old : List ℕ) (number place : ℕ) (new : List ℕ) : Type 0 where

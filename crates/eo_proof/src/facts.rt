@@ -169,7 +169,7 @@ impl Facts {
         ensures { (ts : List Tree) → map (tree_at ts) result ≡ scope.formulas (scopes ts self.now) }
     {
         FactIds {
-            left: self.formulas.as_slice(),
+            left: self.formulas.ids(),
         }
     }
 

@@ -1,20 +1,19 @@
 //! The formulas of facts, one after another.
-use crate::places::Named;
 use eo_term::Id;
 use std::marker::Model;
 
 /// The formulas of facts, the oldest first.
 #[derive(Drop)]
 pub struct FactIds<'a> {
-    pub(crate) left: &'a [Named],
+    pub(crate) left: &'a [Id],
 }
 
 impl<'a> Model for FactIds<'a> {
-    ghost use Rattle.std.specs.Prelude.{ℕ, List, map};
+    ghost use Rattle.std.specs.Prelude.{ℕ, List};
 
     ghost Value = { List ℕ };
 
-    ghost view = { λ a. map (λ e. e.id) a.left.now };
+    ghost view = { λ a. a.left.now };
 }
 
 impl<'a> Iterator for FactIds<'a> {
@@ -29,6 +28,6 @@ impl<'a> Iterator for FactIds<'a> {
     fn next(&mut self) -> Option<Id> {
         let (first, rest) = self.left.split_first()?;
         self.left = rest;
-        Some(first.id)
+        Some(*first)
     }
 }

@@ -6,6 +6,7 @@ mod ids;
 mod named;
 mod places;
 mod scopes;
+mod texts;
 
 pub use facts::{FactRefused, Facts, NoScope, UnknownPremise};
 pub use ids::FactIds;

@@ -1,14 +1,14 @@
 //! Terms by their names, in order.
 ghost use Rattle.std.specs.Prelude.{◌≡◌, ◌<◌, ◌∷◌, ◌++◌, [], Some, None, true, false, not};
-ghost use Rattle.std.specs.Prelude.{length, take, is_some, slice_get, IfOk, OnOk, OnErr};
+ghost use Rattle.std.specs.Prelude.{length, take, map, is_some, slice_get, IfOk, OnOk, OnErr};
 ghost use Rattle.std.specs.List.{position};
 ghost use Rattle.std.specs.Map.{lookup, keys_of};
 ghost use Rattle.std.specs.Str.{bytes_eq};
 ghost use Rattle.eo_proof.specs.Kept.{NamedId};
-ghost use Rattle.eo_proof.specs.Places.{named_in, number_in};
+ghost use Rattle.eo_proof.specs.Places.{number_in};
 
-use crate::places::{Named, Places, number_in};
-use eo_base::Name;
+use crate::places::{Places, number_in};
+use crate::texts::Texts;
 use eo_term::Id;
 use std::alloc::{AllocError, Global};
 use std::marker::Model;
@@ -17,20 +17,23 @@ use std::marker::Model;
 #[derive(Drop)]
 pub(crate) struct NamedIds {
     alloc: Global,
-    entries: Vec<Named>,
+    names: Texts,
+    // As many as names, in the same order.
+    ids: Vec<Id>,
     places: Places,
 }
 
 impl Model for NamedIds {
-    ghost use Rattle.std.specs.Prelude.{List};
+    ghost use Rattle.std.specs.Prelude.{◌≡◌, List, length};
+    ghost use Rattle.std.specs.List.{zip};
     ghost use Rattle.eo_proof.specs.Kept.{NamedId};
-    ghost use Rattle.eo_proof.specs.Places.{named_in, AreFound};
+    ghost use Rattle.eo_proof.specs.Places.{AreFound};
 
     ghost Value = { List NamedId };
 
-    ghost view = { λ a. named_in a.entries.items };
+    ghost view = { λ a. zip a.names a.ids.items };
 
-    ghost invariant = { λ a. AreFound (named_in a.entries.items) a.places.numbered.items a.places.others.entries };
+    ghost invariant = { λ a. (length a.ids.items ≡ length a.names) × AreFound a.names a.places.numbered.items a.places.others.entries };
 }
 
 impl NamedIds {
@@ -40,7 +43,8 @@ impl NamedIds {
     {
         NamedIds {
             alloc,
-            entries: Vec::new(alloc),
+            names: Texts::new(alloc),
+            ids: Vec::new(alloc),
             places: Places::new(alloc),
         }
     }
@@ -49,7 +53,7 @@ impl NamedIds {
     pub(crate) fn len(&self) -> usize
         ensures { result ≡ length self.now }
     {
-        self.entries.len()
+        self.names.len()
     }
 
     /// The place of the name.
@@ -64,7 +68,7 @@ impl NamedIds {
         requires { number ≡ number_in name.now }
         ensures { result ≡ position (bytes_eq name.now) (keys_of self.now) }
     {
-        self.places.find(self.entries.as_slice(), name, number)
+        self.places.find(&self.names, name, number)
     }
 
     /// Whether one has the name.
@@ -98,7 +102,7 @@ impl NamedIds {
         requires { place < length self.now }
         ensures { (e : NamedId) → slice_get self.now place ≡ Some e → e.1 ≡ result }
     {
-        self.entries[place].id
+        self.ids()[place]
     }
 
     /// Puts a term at the end, by a name that no other has, and answers whether none had it. The error
@@ -133,14 +137,11 @@ impl NamedIds {
         ensures new { OnOk result (self.new ≡ self.old ++ (name.now, id) ∷ []) }
         ensures same { OnErr result (self.new ≡ self.old) }
     {
-        let entry = Named {
-            name: Name::new(self.alloc, name)?,
-            id,
-        };
-        self.entries.reserve(1)?;
-        self.places
-            .add(self.alloc, self.entries.as_slice(), name, number)?;
-        self.entries.push_reserved(entry);
+        self.ids.reserve(1)?;
+        // Where the name itself then finds no memory, its place leads to nothing.
+        self.places.add(self.alloc, &self.names, name, number)?;
+        self.names.push(name)?;
+        self.ids.push_reserved(id);
         Ok(())
     }
 
@@ -149,13 +150,14 @@ impl NamedIds {
         ensures { self.new ≡ take n self.old }
     {
         self.places.cut(n);
-        self.entries.truncate(n);
+        self.names.truncate(n);
+        self.ids.truncate(n);
     }
 
-    /// The names and terms.
-    pub(crate) fn as_slice(&self) -> &[Named]
-        ensures { named_in result.now ≡ self.now }
+    /// The terms.
+    pub(crate) fn ids(&self) -> &[Id]
+        ensures { result.now ≡ map (λ (e : NamedId). e.1) self.now }
     {
-        self.entries.as_slice()
+        self.ids.as_slice()
     }
 }

@@ -3,21 +3,13 @@ ghost use Rattle.std.specs.Prelude.{◌≡◌, ◌≢◌, ◌<◌, ◌≤◌, �
 ghost use Rattle.std.specs.Prelude.{Some, None, false, take, IsTrue, OnOk, OnErr, option_and_then, slice_get};
 ghost use Rattle.std.specs.Map.{lookup};
 ghost use Rattle.std.specs.Str.{bytes_eq};
-ghost use Rattle.eo_proof.specs.Kept.{NamedId};
-ghost use Rattle.eo_proof.specs.Places.{named_in, next_number, number_from, number_in, at_place, place_in, AreFound, IsFree, LeadsTo};
+ghost use Rattle.eo_proof.specs.Places.{Entry, next_number, number_from, number_in, at_place, place_in, AreFound, IsFree, LeadsTo};
 
+use crate::texts::Texts;
 use eo_base::{Name, NameRef};
-use eo_term::Id;
 use indexmap::IndexMap;
 use std::alloc::{AllocError, Global};
 use std::hash::{BuildHasherDefault, DefaultHasher};
-
-/// A name, and a term.
-#[derive(Drop)]
-pub(crate) struct Named {
-    pub(crate) name: Name,
-    pub(crate) id: Id,
-}
 
 /// Where names stand in a list. A solver numbers the names that it gives, `@p1`, `@p2`, .., so a name
 /// is found by the number that it ends in, at the cost of one look at a table that is read in order. A
@@ -59,12 +51,11 @@ fn next_number(number: u32, b: u8) -> u32
 }
 
 /// The place, where the name stands there.
-#[tactic(auto, using(crate::proofs::Found::named_at))]
-fn at_place(entries: &[Named], name: &[u8], place: usize) -> Option<usize>
-    ensures { result ≡ at_place (named_in entries.now) name.now place }
+fn at_place(names: &Texts, name: &[u8], place: usize) -> Option<usize>
+    ensures { result ≡ at_place names.now name.now place }
 {
-    match entries.get(place) {
-        Some(entry) if name == entry.name.as_bytes() => Some(place),
+    match names.get(place) {
+        Some(other) if name == other => Some(place),
         _ => None,
     }
 }
@@ -77,12 +68,11 @@ fn may_lead(number: usize, place: usize) -> bool
 }
 
 /// Whether the name at the place, if there is one, ends in the number.
-#[tactic(auto, using(crate::proofs::Found::named_at))]
-fn ends_in(entries: &[Named], place: usize, number: usize) -> bool
-    ensures { result ≡ false → (e : NamedId) → slice_get (named_in entries.now) place ≡ Some e → number_in e.0 ≢ number }
+fn ends_in(names: &Texts, place: usize, number: usize) -> bool
+    ensures { result ≡ false → (name : List ℕ) → slice_get names.now place ≡ Some name → number_in name ≢ number }
 {
-    match entries.get(place) {
-        Some(entry) => number_in(entry.name.as_bytes()) == number,
+    match names.get(place) {
+        Some(name) => number_in(name) == number,
         None => false,
     }
 }
@@ -100,33 +90,33 @@ impl Places {
     }
 
     /// The place of a name among these, by the number that it ends in.
-    pub(crate) fn find(&self, entries: &[Named], name: &[u8], number: usize) -> Option<usize>
+    pub(crate) fn find(&self, names: &Texts, name: &[u8], number: usize) -> Option<usize>
         requires { number ≡ number_in name.now }
-        ensures { result ≡ place_in (named_in entries.now) self.now.numbered.items self.now.others.entries name.now }
+        ensures { result ≡ place_in names.now self.now.numbered.items self.now.others.entries name.now }
     {
-        match self.by_number(entries, name, number) {
+        match self.by_number(names, name, number) {
             Some(place) => Some(place),
-            None => self.by_hash(entries, name),
+            None => self.by_hash(names, name),
         }
     }
 
     // The place that a number leads to, where the name stands there.
-    fn by_number(&self, entries: &[Named], name: &[u8], number: usize) -> Option<usize>
-        ensures { result ≡ option_and_then (at_place (named_in entries.now) name.now) (slice_get self.now.numbered.items number) }
+    fn by_number(&self, names: &Texts, name: &[u8], number: usize) -> Option<usize>
+        ensures { result ≡ option_and_then (at_place names.now name.now) (slice_get self.now.numbered.items number) }
     {
         let place = *self.numbered.get(number)?;
-        at_place(entries, name, place as usize)
+        at_place(names, name, place as usize)
     }
 
     // The place that the hash of a name leads to.
-    fn by_hash(&self, entries: &[Named], name: &[u8]) -> Option<usize>
-        ensures { result ≡ option_and_then (at_place (named_in entries.now) name.now) (lookup (bytes_eq name.now) self.now.others.entries) }
+    fn by_hash(&self, names: &Texts, name: &[u8]) -> Option<usize>
+        ensures { result ≡ option_and_then (at_place names.now name.now) (lookup (bytes_eq name.now) self.now.others.entries) }
     {
         if self.others.is_empty() {
             return None;
         }
         let place = *self.others.get(NameRef(name))?;
-        at_place(entries, name, place)
+        at_place(names, name, place)
     }
 
     /// Keeps the place behind these names, which is that of a name more, which is none of them and ends
@@ -134,20 +124,19 @@ impl Places {
     pub(crate) fn add(
         &mut self,
         alloc: Global,
-        entries: &[Named],
+        names: &Texts,
         name: &[u8],
         number: usize,
     ) -> Result<(), AllocError>
         requires number { number ≡ number_in name.now }
-        requires found { AreFound (named_in entries.now) self.old.numbered.items self.old.others.entries }
-        requires new { place_in (named_in entries.now) self.old.numbered.items self.old.others.entries name.now ≡ None }
-        ensures added { OnOk result ((id : ℕ) →
-            AreFound (named_in entries.now ++ (name.now, id) ∷ []) self.new.numbered.items self.new.others.entries) }
+        requires found { AreFound names.now self.old.numbered.items self.old.others.entries }
+        requires new { place_in names.now self.old.numbered.items self.old.others.entries name.now ≡ None }
+        ensures added { OnOk result (AreFound (names.now ++ name.now ∷ []) self.new.numbered.items self.new.others.entries) }
         ensures numbered { OnErr result (self.new.numbered.items ≡ self.old.numbered.items) }
         ensures others { OnErr result (self.new.others.entries ≡ self.old.others.entries) }
     {
-        let place = entries.len();
-        if may_lead(number, place) && self.is_free(entries, number) {
+        let place = names.len();
+        if may_lead(number, place) && self.is_free(names, number) {
             self.lead(number, place as u32)?;
             return Ok(());
         }
@@ -157,12 +146,12 @@ impl Places {
     }
 
     // Whether the number leads to no name that ends in it.
-    fn is_free(&self, entries: &[Named], number: usize) -> bool
-        ensures { IsTrue result → IsFree (named_in entries.now) self.now.numbered.items number }
+    fn is_free(&self, names: &Texts, number: usize) -> bool
+        ensures { IsTrue result → IsFree names.now self.now.numbered.items number }
     {
         match self.numbered.get(number) {
             None => true,
-            Some(place) => !ends_in(entries, *place as usize, number),
+            Some(place) => !ends_in(names, *place as usize, number),
         }
     }
 
@@ -182,8 +171,8 @@ impl Places {
 
     /// Leaves only places below a bound.
     pub(crate) fn cut(&mut self, n: usize)
-        ensures { (es : List NamedId) → AreFound es self.old.numbered.items self.old.others.entries →
-            AreFound (take n es) self.new.numbered.items self.new.others.entries }
+        ensures { (ns : List (List ℕ)) → AreFound ns self.old.numbered.items self.old.others.entries →
+            AreFound (take n ns) self.new.numbered.items self.new.others.entries }
     {
         let mut kept = self.others.len();
         while kept > 0 && self.is_behind(kept - 1, n) {
@@ -194,7 +183,7 @@ impl Places {
 
     // Whether the place of another name, by its number among them, is not below the bound.
     fn is_behind(&self, i: usize, n: usize) -> bool
-        ensures { IsTrue result → (e : NamedId) → slice_get self.now.others.entries i ≡ Some e → n ≤ e.1 }
+        ensures { IsTrue result → (e : Entry) → slice_get self.now.others.entries i ≡ Some e → n ≤ e.1 }
     {
         match self.others.get_index(i) {
             Some((_, place)) => *place >= n,

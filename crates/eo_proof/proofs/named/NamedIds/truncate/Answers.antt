@@ -1,17 +1,22 @@
-use Rattle.std.proofs.Common.{◌≡◌, ◌∙◌, ap, sym, subst, List, take}
-use Rattle.eo_proof.specs.Kept.{NamedId}
-use Rattle.eo_proof.specs.Places.{named_in, AreFound}
-use Rattle.eo_proof.proofs.Found.{named_fewer}
+use Rattle.std.proofs.Common.{◌≡◌, ◌∙◌, ap, sym, subst, List, ℕ, take, length}
+use Rattle.std.specs.List.{zip}
+use Rattle.std.specs.Prelude.{min}
+use Rattle.std.proofs.lemmas.List.{length-take}
+use Rattle.indexmap.proofs.ReorderLemmas.{zip-take}
+use Rattle.eo_proof.specs.Places.{AreFound}
 use Rattle.eo_proof.proofs.named.NamedIds.truncate.Goals as goal
-use Rattle.eo_proof.proofs.named.NamedIds.truncate.Goals.{After-truncate}
-
-fewer : (c : After-truncate) → named_in c.truncate.new.self.items ≡ take c.args.n (named_in c.self.inside.entries.items)
-fewer c = ap named_in c.truncate.ensures.items ∙ named_fewer c.args.n c.self.inside.entries.items
 
 pub invariant_of-self : goal.invariant_of-self
 invariant_of-self c =
-    subst (λ (es : List NamedId). AreFound es c.cut.new.self.numbered.items c.cut.new.self.others.entries) (sym (fewer c))
-    (c.cut.ensures (named_in c.self.inside.entries.items) c.self.invariant)
+    let names = c.self.inside.names in
+    let ids = c.self.inside.ids.items in
+    let count : length (take c.args.n ids) ≡ length (take c.args.n names) =
+    length-take c.args.n ids ∙ ap (min c.args.n) c.self.invariant.0 ∙ sym (length-take c.args.n names) in (
+      ap length c.truncate-2.ensures.items ∙ count ∙ ap length (sym c.truncate.ensures),
+      subst (λ (ns : List (List ℕ)). AreFound ns c.cut.new.self.numbered.items c.cut.new.self.others.entries) (sym c.truncate.ensures) (c.cut.ensures names c.self.invariant.1),
+    )
 
 pub returns : goal.returns
-returns c = fewer c ∙ ap (take c.args.n) c.self.view_is
+returns c =
+    (λ i. zip (c.truncate.ensures i) (c.truncate-2.ensures.items i))
+    ∙ zip-take c.args.n c.self.inside.names c.self.inside.ids.items ∙ ap (take c.args.n) c.self.view_is
