@@ -264,10 +264,15 @@ fn run_command(held: &mut Held, s: &Sexp<'_>, from: Origin) -> Result<Next, Refu
     ensures settled { OnOk result (IsSettled held.new) }
     ensures does { DoesNext result (uncounted (state_of held.old) (origin_of from) s.now) held.new }
 {
-    let command = command_of(s, from.is_reference())?;
-    let next = run_placed(held, &command, from)?;
-    held.release();
-    Ok(next)
+    let read = command_of(s, from.is_reference());
+    match &read {
+        Ok(command) => {
+            let next = run_placed(held, command, from)?;
+            held.release();
+            Ok(next)
+        }
+        Err(e) => Err(Refused::from(*e)),
+    }
 }
 
 // Does what a command says, and answers what is done next.
