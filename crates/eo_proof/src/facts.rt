@@ -48,7 +48,7 @@ pub struct UnknownPremise;
 pub struct NoScope;
 
 /// A scope that is open.
-#[derive(Clone, Copy, Debug)]
+#[derive(Clone, Copy)]
 pub(crate) struct Begun {
     /// How many facts were there before it.
     pub(crate) first: usize,

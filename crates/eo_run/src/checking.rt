@@ -27,7 +27,7 @@ use std::alloc::{AllocError, Global};
 const START: Spot = Spot { line: 1, offset: 0 };
 
 /// A file that the job names.
-#[derive(Clone, Copy, Debug)]
+#[derive(Clone, Copy)]
 pub(crate) struct Named<'a> {
     /// Its path, as it is given.
     pub(crate) name: &'a [u8],
