@@ -161,7 +161,7 @@ fn doubled_terms(w: &mut World) -> Result<Option<usize>, Fail> {
 
 #[test]
 fn nothing_is_remembered_from_before(rt: HostRuntime) -> Result<(), Fail> {
-    let mut evaluator = Evaluator::new(rt.alloc())?;
+    let mut evaluator = Evaluator::new(rt.alloc());
     let first = tell_by(rt.alloc(), &mut evaluator, negation_of_false)?;
     let second = tell_by(rt.alloc(), &mut evaluator, negation_of_true)?;
     assert_eq!(rt; first, Value(TRUE));

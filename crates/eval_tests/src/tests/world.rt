@@ -152,7 +152,7 @@ impl World {
     /// The first row whose term ends in another way than the row says, if one does. One evaluator
     /// evaluates all.
     pub(super) fn wrong(&mut self, rows: &[(Id, Outcome)]) -> Result<Option<usize>, Fail> {
-        let mut evaluator = Evaluator::new(self.alloc)?;
+        let mut evaluator = Evaluator::new(self.alloc);
         for i in 0..rows.len() {
             let (id, want) = rows[i];
             if self.outcome(&mut evaluator, id)? != want {
@@ -165,7 +165,7 @@ impl World {
     /// How the evaluation of a term ends.
     pub(super) fn outcome(&mut self, evaluator: &mut Evaluator, id: Id) -> Result<Outcome, Fail> {
         let id = live(&self.table, id)?;
-        let mut types = Types::new(self.alloc)?;
+        let mut types = Types::new(self.alloc);
         Ok(evaluator.evaluate(&self.sig, &mut self.table, &mut types, id)?)
     }
 }

@@ -301,7 +301,7 @@ impl World {
     // The first row that gives another answer than it says, if one does. What stands for the
     // parameters is held in one assignment for all rows.
     fn wrong(&mut self, rows: &[UseRow<'_>]) -> Result<Option<usize>, Fail> {
-        let mut subst = Subst::new(self.alloc)?;
+        let mut subst = Subst::new(self.alloc);
         for (i, row) in rows.iter().enumerate() {
             if !self.is_right(&mut subst, row)? {
                 return Ok(Some(i));
@@ -376,8 +376,8 @@ fn told_by(
     ensures grows { GrowsUnder sig.now table.old table.new }
 {
     sig.laws();
-    let mut types = Types::new(alloc)?;
-    let mut eval = Evaluator::new(alloc)?;
+    let mut types = Types::new(alloc);
+    let mut eval = Evaluator::new(alloc);
     tells(conclude(alloc, sig, table, &mut types, &mut eval, subst, rule, given))
 }
 
