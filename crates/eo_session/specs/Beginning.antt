@@ -8,7 +8,8 @@ use Rattle.eo_sig.specs.Usable.{IsUsable}
 use Rattle.eo_term.specs.Terms.{first_trees}
 use Rattle.eo_term.specs.Tree.{Tree}
 use Rattle.eo_type.specs.Known.{Fits, Lasts}
-use Rattle.eo_session.specs.declared.beginning.Tools.{Tools}
+use Rattle.eo_session.specs.declared.beginning.Finders.{Finders}
+use Rattle.eo_session.specs.declared.beginning.Known.{Known}
 
 -- a signature that declares only what stands first
 pub record IsFirstSignature (k : Kept) : Type 0 where
@@ -17,9 +18,12 @@ pub record IsFirstSignature (k : Kept) : Type 0 where
   pub usable : (ts : List Tree) → take 4 ts ≡ first_trees → IsUsable (signature ts k)
   pub below : IsBelow 4 k
 
--- no type was found, nothing is asserted, and there are no facts
-pub record AreFirstTools (t : Tools) : Type 0 where
-  pub types : (S : Signature) (ts : List Tree) → Fits S ts t.types
-  pub lasts : Lasts t.types
-  pub assertions : t.assertions ≡ []
-  pub facts : (ts : List Tree) → scopes ts t.facts ≡ no_facts
+-- no type was found
+pub record AreFirstFinders (f : Finders) : Type 0 where
+  pub types : (S : Signature) (ts : List Tree) → Fits S ts f.types
+  pub lasts : Lasts f.types
+
+-- nothing is asserted, and there are no facts
+pub record IsFirstKnown (k : Known) : Type 0 where
+  pub assertions : k.assertions ≡ []
+  pub facts : (ts : List Tree) → scopes ts k.facts ≡ no_facts

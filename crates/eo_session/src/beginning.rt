@@ -1,7 +1,7 @@
 //! What is held before the first command.
 ghost use Rattle.std.specs.Prelude.{◌≡◌, IfOk};
 ghost use Rattle.eo_term.specs.Terms.{first_trees};
-ghost use Rattle.eo_session.specs.Beginning.{IsFirstSignature, AreFirstTools};
+ghost use Rattle.eo_session.specs.Beginning.{IsFirstSignature, AreFirstFinders, IsFirstKnown};
 ghost use Rattle.eo_session.specs.Held.{state_of, IsSettled};
 ghost use Rattle.eo_session.specs.State.{first_state};
 
@@ -16,12 +16,17 @@ use eo_term::Table;
 use eo_type::Types;
 use std::alloc::{AllocError, Global};
 
-// What finds types and values and uses rules, what is asserted, and the facts.
+// What finds types and values and uses rules.
 #[derive(Drop)]
-pub(crate) struct Tools {
+pub(crate) struct Finders {
     types: Types,
     evaluator: Evaluator,
     subst: Subst,
+}
+
+// What is asserted, and the facts.
+#[derive(Drop)]
+pub(crate) struct Known {
     assertions: Reference,
     facts: Facts,
 }
@@ -34,8 +39,9 @@ impl Held {
     {
         let table = Table::new(alloc)?;
         let signature = first_signature(alloc)?;
-        let tools = first_tools(alloc)?;
-        Ok(first(alloc, closed, table, signature, tools))
+        let finders = first_finders(alloc)?;
+        let known = first_known(alloc)?;
+        Ok(first(alloc, closed, table, signature, finders, known))
     }
 }
 
@@ -47,40 +53,52 @@ fn first_signature(alloc: Global) -> Result<Signature, AllocError>
     Ok(signature)
 }
 
-// No type was found, nothing is asserted, and there are no facts.
-fn first_tools(alloc: Global) -> Result<Tools, AllocError>
-    ensures { IfOk result AreFirstTools }
+// No type was found.
+fn first_finders(alloc: Global) -> Result<Finders, AllocError>
+    ensures { IfOk result AreFirstFinders }
 {
     let types = Types::new(alloc)?;
+    types.laws();
     let evaluator = Evaluator::new(alloc)?;
     let subst = Subst::new(alloc)?;
-    let assertions = Reference::new(alloc)?;
-    let facts = Facts::new(alloc)?;
-    types.laws();
-    Ok(Tools {
+    Ok(Finders {
         types,
         evaluator,
         subst,
-        assertions,
-        facts,
     })
 }
 
+// Nothing is asserted, and there are no facts.
+fn first_known(alloc: Global) -> Result<Known, AllocError>
+    ensures { IfOk result IsFirstKnown }
+{
+    let assertions = Reference::new(alloc)?;
+    let facts = Facts::new(alloc)?;
+    Ok(Known { assertions, facts })
+}
+
 // What is held first, of these parts.
-fn first(alloc: Global, closed: bool, table: Table, signature: Signature, tools: Tools) -> Held
+fn first(
+    alloc: Global,
+    closed: bool,
+    table: Table,
+    signature: Signature,
+    finders: Finders,
+    known: Known,
+) -> Held
     requires trees { table.trees ≡ first_trees }
     requires signature { IsFirstSignature signature }
-    requires tools { AreFirstTools tools }
+    requires finders { AreFirstFinders finders }
+    requires known { IsFirstKnown known }
     ensures settled { IsSettled result }
     ensures state { state_of result ≡ first_state closed }
 {
-    let Tools {
+    let Finders {
         types,
         evaluator,
         subst,
-        assertions,
-        facts,
-    } = tools;
+    } = finders;
+    let Known { assertions, facts } = known;
     let kept = table.mark();
     Held {
         alloc,
