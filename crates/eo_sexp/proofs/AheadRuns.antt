@@ -32,14 +32,14 @@ both-ok (Ok t) A P Q f a p = f t a p
 both-ok (Err e) A P Q f a p = tt
 
 -- a child changes no byte
-child-bytes : (b : Built) (s : Sexp) → (with_child b s).bytes ≡ b.bytes
+pub child-bytes : (b : Built) (s : Sexp) → (with_child b s).bytes ≡ b.bytes
 child-bytes b s = go b.open_lists
   where
     go : (fs : List OpenList) → (behind_child b.bytes fs b.done s).bytes ≡ b.bytes
     go [] = refl
     go (f ∷ fs) = refl
 
-child-lists : (b : Built) (s : Sexp) → length (with_child b s).open_lists ≡ length b.open_lists
+pub child-lists : (b : Built) (s : Sexp) → length (with_child b s).open_lists ≡ length b.open_lists
 child-lists b s = go b.open_lists
   where
     go : (fs : List OpenList) → length (behind_child b.bytes fs b.done s).open_lists ≡ length fs

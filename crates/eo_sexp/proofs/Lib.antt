@@ -42,5 +42,6 @@ pub mod TokenRuns
 pub mod CommentRuns
 pub mod PassRuns
 mod AheadRuns
+mod QuotedRuns
 mod PartsOf
 mod BlankRuns

@@ -1,5 +1,5 @@
 //! The command begun, a byte at a time.
-ghost use Rattle.std.specs.Prelude.{◌≡◌, ℕ, ◌+◌, ◌<◌, ◌≤◌, ◌^◌, [], length, get_or, IfOk, IfSome};
+ghost use Rattle.std.specs.Prelude.{◌≡◌, ℕ, ◌+◌, ◌<◌, ◌≤◌, ◌^◌, [], length, get_or, IfOk};
 ghost use Rattle.std.specs.Prelude.{IsTrue, OnOk, suc, true, false, if◌then◌else◌, ◌==◌};
 ghost use Rattle.eo_base.specs.Limits.{limits};
 ghost use Rattle.eo_sexp.specs.Nodes.{token_atom, HasText};
@@ -160,16 +160,20 @@ fn begins_word(x: u8) -> bool
     is_word(x)
 }
 
-// The quoted symbol or the string that begins with the byte x.
+// Whether a quoted symbol begins with the byte x.
 #[inline(always)]
-fn first_of_token(x: u8) -> Option<Token>
-    ensures { IfSome result (λ t. FirstOf x t) }
+fn begins_quoted(x: u8) -> bool
+    ensures { IsTrue result → FirstOf x Token.Quoted }
 {
-    match x {
-        b'|' => Some(Token::Quoted),
-        b'"' => Some(Token::Text { closed: false }),
-        _ => None,
-    }
+    x == b'|'
+}
+
+// Whether a string begins with the byte x.
+#[inline(always)]
+fn begins_text(x: u8) -> bool
+    ensures { IsTrue result → FirstOf x (Token.Text false) }
+{
+    x == b'"'
 }
 
 impl Reader {
@@ -259,14 +263,14 @@ impl Reader {
         ensures counts { IfOk result (λ r. (r.lines ≤ r.taken) × (r.taken ≤ length rest.now)) }
         ensures runs { IfOk result (λ r. Runs limits buffer.old self.old rest.now r.taken r.lines r.turn buffer.new self.new) }
     {
-        let mut taken = self.run_plain(buffer, rest)?;
+        let mut taken = 0;
         let mut lines = 0;
         while taken < rest.len() {
             let step = self.step(buffer, &rest[taken..])?;
             taken += step.taken;
             lines += step.lines;
             match step.turn {
-                ReaderTurn::Goes => taken += self.run_plain(buffer, &rest[taken..])?,
+                ReaderTurn::Goes => {}
                 turn => return Ok(Run { taken, lines, turn }),
             }
         }
@@ -277,8 +281,7 @@ impl Reader {
         })
     }
 
-    // Takes a word at the front of `rest` where one begins and ends in it, with the byte behind it; or
-    // else as `step_other`.
+    // Takes some bytes at the front of `rest`, or tells what the first one does.
     #[inline(always)]
     fn step(&mut self, buffer: &mut Buffer, rest: &[u8]) -> Result<Run, AllocError>
         requires reader { IsReader limits (held buffer.old self.old) (length buffer.old.bytes) }
@@ -287,40 +290,96 @@ impl Reader {
         ensures moves { IfOk result (λ r. r.turn ≡ ReaderTurn.Goes → 0 < r.taken) }
         ensures runs { IfOk result (λ r. Runs limits buffer.old self.old rest.now r.taken r.lines r.turn buffer.new self.new) }
     {
-        if self.begins_word(rest[0]) {
+        match self.position {
+            Position::Gap => self.step_gap(buffer, rest),
+            _ => self.step_inside(buffer, rest),
+        }
+    }
+
+    // Takes a word at the front of `rest` where one begins and ends in it, with the byte behind it, or
+    // spaces; or else as `step_other`.
+    #[inline(always)]
+    fn step_gap(&mut self, buffer: &mut Buffer, rest: &[u8]) -> Result<Run, AllocError>
+        requires reader { IsReader limits (held buffer.old self.old) (length buffer.old.bytes) }
+        requires gap { self.old.position ≡ Position.Gap }
+        requires room { length buffer.old.bytes + length rest.now ≤ 2 ^ 24 }
+        requires some { 0 < length rest.now }
+        ensures moves { IfOk result (λ r. r.turn ≡ ReaderTurn.Goes → 0 < r.taken) }
+        ensures runs { IfOk result (λ r. Runs limits buffer.old self.old rest.now r.taken r.lines r.turn buffer.new self.new) }
+    {
+        if begins_word(rest[0]) {
             let n = self.ahead(buffer, Token::Word, rest);
             if n > 0 {
                 let at = buffer.bytes().len();
                 return self.take_word(buffer, at, n, rest);
             }
         }
+        if rest[0] == b' ' {
+            return self.take_blanks(buffer, rest);
+        }
         self.step_other(buffer, rest)
     }
 
-    // Takes spaces, or a quoted symbol or a string at the front of `rest` where one begins and ends in
-    // it, or else the first byte.
+    // Takes a quoted symbol or a string at the front of `rest` where one begins and ends in it, or
+    // else the first byte.
     #[inline(always)]
     fn step_other(&mut self, buffer: &mut Buffer, rest: &[u8]) -> Result<Run, AllocError>
+        requires reader { IsReader limits (held buffer.old self.old) (length buffer.old.bytes) }
+        requires gap { self.old.position ≡ Position.Gap }
+        requires room { length buffer.old.bytes + length rest.now ≤ 2 ^ 24 }
+        requires some { 0 < length rest.now }
+        ensures moves { IfOk result (λ r. r.turn ≡ ReaderTurn.Goes → 0 < r.taken) }
+        ensures runs { IfOk result (λ r. Runs limits buffer.old self.old rest.now r.taken r.lines r.turn buffer.new self.new) }
+    {
+        let at = buffer.bytes().len();
+        if begins_quoted(rest[0]) {
+            let n = self.bar_ahead(buffer, rest);
+            if n > 0 {
+                return self.take_quoted(buffer, at, n, rest);
+            }
+        }
+        if begins_text(rest[0]) {
+            let token = Token::Text { closed: false };
+            let n = self.ahead(buffer, token, rest);
+            if n > 0 {
+                let turn = self.turn_behind(buffer, token, at, n, rest)?;
+                return keep(buffer, rest, n, turn);
+            }
+        }
+        let turn = self.turn_gap(buffer, at, rest[0])?;
+        keep(buffer, rest, 0, turn)
+    }
+
+    // Takes the bytes at the front of `rest` that leave a token or a comment as it is, or else the
+    // first byte. It is seldom called, and stands apart.
+    #[inline(never)]
+    fn step_inside(&mut self, buffer: &mut Buffer, rest: &[u8]) -> Result<Run, AllocError>
         requires reader { IsReader limits (held buffer.old self.old) (length buffer.old.bytes) }
         requires room { length buffer.old.bytes + length rest.now ≤ 2 ^ 24 }
         requires some { 0 < length rest.now }
         ensures moves { IfOk result (λ r. r.turn ≡ ReaderTurn.Goes → 0 < r.taken) }
         ensures runs { IfOk result (λ r. Runs limits buffer.old self.old rest.now r.taken r.lines r.turn buffer.new self.new) }
     {
-        if rest[0] == b' ' && self.position == Position::Gap {
-            return self.take_blanks(buffer, rest);
+        let taken = self.run_plain(buffer, rest)?;
+        if taken == 0 {
+            return self.step_byte(buffer, rest);
         }
+        Ok(Run {
+            taken,
+            lines: 0,
+            turn: ReaderTurn::Goes,
+        })
+    }
+
+    // Takes the first byte.
+    fn step_byte(&mut self, buffer: &mut Buffer, rest: &[u8]) -> Result<Run, AllocError>
+        requires reader { IsReader limits (held buffer.old self.old) (length buffer.old.bytes) }
+        requires room { length buffer.old.bytes + length rest.now ≤ 2 ^ 24 }
+        requires some { 0 < length rest.now }
+        ensures moves { IfOk result (λ r. r.turn ≡ ReaderTurn.Goes → 0 < r.taken) }
+        ensures runs { IfOk result (λ r. Runs limits buffer.old self.old rest.now r.taken r.lines r.turn buffer.new self.new) }
+    {
         let at = buffer.bytes().len();
-        match self.begins(rest[0]) {
-            Some(token) => {
-                let n = self.ahead(buffer, token, rest);
-                if n > 0 {
-                    let turn = self.turn_behind(buffer, token, at, n, rest)?;
-                    return keep(buffer, rest, n, turn);
-                }
-            }
-            None => {}
-        }
         let turn = self.turn(buffer, at, rest[0])?;
         keep(buffer, rest, 0, turn)
     }
@@ -345,28 +404,6 @@ impl Reader {
         })
     }
 
-    // Whether a word begins with the byte x.
-    #[inline(always)]
-    fn begins_word(&self, x: u8) -> bool
-        ensures { IsTrue result → IsFirstOf self.now x Token.Word }
-    {
-        match self.position {
-            Position::Gap => begins_word(x),
-            _ => false,
-        }
-    }
-
-    // The quoted symbol or the string that begins with the byte x, where one may.
-    #[inline(always)]
-    fn begins(&self, x: u8) -> Option<Token>
-        ensures { IfSome result (λ t. IsFirstOf self.now x t) }
-    {
-        match self.position {
-            Position::Gap => first_of_token(x),
-            _ => None,
-        }
-    }
-
     // How many bytes come before the one at which such a token may end, where that is in `rest` and
     // the token may be added; else 0.
     #[inline(always)]
@@ -382,6 +419,54 @@ impl Reader {
         let most = smaller(rest.len() - 1, TOKEN);
         let n = plain_run(token, &rest[1..]) + 1;
         if n <= most { n } else { 0 }
+    }
+
+    // How many bytes come before the closing bar of a quoted symbol that begins at the front of `rest`,
+    // where that is in `rest` and the symbol may be added; else 0.
+    #[inline(always)]
+    fn bar_ahead(&self, buffer: &Buffer, rest: &[u8]) -> usize
+        requires room { length buffer.now.bytes + length rest.now ≤ 2 ^ 24 }
+        requires some { 0 < length rest.now }
+        ensures ahead { 0 < result → IsAhead limits buffer.now Token.Quoted rest.now result }
+        ensures bar { 0 < result → get_or rest.now result 0 ≡ 124 }
+        ensures short { result < limits.token }
+    {
+        let n = self.ahead(buffer, Token::Quoted, rest);
+        if n > 0 && n < TOKEN && rest[n] == b'|' {
+            n
+        } else {
+            0
+        }
+    }
+
+    // Takes a quoted symbol with `n` bytes before its closing bar, and the spaces behind it.
+    #[inline(always)]
+    fn take_quoted(
+        &self,
+        buffer: &mut Buffer,
+        at: usize,
+        n: usize,
+        rest: &[u8],
+    ) -> Result<Run, AllocError>
+        requires reader { IsReader limits (held buffer.old self.now) at }
+        requires at { length buffer.old.bytes ≡ at }
+        requires room { length buffer.old.bytes + length rest.now ≤ 2 ^ 24 }
+        requires first { IsFirstOf self.now (get_or rest.now 0 0) Token.Quoted }
+        requires ahead { IsAhead limits buffer.old Token.Quoted rest.now n }
+        requires bar { get_or rest.now n 0 ≡ 124 }
+        requires short { n < limits.token }
+        ensures moves { IfOk result (λ r. r.turn ≡ ReaderTurn.Goes → 0 < r.taken) }
+        ensures runs { IfOk result (λ r. Runs limits buffer.old self.now rest.now r.taken r.lines r.turn buffer.new self.now) }
+    {
+        let to = n + 1;
+        let taken = to + blank_run(&rest[to..]);
+        buffer.extend(rest, taken)?;
+        buffer.add_atom(AtomKind::Symbol, true, at, at + to)?;
+        Ok(Run {
+            taken,
+            lines: 0,
+            turn: ReaderTurn::Goes,
+        })
     }
 
     // Takes a word of `n` bytes and the byte behind it.

@@ -1,15 +1,15 @@
 use Rattle.std.proofs.Common.{◌≡◌, ◌+◌, ◌-◌, ap, length, length-append, length-take-le, length-drop, take, drop, arith, subst}
 use Rattle.eo_base.specs.Limits.{limits}
 use Rattle.eo_sexp.specs.declared.reader.ReaderTurn.TheVariants as turn
-use Rattle.eo_sexp.specs.Reader.{RunsTo, Runs}
+use Rattle.eo_sexp.specs.Reader.{Runs}
 use Rattle.eo_sexp.proofs.LimitFacts.{command_is}
 use Rattle.std.proofs.lemmas.List.{take_rest}
-use Rattle.eo_sexp.proofs.RunSteps.{runs-trans}
+use Rattle.eo_sexp.proofs.RunSteps.{runs-none}
 use Rattle.eo_sexp.proofs.AheadRuns.{runs-behind}
 use Rattle.eo_sexp.proofs.reader.Reader.run_within.Goals as goal
 
-pub run_plain-requires-clause-short : goal.run_plain-requires-clause-short
-run_plain-requires-clause-short c = omega (arith, c.requires.room, command_is)
+pub loop-taken-init : goal.loop-taken-init
+loop-taken-init c = runs-none limits c.args.buffer.now c.args.self.now c.args.rest.now c.requires.reader (omega (arith, c.requires.room, command_is))
 
 pub step-requires-clause-room : goal.step-requires-clause-room
 step-requires-clause-room c =
@@ -25,16 +25,10 @@ pub loop-taken-preserved : goal.loop-taken-preserved
 loop-taken-preserved c =
     let k = c.in_ok-step.step.taken in
     let i = c.in_ok-step.step.lines in
-    let n = c.loop-taken.taken + k in
-    let m = c.in_ok-taken-in-Goes.field-0 in
     let rest = c.args.rest.now in
     let left = take (length rest - c.loop-taken.taken) (drop c.loop-taken.taken rest) in
     let one = subst (λ t. Runs limits c.loop-taken.buffer c.loop-taken.self left k i t c.step.new.buffer c.step.new.self) c.in-Goes.is c.in_ok-step.ensures.runs in
-    let all = runs-behind limits c.args.buffer.now c.loop-taken.buffer c.step.new.buffer c.args.self.now c.loop-taken.self c.step.new.self rest left c.loop-taken.taken k c.loop-taken.lines i turn.Goes c.loop-taken.invariant (take_rest rest c.loop-taken.taken) one in
-    let count : c.loop-taken.lines + i + 0 ≡ c.loop-taken.lines + i = omega arith in
-    subst (λ j. RunsTo limits c.args.buffer.now c.args.self.now rest (n + m) j c.run_plain-in-Goes.new.buffer c.step.new.self) count
-    (runs-trans limits c.args.buffer.now c.step.new.buffer c.run_plain-in-Goes.new.buffer c.args.self.now c.step.new.self c.step.new.self rest n m (c.loop-taken.lines + i) 0 all.1
-    (subst (λ l. RunsTo limits c.step.new.buffer c.step.new.self l m 0 c.run_plain-in-Goes.new.buffer c.step.new.self) (take_rest rest n) c.in_ok-taken-in-Goes.ensures))
+    (runs-behind limits c.args.buffer.now c.loop-taken.buffer c.step.new.buffer c.args.self.now c.loop-taken.self c.step.new.self rest left c.loop-taken.taken k c.loop-taken.lines i turn.Goes c.loop-taken.invariant (take_rest rest c.loop-taken.taken) one).1
 
 pub returns-in_default : goal.returns-in_default
 returns-in_default c =

@@ -13,7 +13,7 @@ returns-clause-runs c =
     let x = get_or c.args.rest.now 0 0 in
     let at : length c.bytes-at.result.now ≡ length b.bytes = ap length c.bytes-at.ensures in
     IfOk-weaker c.keep-2.result _ _
-    (λ k h. h b c.args.self.now c.turn.new.self (omega (arith, c.requires.room, c.requires.some, command_is))
-    (stops-first limits b c.turn.new.buffer c.args.self.now c.turn.new.self c.args.rest.now c.in_ok-turn.turn c.requires.reader (omega (arith, c.requires.room, c.requires.some, command_is)) c.requires.some c.in_ok-turn.ensures.bytes
-    (subst (λ i. Turns limits (held b c.args.self.now) i x c.in_ok-turn.turn (held (with_byte c.turn.new.buffer x) c.turn.new.self)) at c.in_ok-turn.ensures.turns)))
+    (λ k h. h b c.args.self.now c.turn_gap.new.self (omega (arith, c.requires.room, c.requires.some, command_is))
+    (stops-first limits b c.turn_gap.new.buffer c.args.self.now c.turn_gap.new.self c.args.rest.now c.in_ok-turn-2.turn c.requires.reader (omega (arith, c.requires.room, c.requires.some, command_is)) c.requires.some c.in_ok-turn-2.ensures.bytes
+    (subst (λ i. Turns limits (held b c.args.self.now) i x c.in_ok-turn-2.turn (held (with_byte c.turn_gap.new.buffer x) c.turn_gap.new.self)) at c.in_ok-turn-2.ensures.turns)))
     c.keep-2.ensures.runs

@@ -1,0 +1,7 @@
+use Rattle.std.proofs.Common.{ap, ◌∙◌, arith}
+use Rattle.eo_sexp.specs.Lexicon.{class}
+use Rattle.eo_sexp.proofs.AheadRuns.{quote-class}
+use Rattle.eo_sexp.proofs.reader.begins_text.Goals as goal
+
+pub returns : goal.returns
+returns c = λ yes. record { class = ap class (grind (arith, yes)) ∙ quote-class; begun = λ e. cc }
