@@ -16,7 +16,7 @@ unfoldable pub number_from : ℕ → List ℕ → ℕ
 number_from n [] = n
 number_from n (b ∷ bs) = number_from (next_number n b) bs
 
--- the number that a name ends in, 0 where it ends in none; of a long one its last digits
+-- the number that a name ends in, 0 where it ends in none; one of more than nine digits is begun anew behind its tenth
 abbrev pub number_in : List ℕ → ℕ
 number_in name = number_from 0 name
 

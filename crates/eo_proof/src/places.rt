@@ -1,5 +1,6 @@
 //! Where the names of a list stand in it.
-ghost use Rattle.std.specs.Prelude.{◌≡◌, ◌≢◌, ◌<◌, ◌≤◌, ◌+◌, ◌*◌, ◌^◌, ℕ, ◌∷◌, ◌++◌, [], List, Some, None, false, take, IsTrue, OnOk, OnErr, option_and_then, slice_get};
+ghost use Rattle.std.specs.Prelude.{◌≡◌, ◌≢◌, ◌<◌, ◌≤◌, ◌+◌, ◌*◌, ◌^◌, ℕ, ◌∷◌, ◌++◌, [], List};
+ghost use Rattle.std.specs.Prelude.{Some, None, false, take, IsTrue, OnOk, OnErr, option_and_then, slice_get};
 ghost use Rattle.std.specs.Map.{lookup};
 ghost use Rattle.std.specs.Str.{bytes_eq};
 ghost use Rattle.eo_proof.specs.Kept.{NamedId};
@@ -33,8 +34,8 @@ pub(crate) struct Places {
 /// The place that a number leads to where no name ends in it. A list is never so long.
 const NOWHERE: u32 = u32::MAX;
 
-/// The number that a name ends in, or 0. A number of more than nine digits counts in part, by its last
-/// ones.
+/// The number of at most nine digits that a name ends in, or 0. A longer one is begun anew behind its
+/// tenth digit.
 fn number_in(name: &[u8]) -> usize
     ensures { result ≡ number_in name.now }
 {
