@@ -1,5 +1,5 @@
 -- What is held before the first command.
-use Rattle.std.specs.Prelude.{◌≡◌, List, [], take}
+use Rattle.std.specs.Prelude.{◌≡◌, ℕ, List, [], take}
 use Rattle.eo_proof.specs.Kept.{scopes}
 use Rattle.eo_proof.specs.Scopes.{no_facts}
 use Rattle.eo_sig.specs.Reading.{Kept, IsBelow, first_kept, signature}
@@ -19,9 +19,13 @@ pub record IsFirstSignature (k : Kept) : Type 0 where
   pub below : IsBelow 4 k
 
 -- no type was found
+pub record AreFirstTypes (found : List (ℕ × ℕ)) : Type 0 where
+  pub fits : (S : Signature) (ts : List Tree) → Fits S ts found
+  pub lasts : Lasts found
+
+-- nothing was found
 pub record AreFirstFinders (f : Finders) : Type 0 where
-  pub types : (S : Signature) (ts : List Tree) → Fits S ts f.types
-  pub lasts : Lasts f.types
+  pub types : AreFirstTypes f.types
 
 -- nothing is asserted, and there are no facts
 pub record IsFirstKnown (k : Known) : Type 0 where

@@ -1,7 +1,7 @@
 //! What is held before the first command.
-ghost use Rattle.std.specs.Prelude.{◌≡◌, IfOk};
+ghost use Rattle.std.specs.Prelude.{◌≡◌, Ok, IfOk};
 ghost use Rattle.eo_term.specs.Terms.{first_trees};
-ghost use Rattle.eo_session.specs.Beginning.{IsFirstSignature, AreFirstFinders, IsFirstKnown};
+ghost use Rattle.eo_session.specs.Beginning.{IsFirstSignature, AreFirstTypes, AreFirstFinders, IsFirstKnown};
 ghost use Rattle.eo_session.specs.Held.{state_of, IsSettled};
 ghost use Rattle.eo_session.specs.State.{first_state};
 
@@ -38,9 +38,9 @@ impl Held {
         ensures state { IfOk result (λ h. state_of h ≡ first_state closed) }
     {
         let table = Table::new(alloc)?;
-        let signature = first_signature(alloc)?;
-        let finders = first_finders(alloc)?;
-        let known = first_known(alloc)?;
+        let declared = both(table, first_signature(alloc))?;
+        let ready = both(declared, first_finders(alloc))?;
+        let (((table, signature), finders), known) = both(ready, first_known(alloc))?;
         Ok(first(alloc, closed, table, signature, finders, known))
     }
 }
@@ -54,13 +54,21 @@ fn first_signature(alloc: Global) -> Result<Signature, AllocError>
 }
 
 // No type was found.
-fn first_finders(alloc: Global) -> Result<Finders, AllocError>
-    ensures { IfOk result AreFirstFinders }
+fn first_types(alloc: Global) -> Result<Types, AllocError>
+    ensures { IfOk result AreFirstTypes }
 {
     let types = Types::new(alloc)?;
     types.laws();
-    let evaluator = Evaluator::new(alloc)?;
-    let subst = Subst::new(alloc)?;
+    Ok(types)
+}
+
+// Nothing was found.
+fn first_finders(alloc: Global) -> Result<Finders, AllocError>
+    ensures { IfOk result AreFirstFinders }
+{
+    let types = first_types(alloc)?;
+    let found = both(types, Evaluator::new(alloc))?;
+    let ((types, evaluator), subst) = both(found, Subst::new(alloc))?;
     Ok(Finders {
         types,
         evaluator,
@@ -75,6 +83,18 @@ fn first_known(alloc: Global) -> Result<Known, AllocError>
     let assertions = Reference::new(alloc)?;
     let facts = Facts::new(alloc)?;
     Ok(Known { assertions, facts })
+}
+
+// Both, where the second was made. Where it was not, the first is let go here, once for all types:
+// a function that holds much lets nothing go by itself.
+fn both<A: Drop, B: Drop>(first: A, second: Result<B, AllocError>) -> Result<(A, B), AllocError>
+    ensures first { IfOk result (λ p. p.0 ≡ first) }
+    ensures second { IfOk result (λ p. second ≡ Ok p.1) }
+{
+    match second {
+        Ok(second) => Ok((first, second)),
+        Err(e) => Err(e),
+    }
 }
 
 // What is held first, of these parts.

@@ -21,7 +21,7 @@ returns-clause-settled c =
       closed_is = refl;
       commands = refl;
     } in
-    let held = whole_first h c.args.closed first c.requires.signature.below (c.requires.signature.usable h.table.trees (ap (take 4) c.requires.trees)) (c.requires.finders.types _ _) c.requires.finders.lasts in
+    let held = whole_first h c.args.closed first c.requires.signature.below (c.requires.signature.usable h.table.trees (ap (take 4) c.requires.trees)) (c.requires.finders.types.fits _ _) c.requires.finders.types.lasts in
     let at = c.mark-kept.ensures.mark in
     record {
       whole = record {
