@@ -101,7 +101,9 @@ fn check_whole<L: Library>(
     let Ok(mut run) = first_run(alloc, job) else {
         return Verdict::OutOfMemory;
     };
-    check_job(alloc, job, files, &mut run, paths)
+    let verdict = check_job(alloc, job, files, &mut run, paths);
+    drop(run);
+    verdict
 }
 
 /// The verdict of a job whose run begins. Where it is correct, the run is left at its end.
