@@ -7,7 +7,7 @@ use Rattle.eo_base.proofs.Answering.{fails}
 use Rattle.eo_shape.specs.Reading as forms
 use Rattle.eo_sig.specs.Reading.{read_attribute}
 use Rattle.eo_sig.specs.Signature.{Attribute, Constant}
-use Rattle.eo_term.proofs.Growing.{grows_on}
+use Rattle.eo_term.proofs.Growing.{grows_refl, grows_on}
 use Rattle.eo_term.specs.Growth.{tree_in}
 use Rattle.eo_term.specs.Tree.{Tree}
 use Rattle.eo_elab.specs.Declarations.{declared_parameterized, constant, is_free_name, is_reference_name}
@@ -97,3 +97,12 @@ returns-in_err-new-clause-grows c =
 pub returns-clause-grows : goal.returns-clause-grows
 returns-clause-grows c =
     c.laws.ensures c.args.table.now c.typed_over.new.table c.requires (grows_on c.args.table.now c.bind.new.table c.typed_over.new.table c.in_ok-bound.ensures.grows c.in_ok-ty.ensures.grows)
+
+pub returns-then-not-is_free-clause-grows : goal.returns-then-not-is_free-clause-grows
+returns-then-not-is_free-clause-grows c = c.laws.ensures c.args.table.now c.args.table.now c.requires (grows_refl c.args.table.now)
+
+pub returns-then-len-gt-PARAMETERS-clause-grows : goal.returns-then-len-gt-PARAMETERS-clause-grows
+returns-then-len-gt-PARAMETERS-clause-grows c = c.laws.ensures c.args.table.now c.args.table.now c.requires (grows_refl c.args.table.now)
+
+pub returns-in_err-bound-clause-grows : goal.returns-in_err-bound-clause-grows
+returns-in_err-bound-clause-grows c = c.laws.ensures c.args.table.now c.bind.new.table c.requires c.in_err-bound.ensures.grows
