@@ -657,3 +657,41 @@ mean_bound-returns-clause-grows t c =
 
 pub mean_pairs-returns-in_err-mean_pair-clause-grows : goal.mean_pairs-returns-in_err-mean_pair-clause-grows
 mean_pairs-returns-in_err-mean_pair-clause-grows t c = grows_on c.args.table.now c.loop-pair.table c.mean_pair.new.table c.loop-pair.invariant.grows c.mean_pair.ensures.grows
+
+pub mean_list-returns-in_default-clause-grows : goal.mean_list-returns-in_default-clause-grows
+mean_list-returns-in_default-clause-grows t c = grows_refl c.args.table.now
+
+pub mean_list-returns-in_err-form_of-clause-grows : goal.mean_list-returns-in_err-form_of-clause-grows
+mean_list-returns-in_err-form_of-clause-grows t c = grows_refl c.args.table.now
+
+pub mean_let-returns-in_default-clause-grows : goal.mean_let-returns-in_default-clause-grows
+mean_let-returns-in_default-clause-grows t c = grows_refl c.args.table.now
+
+pub mean_bound-returns-in_default-clause-grows : goal.mean_bound-returns-in_default-clause-grows
+mean_bound-returns-in_default-clause-grows t c = grows_refl c.args.table.now
+
+pub mean_annotated-returns-in_default-clause-grows : goal.mean_annotated-returns-in_default-clause-grows
+mean_annotated-returns-in_default-clause-grows t c = grows_refl c.args.table.now
+
+pub mean_pair-returns-in_default-clause-grows : goal.mean_pair-returns-in_default-clause-grows
+mean_pair-returns-in_default-clause-grows t c = grows_refl c.args.table.now
+
+pub mean_pair-returns-then-contains-clause-grows : goal.mean_pair-returns-then-contains-clause-grows
+mean_pair-returns-then-contains-clause-grows t c = grows_refl c.args.table.now
+
+pub mean_pairs-returns-in_default-clause-grows : goal.mean_pairs-returns-in_default-clause-grows
+mean_pairs-returns-in_default-clause-grows t c = grows_refl c.args.table.now
+
+pub mean_head-use_of_term-requires-clause-live : goal.mean_head-use_of_term-requires-clause-live
+mean_head-use_of_term-requires-clause-live t c = c.in_ok-f.ensures.gives.live
+
+pub mean_use-use_arguments-requires-clause-args : goal.mean_use-use_arguments-requires-clause-args
+mean_use-use_arguments-requires-clause-args t c = subst (All (λ i. i < length c.mean_arguments.new.table.trees)) (sym c.as_slice.ensures) c.in_ok-ids.ensures.live
+
+pub mean_bound-bind-requires-clause-types : goal.mean_bound-bind-requires-clause-types
+mean_bound-bind-requires-clause-types t c = c.in_ok-names.ensures.gives.live
+
+pub mean_all-returns-clause-count : goal.mean_all-returns-clause-count
+mean_all-returns-clause-count t c =
+    let none = ap length c.in-None.ensures.steps.0 in
+    omega (arith, none, c.loop-s.invariant.count)
