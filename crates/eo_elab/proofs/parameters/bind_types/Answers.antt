@@ -1,37 +1,8 @@
-use Rattle.std.proofs.Common.{◌≡◌, ◌<◌, map, length, All, arith, ap, sym, subst, ◌∙◌}
+use Rattle.std.proofs.Common.{length, arith, rules, ap, ◌∙◌}
 use Rattle.eo_base.proofs.Answering.{fails}
-use Rattle.std.proofs.lemmas.List.Elements.{All-nil}
-use Rattle.eo_term.proofs.Growing.{grows_refl, grows_on}
-use Rattle.eo_sig.specs.declared.records.Param.{Param}
-use Rattle.eo_sig.specs.Reading.{read_parameter}
-use Rattle.eo_names.specs.Names.{read_locals, AreBelow}
-use Rattle.eo_names.specs.declared.locals.LocalName.{LocalName}
-use Rattle.eo_elab.specs.Declarations.{bind_types, unbound}
+use Rattle.eo_elab.specs.Declarations.{bind_types}
 use Rattle.eo_elab.specs.Declaring.{read_bound}
 use Rattle.eo_elab.proofs.parameters.bind_types.Goals as goal
-
-pub loop-name-init : goal.loop-name-init
-loop-name-init c =
-    let t = c.args.table.now in
-    let n = length t.trees in
-    let left = c.into_iter-name-iterator.result in
-    let all : left ≡ c.args.names.now = cc in
-    let params = c.in_ok-bound.ensures.params in
-    let locals = c.in_ok-bound.ensures.locals in
-    let first : read_bound t.trees c.in_ok-bound.bound ≡ unbound = λ i. record { parameters = map (read_parameter t.trees) (params i); locals = read_locals t.trees (locals i) } in
-    let none = ap length params in
-    let long = ap length all in
-    record {
-      left = ap (bind_types unbound) (sym all) ∙ ap (λ y. bind_types y left) (sym first);
-      live = record { params = subst (All (λ (p : Param). p.ty < n)) (sym params) (All-nil (λ (p : Param). p.ty < n)); locals = subst (AreBelow n) (sym locals) (All-nil (λ (l : LocalName). l.id < n)) };
-      count = omega (arith, none, long);
-      grows = grows_refl t;
-    }
-
-pub name_type-requires-clause-room : goal.name_type-requires-clause-room
-name_type-requires-clause-room c =
-    let first = ap length c.in-Some.ensures.steps in
-    omega (arith, first, c.loop-name.invariant.count, c.requires.few)
 
 pub returns-in_err-name_type-clause-gives : goal.returns-in_err-name_type-clause-gives
 returns-in_err-name_type-clause-gives c =
@@ -48,13 +19,5 @@ loop-name-preserved c =
       left = step ∙ c.in_ok-name_type.ensures.names.binds c.next.new.self;
       live = c.in_ok-name_type.ensures.names.live;
       count = omega (arith, first, c.in_ok-name_type.ensures.count, l.invariant.count);
-      grows = grows_on c.args.table.now l.table c.name_type.new.table l.invariant.grows c.in_ok-name_type.ensures.grows;
+      grows = search rules;
     }
-
-pub returns-in_err-name_type-clause-grows : goal.returns-in_err-name_type-clause-grows
-returns-in_err-name_type-clause-grows c = grows_on c.args.table.now c.loop-name.table c.name_type.new.table c.loop-name.invariant.grows c.in_err-name_type.ensures.grows
-
-pub returns-clause-count : goal.returns-clause-count
-returns-clause-count c =
-    let none = ap length c.in-None.ensures.steps.0 in
-    omega (arith, none, c.loop-name.invariant.count)

@@ -2,7 +2,6 @@ use Rattle.std.proofs.Common.{◌<◌, ◌≤◌, length, arith, ap, sym, subst,
 use Rattle.eo_base.specs.declared.FaultName.TheVariants.{Redeclared}
 use Rattle.eo_base.specs.Limits.{parameters_limit}
 use Rattle.eo_base.proofs.Answering.{fails}
-use Rattle.eo_term.proofs.Growing.{grows_refl, grows_on}
 use Rattle.eo_elab.specs.Declarations.{defined_fun, typed_macro}
 use Rattle.eo_elab.specs.Declaring.{read_bound}
 use Rattle.eo_elab.specs.Gives.{GivesMacro}
@@ -41,19 +40,3 @@ returns-clause-gives c =
     let parts = fun-bound x c.args.name.now c.args.output.now c.args.body.now c.args.params.now (sym (c.may_declare.ensures t.trees) ∙ c.if-not-may_declare.false) few b c.in_ok-bound.ensures.gives.is in
     let link = parts ∙ ap (λ y. typed_macro y c.args.name.now b c.args.output.now c.args.body.now) (sym same) in
     subst (GivesMacro c.typed_macro.new.table c.typed_macro.result) (sym link) c.typed_macro.ensures.gives
-
-pub typed_macro-requires-clause-bound : goal.typed_macro-requires-clause-bound
-typed_macro-requires-clause-bound c = c.in_ok-bound.ensures.gives.live
-
-pub returns-clause-grows : goal.returns-clause-grows
-returns-clause-grows c =
-    c.laws.ensures c.args.table.now c.typed_macro.new.table c.requires (grows_on c.args.table.now c.bind.new.table c.typed_macro.new.table c.in_ok-bound.ensures.grows c.typed_macro.ensures.grows.table)
-
-pub returns-then-not-may_declare-clause-grows : goal.returns-then-not-may_declare-clause-grows
-returns-then-not-may_declare-clause-grows c = c.laws.ensures c.args.table.now c.args.table.now c.requires (grows_refl c.args.table.now)
-
-pub returns-then-len-gt-PARAMETERS-clause-grows : goal.returns-then-len-gt-PARAMETERS-clause-grows
-returns-then-len-gt-PARAMETERS-clause-grows c = c.laws.ensures c.args.table.now c.args.table.now c.requires (grows_refl c.args.table.now)
-
-pub returns-in_err-bound-clause-grows : goal.returns-in_err-bound-clause-grows
-returns-in_err-bound-clause-grows c = c.laws.ensures c.args.table.now c.bind.new.table c.requires c.in_err-bound.ensures.grows
