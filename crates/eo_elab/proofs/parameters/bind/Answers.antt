@@ -1,44 +1,11 @@
-use Rattle.std.proofs.Common.{◌≡◌, ◌<◌, ◌∷◌, map, length, All, arith, ap, sym, subst, ◌∙◌}
+use Rattle.std.proofs.Common.{◌∷◌, length, arith, rules, ap, sym, ◌∙◌}
 use Rattle.eo_base.proofs.Answering.{fails}
-use Rattle.eo_term.proofs.Growing.{grows_refl, grows_on}
-use Rattle.std.proofs.lemmas.List.Elements.{All-nil}
-use Rattle.eo_sig.specs.declared.records.Param.{Param}
-use Rattle.eo_sig.specs.Reading.{read_parameter}
-use Rattle.eo_names.specs.Names.{read_locals, AreBelow}
-use Rattle.eo_names.specs.declared.locals.LocalName.{LocalName}
 use Rattle.eo_shape.specs.Reading as shapes
-use Rattle.eo_elab.specs.Declarations.{bind, unbound}
+use Rattle.eo_elab.specs.Declarations.{bind}
 use Rattle.eo_elab.specs.Declaring.{read_bound}
 use Rattle.eo_elab.specs.Worlds.{context_at}
 use Rattle.eo_elab.proofs.Giving.{same_context_at}
 use Rattle.eo_elab.proofs.parameters.bind.Goals as goal
-
-pub loop-shape-init : goal.loop-shape-init
-loop-shape-init c =
-    let t = c.args.table.now in
-    let n = length t.trees in
-    let x = context_at t c.args.sig.now c.args.setting in
-    let left = c.into_iter-shape-iterator.result in
-    let all : left ≡ c.args.shapes.now = cc in
-    let params = c.in_ok-bound.ensures.params in
-    let locals = c.in_ok-bound.ensures.locals in
-    let first : read_bound t.trees c.in_ok-bound.bound ≡ unbound = λ i. record { parameters = map (read_parameter t.trees) (params i); locals = read_locals t.trees (locals i) } in
-    let none = ap length params in
-    let long = ap length all in
-    record {
-      left = ap (bind x unbound) (sym all) ∙ ap (λ y. bind x y left) (sym first);
-      live = record {
-        params = subst (All (λ (p : Param). p.ty < n)) (sym params) (All-nil (λ (p : Param). p.ty < n));
-        ready = record { below = c.requires.ready; names = subst (AreBelow n) (sym locals) (All-nil (λ (l : LocalName). l.id < n)) };
-      };
-      count = omega (arith, none, long);
-      grows = grows_refl t;
-    }
-
-pub read-requires-clause-room : goal.read-requires-clause-room
-read-requires-clause-room c =
-    let first = ap length c.in-Some.ensures.steps in
-    omega (arith, first, c.loop-shape.invariant.count, c.requires.few)
 
 pub returns-in_err-read-clause-gives : goal.returns-in_err-read-clause-gives
 returns-in_err-read-clause-gives c =
@@ -63,13 +30,5 @@ loop-shape-preserved c =
       left = step ∙ ap (λ y. bind y b (p ∷ rest)) (sym same) ∙ c.in_ok-read.ensures.reads.binds rest ∙ ap (λ y. bind y (read_bound c.read.new.table.trees c.read.new.self) rest) same;
       live = c.in_ok-read.ensures.reads.live;
       count = omega (arith, first, c.in_ok-read.ensures.count, l.invariant.count);
-      grows = grows_on c.args.table.now l.table c.read.new.table l.invariant.grows c.in_ok-read.ensures.grows;
+      grows = search rules;
     }
-
-pub returns-in_err-read-clause-grows : goal.returns-in_err-read-clause-grows
-returns-in_err-read-clause-grows c = grows_on c.args.table.now c.loop-shape.table c.read.new.table c.loop-shape.invariant.grows c.in_err-read.ensures.grows
-
-pub returns-clause-count : goal.returns-clause-count
-returns-clause-count c =
-    let none = ap length c.in-None.ensures.steps.0 in
-    omega (arith, none, c.loop-shape.invariant.count)
