@@ -3,7 +3,6 @@ use Rattle.std.specs.Prelude.{Ok, true}
 use Rattle.eo_base.specs.declared.FaultName.TheVariants.{Redeclared}
 use Rattle.eo_base.specs.Limits.{parameters_limit}
 use Rattle.eo_base.proofs.Answering.{fails}
-use Rattle.eo_term.proofs.Growing.{grows_refl, grows_on}
 use Rattle.eo_term.specs.Growth.{tree_in}
 use Rattle.eo_elab.specs.Declarations.{defined_sort}
 use Rattle.eo_elab.specs.Declaring.{read_bound}
@@ -65,24 +64,3 @@ returns-clause-gives c =
       is = sort-whole x c.args.name.now c.args.params.now c.args.ty.now (sym (c.may_declare.ensures t.trees) ∙ c.if-not-may_declare.false) few b c.in_ok-bound.ensures.gives.is tree (ap (λ y. meaning y b.locals c.args.ty.now) (sym same) ∙ c.in_ok-tree.ensures.gives.is)
           ∙ (λ i. Ok (record { name = sym c.in_ok-new.ensures i; parameters = sym params i; tree = tree; from_reference = true }));
     }
-
-pub returns-in_err-tree-clause-grows : goal.returns-in_err-tree-clause-grows
-returns-in_err-tree-clause-grows c =
-    c.laws.ensures c.args.table.now c.term_at.new.table c.requires (grows_on c.args.table.now c.bind_types.new.table c.term_at.new.table c.in_ok-bound.ensures.grows c.in_err-tree.ensures.grows)
-
-pub returns-in_err-new-clause-grows : goal.returns-in_err-new-clause-grows
-returns-in_err-new-clause-grows c =
-    c.laws.ensures c.args.table.now c.term_at.new.table c.requires (grows_on c.args.table.now c.bind_types.new.table c.term_at.new.table c.in_ok-bound.ensures.grows c.in_ok-tree.ensures.grows)
-
-pub returns-clause-grows : goal.returns-clause-grows
-returns-clause-grows c =
-    c.laws.ensures c.args.table.now c.term_at.new.table c.requires (grows_on c.args.table.now c.bind_types.new.table c.term_at.new.table c.in_ok-bound.ensures.grows c.in_ok-tree.ensures.grows)
-
-pub returns-then-not-may_declare-clause-grows : goal.returns-then-not-may_declare-clause-grows
-returns-then-not-may_declare-clause-grows c = c.laws.ensures c.args.table.now c.args.table.now c.requires (grows_refl c.args.table.now)
-
-pub returns-then-len-gt-PARAMETERS-clause-grows : goal.returns-then-len-gt-PARAMETERS-clause-grows
-returns-then-len-gt-PARAMETERS-clause-grows c = c.laws.ensures c.args.table.now c.args.table.now c.requires (grows_refl c.args.table.now)
-
-pub returns-in_err-bound-clause-grows : goal.returns-in_err-bound-clause-grows
-returns-in_err-bound-clause-grows c = c.laws.ensures c.args.table.now c.bind_types.new.table c.requires c.in_err-bound.ensures.grows
