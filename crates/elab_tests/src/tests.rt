@@ -3,6 +3,7 @@ mod programs;
 mod reference;
 mod rules;
 mod terms;
+mod texts;
 mod world;
 
 use std::alloc::Global;

@@ -10,10 +10,12 @@ use Rattle.eo_shape.specs.Shapes.{ParameterShape, AttributeShape}
 use Rattle.eo_sig.specs.Signature.{Attribute, Plain, Constant, Macro}
 use Rattle.eo_term.specs.Tree.{Tree, Arr, height, is_tall}
 use Rattle.eo_elab.specs.Declarations.{Bound, bind, unbound, is_free_name, is_free_or_reference, not_tall, meanings, attribute, constant, macro, plain_constant, function_type, bound_type, declared_const, declared_fun, declared_parameterized, defined}
-use Rattle.eo_elab.specs.Declaring.{typed, typed_over, type_of_function}
+use Rattle.eo_elab.specs.Declaring.{typed, typed_over, type_of_function, function_to}
 use Rattle.eo_names.specs.Contexts.{Context, Local}
 use Rattle.eo_names.specs.Folding.{arrow}
 use Rattle.eo_elab.specs.Meaning.{meaning}
+use Rattle.eo_elab.specs.Worlds.{meaning_in}
+use Rattle.eo_names.specs.Worlds.{World}
 use Rattle.eo_elab.proofs.CheckedLemmas.{then-ok, then-err, require-yes, require-no}
 
 pub low : (t : Tree) → is_tall t ≡ false → not_tall t ≡ Ok t
@@ -74,18 +76,21 @@ module _ (c : Context) (b : Bound) (type : Sexp) (shape : AttributeShape) where
 
 -- the type of a function
 module _ (c : Context) (inputs : List Sexp) (output : Sexp) where
-  abbrev with_output : List Tree → Checked Tree
-  with_output ts = meaning c [] output >>= λ t. not_tall (function_type ts t)
+  abbrev from_inputs : List Tree → Checked Tree
+  from_inputs ts = function_to (record { names = c; locals = [] }) ts output
 
   pub function-no-inputs : (f : FaultName) → meanings c [] inputs ≡ Err f → type_of_function c inputs output ≡ Err f
-  function-no-inputs f e = then-err with_output (meanings c [] inputs) f e
+  function-no-inputs f e = then-err from_inputs (meanings c [] inputs) f e
 
-  module _ (ts : List Tree) (e : meanings c [] inputs ≡ Ok ts) where
-    pub function-no-output : (f : FaultName) → meaning c [] output ≡ Err f → type_of_function c inputs output ≡ Err f
-    function-no-output f h = then-ok with_output (meanings c [] inputs) ts e ∙ then-err (λ t. not_tall (function_type ts t)) (meaning c [] output) f h
+  pub function-inputs : (ts : List Tree) → meanings c [] inputs ≡ Ok ts → type_of_function c inputs output ≡ function_to (record { names = c; locals = [] }) ts output
+  function-inputs ts e = then-ok from_inputs (meanings c [] inputs) ts e
 
-    pub function-whole : (t : Tree) → meaning c [] output ≡ Ok t → type_of_function c inputs output ≡ not_tall (function_type ts t)
-    function-whole t h = then-ok with_output (meanings c [] inputs) ts e ∙ then-ok (λ t. not_tall (function_type ts t)) (meaning c [] output) t h
+module _ (w : World) (ts : List Tree) (output : Sexp) where
+  pub to-no-output : (f : FaultName) → meaning_in w output ≡ Err f → function_to w ts output ≡ Err f
+  to-no-output f e = then-err (λ t. not_tall (function_type ts t)) (meaning_in w output) f e
+
+  pub to-output : (t : Tree) → meaning_in w output ≡ Ok t → function_to w ts output ≡ not_tall (function_type ts t)
+  to-output t e = then-ok (λ t. not_tall (function_type ts t)) (meaning_in w output) t e
 
 module _ (c : Context) (name : List ℕ) where
   module _ (type : Sexp) (shape : AttributeShape) where

@@ -23,10 +23,11 @@ use Rattle.eo_elab.specs.Declarations.{Declaration, AConstant, ALiteralType, AMa
 use Rattle.eo_names.specs.Contexts.{Context, Local}
 use Rattle.eo_elab.specs.Meaning.{meaning}
 use Rattle.eo_names.specs.Names.{read_locals, AreBelow}
+use Rattle.eo_names.specs.Worlds.{World}
 use Rattle.eo_names.specs.declared.locals.LocalName.{LocalName}
 use Rattle.eo_names.specs.Ready.{context, IsReady}
 use Rattle.eo_names.specs.declared.scope.Setting.{Setting}
-use Rattle.eo_elab.specs.Worlds.{context_at, reference_context}
+use Rattle.eo_elab.specs.Worlds.{context_at, reference_context, meaning_in}
 
 abbrev pub read_bound : List Tree → code_bound.Bound → Bound
 read_bound ts b = record { parameters = map (read_parameter ts) b.params; locals = read_locals ts b.locals }
@@ -99,6 +100,12 @@ typed_over c b type shape = do
   whole ← not_tall (bound_type 0 b.parameters t)
   a ← attribute c b.locals shape
   Ok (whole, a)
+
+-- the type of a function of these types, to an output that is read
+abbrev pub function_to : World → List Tree → Sexp → Checked Tree
+function_to w ts output = do
+  t ← meaning_in w output
+  not_tall (function_type ts t)
 
 abbrev pub type_of_function : Context → List Sexp → Sexp → Checked Tree
 type_of_function c inputs output = do

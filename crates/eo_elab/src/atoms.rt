@@ -1,10 +1,11 @@
 //! The meaning of an atom.
 ghost use Rattle.std.specs.Prelude.{◌≤◌, ◌<◌, ◌^◌, length, option_map, Ok};
+ghost use Rattle.eo_base.specs.Characters.{AreCharacters};
 ghost use Rattle.eo_base.specs.Checks.{value_or};
 ghost use Rattle.eo_base.specs.declared.FaultName.TheVariants.{BadLiteral};
 ghost use Rattle.eo_lit.specs.Literals.{literal_value, string_value};
 ghost use Rattle.eo_term.specs.Tree.{Str, Bits};
-ghost use Rattle.eo_term.specs.Growth.{Grows};
+ghost use Rattle.eo_term.specs.Growth.{Grows, Makes};
 ghost use Rattle.eo_elab.specs.Meaning.{tree_alone, literal_tree};
 ghost use Rattle.eo_sexp.specs.AtomKind as kinds;
 ghost use Rattle.eo_names.specs.Symbols.{read_meant, IsLive};
@@ -20,7 +21,7 @@ use eo_names::{Meant, Scope, Word, name_meant, word_of};
 use eo_sexp::Kind;
 use eo_sig::SignatureView;
 use eo_term::{Id, Node, Table};
-use std::alloc::Global;
+use std::alloc::{AllocError, Global};
 
 /// The meaning of an atom: a literal or a string is its value, and a symbol is the term that its
 /// name stands for.
@@ -107,13 +108,21 @@ fn string(alloc: Global, body: &[u8], table: &mut Table) -> Result<Id, ElabRefus
     ensures gives { GivesTree table.new result (value_or BadLiteral (option_map Str (string_value body.now))) }
     ensures grows { Grows table.old table.new }
 {
-    let characters = match read_string(alloc, body) {
-        Ok(characters) => characters,
-        Err(StringRefused::Bad) => return Err(ElabRefused::BadLiteral),
-        Err(StringRefused::Memory(e)) => return Err(ElabRefused::Memory(e)),
-    };
-    let text = table.text(characters.as_slice())?;
-    Ok(table.intern_low(Node::Str(text))?)
+    match read_string(alloc, body) {
+        Ok(characters) => Ok(string_of(characters.as_slice(), table)?),
+        Err(StringRefused::Bad) => Err(ElabRefused::BadLiteral),
+        Err(StringRefused::Memory(e)) => Err(ElabRefused::Memory(e)),
+    }
+}
+
+// The string of these characters.
+fn string_of(characters: &[u32], table: &mut Table) -> Result<Id, AllocError>
+    requires { AreCharacters characters.now }
+    ensures makes { Makes table.new result (Str characters.now) }
+    ensures grows { Grows table.old table.new }
+{
+    let text = table.text(characters)?;
+    table.intern_low(Node::Str(text))
 }
 
 /// A bit string of so many bits, with this value.

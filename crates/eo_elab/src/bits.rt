@@ -7,9 +7,9 @@ ghost use Rattle.eo_sexp.specs.Sexp.{sexps_of};
 ghost use Rattle.eo_lit.specs.Literals.{numeral, with_digits, digit_below};
 ghost use Rattle.eo_names.specs.Contexts.{is_reference};
 ghost use Rattle.eo_names.specs.Scopes.{read_setting};
-ghost use Rattle.eo_shape.specs.Words.{numeral_of};
-ghost use Rattle.eo_elab.specs.BitStrings.{read_bits, FitBits, within_width};
-ghost use Rattle.eo_elab.specs.Meaning.{bit_vector, indexed_bits};
+ghost use Rattle.eo_shape.specs.Words.{numeral_of, symbol_of};
+ghost use Rattle.eo_elab.specs.BitStrings.{read_bits, FitBits, IsWidth, within_width};
+ghost use Rattle.eo_elab.specs.Meaning.{bit_vector, bits_of, indexed_bits};
 
 use eo_lit::read_numeral;
 use eo_names::Setting;
@@ -43,12 +43,21 @@ fn bit_vector(args: &Children<'_>) -> Option<BitString>
     ensures fits { IfSome result FitBits }
 {
     let (name, width) = args.only_two()?;
-    bits_named(symbol(&name)?, width_in(&width)?)
+    bits_of(&name, &width)
+}
+
+// The bit string that a name and a number of bits write.
+fn bits_of(name: &Sexp<'_>, width: &Sexp<'_>) -> Option<BitString>
+    ensures value { option_map read_bits result ≡ bits_of (symbol_of name.now) (numeral_of width.now) }
+    ensures fits { IfSome result FitBits }
+{
+    bits_named(symbol(name)?, width_in(width)?)
 }
 
 // The number of bits that an s-expression tells, where it is a numeral from 1 to 128.
 fn width_in(s: &Sexp<'_>) -> Option<u8>
-    ensures { result ≡ option_and_then within_width (numeral_of s.now) }
+    ensures width { result ≡ option_and_then within_width (numeral_of s.now) }
+    ensures fits { IfSome result IsWidth }
 {
     match s.kind() {
         Kind::Literal => width_of(s.text()),
@@ -57,7 +66,8 @@ fn width_in(s: &Sexp<'_>) -> Option<u8>
 }
 
 fn width_of(digits: &[u8]) -> Option<u8>
-    ensures { result ≡ option_and_then within_width (numeral digits.now) }
+    ensures width { result ≡ option_and_then within_width (numeral digits.now) }
+    ensures fits { IfSome result IsWidth }
 {
     let width = read_numeral(digits)?;
     if width < 1 || width > WIDTH {

@@ -1,17 +1,19 @@
 //! What a declaring command declares.
-ghost use Rattle.std.specs.Prelude.{◌≡◌, true, ◌<◌, ◌≤◌, [], length, All, IfOk, OnOk, OnErr};
+ghost use Rattle.std.specs.Prelude.{◌≡◌, true, false, ◌<◌, ◌≤◌, [], ◌∷◌, length, codes, All, IfOk, OnOk, OnErr};
 ghost use Rattle.eo_base.specs.Limits.{parameters_limit};
-ghost use Rattle.eo_term.specs.Growth.{Grows};
+ghost use Rattle.eo_term.specs.Growth.{trees_in, Grows};
 ghost use Rattle.eo_sig.specs.Growth.{GrowsUnder};
 ghost use Rattle.eo_sig.specs.Reading.{read_constant, read_macro, IsBelow, IsFree};
 ghost use Rattle.eo_shape.specs.Reading.{read_attribute, read_command};
 ghost use Rattle.eo_elab.specs.Declarations.{declared_fun, declared_sort, declared_literals, declaration, defined, is_free_or_reference};
-ghost use Rattle.eo_elab.specs.Declaring.{read_bound, read_declaration, declared, or_bad, typed, type_of_function};
+ghost use Rattle.eo_elab.specs.Declaring.{read_bound, read_declaration, declared, or_bad, typed, type_of_function, function_to};
 ghost use Rattle.eo_elab.specs.Declaring.{const_by, constant_of, declared_constant, parameterized_in, typed_over_in, IsCommand, BoundBelow};
 ghost use Rattle.eo_elab.specs.Declaring.{MayRepeat, MayBeMacro, MayBeLiterals, MayBeDeclared};
 ghost use Rattle.eo_names.specs.Gives.{GivesTree};
+ghost use Rattle.eo_names.specs.Names.{local};
+ghost use Rattle.eo_names.specs.Ready.{IsReady};
 ghost use Rattle.eo_elab.specs.Gives.{GivesTyped, GivesConstant, GivesMacro, GivesDeclaration};
-ghost use Rattle.eo_elab.specs.Worlds.{context_in, context_at};
+ghost use Rattle.eo_elab.specs.Worlds.{context_in, context_at, world_in};
 
 use crate::constants::{
     attribute_meant, bound_type, may_declare, meanings_at, plain_constant, sort_type,
@@ -27,8 +29,8 @@ use eo_names::{function_type, names_law};
 use eo_sexp::{Children, Sexp};
 use eo_shape::{AttributeShape, Command, ParameterShapes, command_of};
 use eo_sig::{Attribute, ConstDecl, Declaration, LiteralClass, MacroDecl, Signature};
-use eo_term::{HEIGHT_LIMIT, Id, Table};
-use std::alloc::Global;
+use eo_term::{HEIGHT_LIMIT, Id, Ids, Table};
+use std::alloc::{AllocError, Global};
 
 /// What the command declares, which is one of `declare-const`, `declare-fun`, `declare-sort`,
 /// `declare-parameterized-const`, `declare-consts`, `define`, `program` and `declare-rule`, in a
@@ -332,7 +334,26 @@ fn type_of_function(
     names_law();
     let none = Locals::new(alloc)?;
     let mut types = meanings_at(alloc, inputs, &none, setting, sig, table)?;
-    let output = term_at(alloc, output, &none, setting, sig, table)?;
+    function_to(alloc, &mut types, output, &none, setting, sig, table)
+}
+
+// The type of a function of these types, to an output that is read.
+fn function_to(
+    alloc: Global,
+    types: &mut Ids,
+    output: &Sexp<'_>,
+    locals: &Locals,
+    setting: Setting,
+    sig: &Signature,
+    table: &mut Table,
+) -> Result<Id, ElabRefused>
+    requires ready { IsReady (length table.old.trees) sig.now locals.now }
+    requires types { All (λ i. i < length table.old.trees) types.old }
+    ensures gives { GivesTree table.new result
+        (function_to (world_in table.old sig.now locals.now setting) (trees_in table.old types.old) output.now) }
+    ensures grows { Grows table.old table.new }
+{
+    let output = term_at(alloc, output, locals, setting, sig, table)?;
     types.push(output)?;
     let made = function_type(table, types.as_slice())?;
     prove!(table.height(made) <= HEIGHT_LIMIT);
@@ -533,9 +554,17 @@ fn literals(
         return Err(ElabRefused::Redeclared);
     }
     let literal = parameter(table, 0)?;
+    let names = self_name(alloc, literal)?;
+    term(alloc, ty, &names, sig, table)
+}
+
+// `eo::self`, which stands for a literal.
+fn self_name(alloc: Global, literal: Id) -> Result<Locals, AllocError>
+    ensures { IfOk result (λ ls. ls ≡ local (codes "eo::self") literal false ∷ []) }
+{
     let mut names = Locals::new(alloc)?;
     names.add(b"eo::self", literal, false)?;
-    term(alloc, ty, &names, sig, table)
+    Ok(names)
 }
 
 /// `(define NAME (PARAMETER ..) BODY)`: a macro.

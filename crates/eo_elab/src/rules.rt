@@ -27,7 +27,7 @@ use eo_term::{Id, Ids, Node, Table};
 use std::alloc::Global;
 
 // What premises are matched with, before it is known whether the second term can join them.
-#[derive(Debug, Drop)]
+#[derive(Drop)]
 pub(crate) enum PremisesMeant {
     // A pattern for each.
     Each(Ids),
@@ -36,7 +36,7 @@ pub(crate) enum PremisesMeant {
 }
 
 // The terms of a rule.
-#[derive(Debug, Drop)]
+#[derive(Drop)]
 pub(crate) struct RuleParts {
     assumption: Option<Id>,
     premises: PremisesMeant,

@@ -66,11 +66,11 @@ impl Model for Evaluator {
 }
 
 impl Evaluator {
-    /// An evaluator that takes its memory there.
-    pub fn new(alloc: Global) -> Result<Evaluator, AllocError> {
-        Ok(Evaluator {
-            machine: Machine::new(alloc)?,
-        })
+    /// An evaluator that takes its memory there. It takes none yet.
+    pub fn new(alloc: Global) -> Evaluator {
+        Evaluator {
+            machine: Machine::new(alloc),
+        }
     }
 
     /// How the evaluation of a closed term ends, by the rules of the Ethos manual for programs and

@@ -59,19 +59,18 @@ pub(crate) struct Machine {
 
 impl Machine {
     /// Nothing is begun, and nothing is remembered.
-    pub(crate) fn new(alloc: Global) -> Result<Machine, AllocError>
-        ensures { IfOk result IsFresh }
+    pub(crate) fn new(alloc: Global) -> Machine
+        ensures { IsFresh result }
     {
-        let subst = Subst::new(alloc)?;
-        Ok(Machine {
+        Machine {
             alloc,
             stack: Stack::new(alloc),
             scope: Scope::new(alloc),
-            subst,
+            subst: Subst::new(alloc),
             calls: IndexMap::new(alloc),
             terms: IndexMap::new(alloc),
             locals: IndexMap::new(alloc),
-        })
+        }
     }
 
     /// The outcome of a term, where nothing was begun before.

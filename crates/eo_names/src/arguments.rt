@@ -161,7 +161,7 @@ fn put_in(alloc: Global, tree: Id, args: &[Id], table: &mut Table) -> Result<Id,
     ensures gives { Builds table.new result (put (slice_get (trees_in table.old args.now)) (tree_in table.old tree)) }
     ensures grows { Grows table.old table.new }
 {
-    let mut values = Subst::new(alloc)?;
+    let mut values = Subst::new(alloc);
     values.reserve(args.len(), 0)?;
     for (i, a) in args.iter().enumerate() {
         values.put(i as u8, *a);

@@ -10,7 +10,7 @@ use std::alloc::{AllocError, Global};
 use std::test::Fail;
 
 /// An argument, or what is wanted.
-#[derive(Clone, Copy, Debug)]
+#[derive(Clone, Copy)]
 enum Sample {
     Truth(bool),
     Number(i128),

@@ -1,5 +1,5 @@
 //! Assignments of terms to parameters.
-ghost use Rattle.std.specs.Prelude.{◌≡◌, ℕ, ◌<◌, ◌≤◌, List, length, None, Some, IfOk, OnOk, OnErr, take, slice_set, slice_get};
+ghost use Rattle.std.specs.Prelude.{◌≡◌, ℕ, ◌<◌, ◌≤◌, List, length, None, Some, OnOk, OnErr, take, slice_set, slice_get};
 ghost use Rattle.std.specs.Option.{option_flatten};
 ghost use Rattle.eo_term.specs.Tree.{Tree};
 ghost use Rattle.eo_term.specs.Terms.{tree_at};
@@ -28,16 +28,16 @@ impl Model for Subst {
 }
 
 impl Subst {
-    /// An assignment of nothing, with room for nothing. `Err` is want of memory.
-    pub fn new(alloc: Global) -> Result<Subst, AllocError>
-        ensures empty { IfOk result (λ s. AreEmpty s) }
-        ensures below { IfOk result (λ s. (n : ℕ) → AreBelow n s) }
+    /// An assignment of nothing, with room for nothing. No memory is taken.
+    pub fn new(alloc: Global) -> Subst
+        ensures empty { AreEmpty result }
+        ensures below { (n : ℕ) → AreBelow n result }
     {
-        Ok(Subst {
+        Subst {
             alloc,
             values: Vec::new(alloc),
             height: 0,
-        })
+        }
     }
 
     /// Makes room for the parameters below `pars`, and for patterns of at most that height. The

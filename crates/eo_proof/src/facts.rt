@@ -48,7 +48,7 @@ pub struct UnknownPremise;
 pub struct NoScope;
 
 /// A scope that is open.
-#[derive(Clone, Copy, Debug)]
+#[derive(Clone, Copy)]
 pub(crate) struct Begun {
     /// How many facts were there before it.
     pub(crate) first: usize,
@@ -79,16 +79,16 @@ impl Model for Facts {
 }
 
 impl Facts {
-    /// No facts, and no scope but the outermost.
+    /// No facts, and no scope but the outermost. No memory is taken.
     #[tactic(auto, using(crate::proofs::Reading::first_is))]
-    pub fn new(alloc: Global) -> Result<Facts, AllocError>
-        ensures none { IfOk result (λ f. (ts : List Tree) → scopes ts f ≡ no_facts) }
+    pub fn new(alloc: Global) -> Facts
+        ensures none { (ts : List Tree) → scopes ts result ≡ no_facts }
     {
-        Ok(Facts {
+        Facts {
             formulas: NamedIds::new(alloc),
             begun: Vec::new(alloc),
             refutes: false,
-        })
+        }
     }
 
     /// Adds a fact to the innermost scope.

@@ -34,14 +34,14 @@ impl Model for Reference {
 }
 
 impl Reference {
-    /// Nothing is asserted. `Err` is want of memory.
-    pub fn new(alloc: Global) -> Result<Reference, AllocError>
-        ensures { IfOk result (λ r. r ≡ []) }
+    /// Nothing is asserted. No memory is taken.
+    pub fn new(alloc: Global) -> Reference
+        ensures { result ≡ [] }
     {
-        Ok(Reference {
+        Reference {
             alloc,
             formulas: IndexSet::new(alloc),
-        })
+        }
     }
 
     /// What a command of a reference file says (SMT-LIB 2.6, section 4.2 "Commands"). A formula is

@@ -56,7 +56,9 @@ fn count_run(
         return BenchEnd::Other(Verdict::OutOfMemory);
     };
     let verdict = check_job(alloc, job, files, &mut run, paths);
-    counts(verdict, &run.session)
+    let end = counts(verdict, &run.session);
+    drop(run);
+    end
 }
 
 /// What is answered for a verdict and the session behind it, which goes on where it is correct.

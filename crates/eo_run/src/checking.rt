@@ -27,7 +27,7 @@ use std::alloc::{AllocError, Global};
 const START: Spot = Spot { line: 1, offset: 0 };
 
 /// A file that the job names.
-#[derive(Clone, Copy, Debug)]
+#[derive(Clone, Copy)]
 pub(crate) struct Named<'a> {
     /// Its path, as it is given.
     pub(crate) name: &'a [u8],
@@ -101,7 +101,9 @@ fn check_whole<L: Library>(
     let Ok(mut run) = first_run(alloc, job) else {
         return Verdict::OutOfMemory;
     };
-    check_job(alloc, job, files, &mut run, paths)
+    let verdict = check_job(alloc, job, files, &mut run, paths);
+    drop(run);
+    verdict
 }
 
 /// The verdict of a job whose run begins. Where it is correct, the run is left at its end.

@@ -34,7 +34,7 @@ pub(crate) struct Run {
 }
 
 /// A file that is run.
-#[derive(Debug, Drop)]
+#[derive(Drop)]
 pub(crate) struct Source<'a> {
     /// Its path, folded.
     pub(crate) path: &'a [u8],

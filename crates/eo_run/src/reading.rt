@@ -14,7 +14,7 @@ use eo_session::{Next, Origin, Refused, Session};
 use eo_sexp::{Collector, Fed, Finished, Spot, answers_law, pieces_law};
 
 /// Why a file is not read and checked to its end.
-#[derive(Clone, Copy, Debug, PartialEq, Eq)]
+#[derive(Clone, Copy)]
 pub(crate) enum Stop {
     /// A fault of the file, and its place.
     Fault { name: FaultName, at: Spot },
@@ -25,7 +25,7 @@ pub(crate) enum Stop {
 }
 
 /// A command that asks for a file, or ends its own.
-#[derive(Debug, Drop)]
+#[derive(Drop)]
 pub(crate) struct Asked {
     /// What it asks for.
     pub(crate) next: Next,

@@ -1,7 +1,7 @@
 //! What is held before the first command.
-ghost use Rattle.std.specs.Prelude.{◌≡◌, IfOk};
+ghost use Rattle.std.specs.Prelude.{◌≡◌, Ok, IfOk};
 ghost use Rattle.eo_term.specs.Terms.{first_trees};
-ghost use Rattle.eo_session.specs.Beginning.{IsFirstSignature, AreFirstFinders, IsFirstKnown};
+ghost use Rattle.eo_session.specs.Beginning.{IsFirstSignature};
 ghost use Rattle.eo_session.specs.Held.{state_of, IsSettled};
 ghost use Rattle.eo_session.specs.State.{first_state};
 
@@ -16,21 +16,6 @@ use eo_term::Table;
 use eo_type::Types;
 use std::alloc::{AllocError, Global};
 
-// What finds types and values and uses rules.
-#[derive(Drop)]
-pub(crate) struct Finders {
-    types: Types,
-    evaluator: Evaluator,
-    subst: Subst,
-}
-
-// What is asserted, and the facts.
-#[derive(Drop)]
-pub(crate) struct Known {
-    assertions: Reference,
-    facts: Facts,
-}
-
 impl Held {
     /// What is held before the first command.
     pub(crate) fn new(alloc: Global, closed: bool) -> Result<Held, AllocError>
@@ -38,10 +23,8 @@ impl Held {
         ensures state { IfOk result (λ h. state_of h ≡ first_state closed) }
     {
         let table = Table::new(alloc)?;
-        let signature = first_signature(alloc)?;
-        let finders = first_finders(alloc)?;
-        let known = first_known(alloc)?;
-        Ok(first(alloc, closed, table, signature, finders, known))
+        let (table, signature) = both(table, first_signature(alloc))?;
+        Ok(first(alloc, closed, table, signature))
     }
 }
 
@@ -53,52 +36,32 @@ fn first_signature(alloc: Global) -> Result<Signature, AllocError>
     Ok(signature)
 }
 
-// No type was found.
-fn first_finders(alloc: Global) -> Result<Finders, AllocError>
-    ensures { IfOk result AreFirstFinders }
+// Both, where the second was made. Where it was not, the first is let go here, once for all types:
+// a function that holds much lets nothing go by itself.
+fn both<A: Drop, B: Drop>(first: A, second: Result<B, AllocError>) -> Result<(A, B), AllocError>
+    ensures first { IfOk result (λ p. p.0 ≡ first) }
+    ensures second { IfOk result (λ p. second ≡ Ok p.1) }
 {
-    let types = Types::new(alloc)?;
-    types.laws();
-    let evaluator = Evaluator::new(alloc)?;
-    let subst = Subst::new(alloc)?;
-    Ok(Finders {
-        types,
-        evaluator,
-        subst,
-    })
+    match second {
+        Ok(second) => Ok((first, second)),
+        Err(e) => Err(e),
+    }
 }
 
-// Nothing is asserted, and there are no facts.
-fn first_known(alloc: Global) -> Result<Known, AllocError>
-    ensures { IfOk result IsFirstKnown }
-{
-    let assertions = Reference::new(alloc)?;
-    let facts = Facts::new(alloc)?;
-    Ok(Known { assertions, facts })
-}
-
-// What is held first, of these parts.
-fn first(
-    alloc: Global,
-    closed: bool,
-    table: Table,
-    signature: Signature,
-    finders: Finders,
-    known: Known,
-) -> Held
+// What is held first, with this table and this signature.
+fn first(alloc: Global, closed: bool, table: Table, signature: Signature) -> Held
     requires trees { table.trees ≡ first_trees }
     requires signature { IsFirstSignature signature }
-    requires finders { AreFirstFinders finders }
-    requires known { IsFirstKnown known }
     ensures settled { IsSettled result }
     ensures state { state_of result ≡ first_state closed }
 {
-    let Finders {
-        types,
-        evaluator,
-        subst,
-    } = finders;
-    let Known { assertions, facts } = known;
+    let types = Types::new(alloc);
+    types.laws();
+    let evaluator = Evaluator::new(alloc);
+    let subst = Subst::new(alloc);
+    let assertions = Reference::new(alloc);
+    let facts = Facts::new(alloc);
+    let marks = Marks::new(alloc);
     let kept = table.mark();
     Held {
         alloc,
@@ -110,7 +73,7 @@ fn first(
         assertions,
         has_reference: false,
         facts,
-        marks: Marks::new(alloc),
+        marks,
         kept,
         sorry: false,
         closed,

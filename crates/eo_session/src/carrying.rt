@@ -8,7 +8,7 @@ ghost use Rattle.eo_term.specs.Growth.{IsTerm};
 
 use crate::held::Held;
 use crate::moving::{
-    Handed, moved_constant, moved_macro, moved_program, moved_rule, push_constant, push_macro,
+    Handed, move_constant, move_macro, move_program, move_rule, push_constant, push_macro,
     push_program, push_rule,
 };
 use eo_sig::{ConstDecl, MacroDecl, ProgramDecl, RuleDecl, growth_law};
@@ -75,69 +75,69 @@ impl Held {
     }
 
     /// Gives back what a command made, but for the terms of a constant, and the next constant.
-    pub(crate) fn carry_constant(&mut self, d: ConstDecl) -> Result<ConstDecl, AllocError>
+    pub(crate) fn carry_constant(&mut self, d: &mut ConstDecl) -> Result<(), AllocError>
         requires whole { IsWhole self.old }
-        requires below { ConstBelow (length self.old.table.trees) d }
+        requires below { ConstBelow (length self.old.table.trees) d.old }
         ensures leaves { OnOk result (Leaves self.old
-            (next_constant self.old ∷ constant_trees (read_constant self.old.table.trees d)) self.new) }
-        ensures read { IfOk result (λ e. read_constant self.new.table.trees e ≡ read_constant self.old.table.trees d) }
-        ensures below { IfOk result (ConstBelow (length self.new.table.trees)) }
+            (next_constant self.old ∷ constant_trees (read_constant self.old.table.trees d.old)) self.new) }
+        ensures read { OnOk result (read_constant self.new.table.trees d.new ≡ read_constant self.old.table.trees d.old) }
+        ensures below { OnOk result (ConstBelow (length self.new.table.trees) d.new) }
         ensures itself { OnOk result (Contains self.new.table.trees (next_constant self.old)) }
     {
         d.laws();
         let constant = self.next_constant()?;
         let mut ids = Vec::new(self.alloc);
         ids.push(constant)?;
-        push_constant(&d, &mut ids)?;
+        push_constant(d, &mut ids)?;
         let mut left = self.carry_list(ids)?;
         left.next();
-        let moved = moved_constant(self.alloc, d, &mut left)?;
-        Ok(moved)
+        move_constant(self.alloc, d, &mut left)?;
+        Ok(())
     }
 
     /// Gives back what a command made, but for the terms of a macro.
-    pub(crate) fn carry_macro(&mut self, d: MacroDecl) -> Result<MacroDecl, AllocError>
+    pub(crate) fn carry_macro(&mut self, d: &mut MacroDecl) -> Result<(), AllocError>
         requires whole { IsWhole self.old }
-        requires below { MacroBelow (length self.old.table.trees) d }
-        ensures leaves { OnOk result (Leaves self.old (macro_trees (read_macro self.old.table.trees d)) self.new) }
-        ensures read { IfOk result (λ e. read_macro self.new.table.trees e ≡ read_macro self.old.table.trees d) }
-        ensures below { IfOk result (MacroBelow (length self.new.table.trees)) }
+        requires below { MacroBelow (length self.old.table.trees) d.old }
+        ensures leaves { OnOk result (Leaves self.old (macro_trees (read_macro self.old.table.trees d.old)) self.new) }
+        ensures read { OnOk result (read_macro self.new.table.trees d.new ≡ read_macro self.old.table.trees d.old) }
+        ensures below { OnOk result (MacroBelow (length self.new.table.trees) d.new) }
     {
         let mut ids = Vec::new(self.alloc);
-        push_macro(&d, &mut ids)?;
+        push_macro(d, &mut ids)?;
         let mut left = self.carry_list(ids)?;
-        let moved = moved_macro(self.alloc, d, &mut left)?;
-        Ok(moved)
+        move_macro(self.alloc, d, &mut left)?;
+        Ok(())
     }
 
     /// Gives back what a command made, but for the terms of a program.
-    pub(crate) fn carry_program(&mut self, d: ProgramDecl) -> Result<ProgramDecl, AllocError>
+    pub(crate) fn carry_program(&mut self, d: &mut ProgramDecl) -> Result<(), AllocError>
         requires whole { IsWhole self.old }
-        requires below { ProgramBelow (length self.old.table.trees) d }
-        ensures leaves { OnOk result (Leaves self.old (program_trees (read_program self.old.table.trees d)) self.new) }
-        ensures read { IfOk result (λ e. read_program self.new.table.trees e ≡ read_program self.old.table.trees d) }
-        ensures below { IfOk result (ProgramBelow (length self.new.table.trees)) }
+        requires below { ProgramBelow (length self.old.table.trees) d.old }
+        ensures leaves { OnOk result (Leaves self.old (program_trees (read_program self.old.table.trees d.old)) self.new) }
+        ensures read { OnOk result (read_program self.new.table.trees d.new ≡ read_program self.old.table.trees d.old) }
+        ensures below { OnOk result (ProgramBelow (length self.new.table.trees) d.new) }
     {
         let mut ids = Vec::new(self.alloc);
-        push_program(&d, &mut ids)?;
+        push_program(d, &mut ids)?;
         let mut left = self.carry_list(ids)?;
-        let moved = moved_program(self.alloc, d, &mut left)?;
-        Ok(moved)
+        move_program(self.alloc, d, &mut left)?;
+        Ok(())
     }
 
     /// Gives back what a command made, but for the terms of a rule.
-    pub(crate) fn carry_rule(&mut self, d: RuleDecl) -> Result<RuleDecl, AllocError>
+    pub(crate) fn carry_rule(&mut self, d: &mut RuleDecl) -> Result<(), AllocError>
         requires whole { IsWhole self.old }
-        requires below { RuleBelow (length self.old.table.trees) d }
-        ensures leaves { OnOk result (Leaves self.old (rule_trees (read_rule self.old.table.trees d)) self.new) }
-        ensures read { IfOk result (λ e. read_rule self.new.table.trees e ≡ read_rule self.old.table.trees d) }
-        ensures below { IfOk result (RuleBelow (length self.new.table.trees)) }
+        requires below { RuleBelow (length self.old.table.trees) d.old }
+        ensures leaves { OnOk result (Leaves self.old (rule_trees (read_rule self.old.table.trees d.old)) self.new) }
+        ensures read { OnOk result (read_rule self.new.table.trees d.new ≡ read_rule self.old.table.trees d.old) }
+        ensures below { OnOk result (RuleBelow (length self.new.table.trees) d.new) }
     {
         let mut ids = Vec::new(self.alloc);
-        push_rule(&d, &mut ids)?;
+        push_rule(d, &mut ids)?;
         let mut left = self.carry_list(ids)?;
-        let moved = moved_rule(self.alloc, d, &mut left)?;
-        Ok(moved)
+        move_rule(self.alloc, d, &mut left)?;
+        Ok(())
     }
 
     // The term of the constant that is declared next.

@@ -257,7 +257,7 @@ impl Held {
     }
 
     // Carries the terms of a program whose name is free, and adds it.
-    fn add_program(&mut self, d: ProgramDecl) -> Result<(), Refused>
+    fn add_program(&mut self, mut d: ProgramDecl) -> Result<(), Refused>
         requires whole { IsWhole self.old }
         requires outside { is_in_scope (state_of self.old) ≡ false }
         requires below { ProgramBelow (length self.old.table.trees) d }
@@ -265,7 +265,7 @@ impl Held {
         ensures whole { OnOk result (IsWhole self.new) }
         ensures does { Does result (step.checked_program (state_of self.old) (read_program self.old.table.trees d)) self.new }
     {
-        let d = self.carry_program(d)?;
+        self.carry_program(&mut d)?;
         self.put_program(d)
     }
 
@@ -322,7 +322,7 @@ impl Held {
 
     // Carries the terms of a constant whose name is free, and declares it. The constant itself is a
     // term that is alive, also where no other term names it.
-    fn add_constant(&mut self, d: ConstDecl) -> Result<(), Refused>
+    fn add_constant(&mut self, mut d: ConstDecl) -> Result<(), Refused>
         requires whole { IsWhole self.old }
         requires outside { is_in_scope (state_of self.old) ≡ false }
         requires below { ConstBelow (length self.old.table.trees) d }
@@ -330,7 +330,7 @@ impl Held {
         ensures whole { OnOk result (IsWhole self.new) }
         ensures does { Does result (step.checked_constant (state_of self.old) (read_constant self.old.table.trees d)) self.new }
     {
-        let d = self.carry_constant(d)?;
+        self.carry_constant(&mut d)?;
         self.put_constant(d)
     }
 
@@ -399,7 +399,7 @@ impl Held {
     }
 
     // Carries the terms of a macro whose name is free, and defines it.
-    fn add_new_macro(&mut self, d: MacroDecl) -> Result<(), Refused>
+    fn add_new_macro(&mut self, mut d: MacroDecl) -> Result<(), Refused>
         requires whole { IsWhole self.old }
         requires below { MacroBelow (length self.old.table.trees) d }
         requires free { IsFree self.old.signature d.name }
@@ -407,7 +407,7 @@ impl Held {
         ensures whole { OnOk result (IsWhole self.new) }
         ensures does { Does result (Ok (with_macro (state_of self.old) (read_macro self.old.table.trees d))) self.new }
     {
-        let d = self.carry_macro(d)?;
+        self.carry_macro(&mut d)?;
         self.put_macro(d)
     }
 

@@ -7,7 +7,7 @@ use std::alloc::{AllocError, Global};
 use std::marker::Model;
 
 /// What was held when a scope began: the terms and the macros before these marks.
-#[derive(Clone, Copy, Debug)]
+#[derive(Clone, Copy)]
 pub(crate) struct ScopeMark {
     pub(crate) table: Mark,
     pub(crate) macros: SigMark,

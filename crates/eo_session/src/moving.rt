@@ -186,38 +186,33 @@ fn push_attribute(attribute: Attribute, ids: &mut Vec<Id>) -> Result<(), AllocEr
 
 // ---- declarations with other terms
 
-/// The constant with the next terms.
-pub(crate) fn moved_constant(
+/// Gives a constant the next terms.
+pub(crate) fn move_constant(
     alloc: Global,
-    d: ConstDecl,
+    d: &mut ConstDecl,
     ids: &mut Handed,
-) -> Result<ConstDecl, AllocError>
-    requires { length (constant_ids d) ≤ length ids.old }
-    ensures { IfOk result (λ e. IsMoved constant_ids blank_constant d ids.old e ids.new) }
+) -> Result<(), AllocError>
+    requires { length (constant_ids d.old) ≤ length ids.old }
+    ensures { OnOk result (IsMoved constant_ids blank_constant d.old ids.old d.new ids.new) }
 {
-    let ty = ids.next();
-    let params = moved_params(alloc, &d.params, ids)?;
-    let attribute = moved_attribute(d.attribute, ids);
-    Ok(ConstDecl {
-        ty,
-        params,
-        attribute,
-        ..d
-    })
+    d.ty = ids.next();
+    d.params = moved_params(alloc, &d.params, ids)?;
+    d.attribute = moved_attribute(d.attribute, ids);
+    Ok(())
 }
 
-/// The macro with the next terms.
-pub(crate) fn moved_macro(
+/// Gives a macro the next terms.
+pub(crate) fn move_macro(
     alloc: Global,
-    d: MacroDecl,
+    d: &mut MacroDecl,
     ids: &mut Handed,
-) -> Result<MacroDecl, AllocError>
-    requires { length (macro_ids d) ≤ length ids.old }
-    ensures { IfOk result (λ e. IsMoved macro_ids blank_macro d ids.old e ids.new) }
+) -> Result<(), AllocError>
+    requires { length (macro_ids d.old) ≤ length ids.old }
+    ensures { OnOk result (IsMoved macro_ids blank_macro d.old ids.old d.new ids.new) }
 {
-    let tree = ids.next();
-    let params = moved_params(alloc, &d.params, ids)?;
-    Ok(MacroDecl { tree, params, ..d })
+    d.tree = ids.next();
+    d.params = moved_params(alloc, &d.params, ids)?;
+    Ok(())
 }
 
 fn moved_params(alloc: Global, params: &Params, ids: &mut Handed) -> Result<Params, AllocError>
@@ -256,52 +251,34 @@ fn moved_attribute(attribute: Attribute, ids: &mut Handed) -> Attribute
     }
 }
 
-/// The program with the next terms.
-pub(crate) fn moved_program(
+/// Gives a program the next terms.
+pub(crate) fn move_program(
     alloc: Global,
-    d: ProgramDecl,
+    d: &mut ProgramDecl,
     ids: &mut Handed,
-) -> Result<ProgramDecl, AllocError>
-    requires { length (program_ids d) ≤ length ids.old }
-    ensures { IfOk result (λ e. IsMoved program_ids blank_program d ids.old e ids.new) }
+) -> Result<(), AllocError>
+    requires { length (program_ids d.old) ≤ length ids.old }
+    ensures { OnOk result (IsMoved program_ids blank_program d.old ids.old d.new ids.new) }
 {
-    let output = ids.next();
-    let inputs = moved_ids(alloc, &d.inputs, ids)?;
-    let params = moved_params(alloc, &d.params, ids)?;
-    let cases = moved_cases(alloc, &d.cases, ids)?;
-    Ok(ProgramDecl {
-        params,
-        inputs,
-        output,
-        cases,
-        ..d
-    })
+    d.output = ids.next();
+    d.inputs = moved_ids(alloc, &d.inputs, ids)?;
+    d.params = moved_params(alloc, &d.params, ids)?;
+    d.cases = moved_cases(alloc, &d.cases, ids)?;
+    Ok(())
 }
 
-/// The rule with the next terms.
-pub(crate) fn moved_rule(
-    alloc: Global,
-    d: RuleDecl,
-    ids: &mut Handed,
-) -> Result<RuleDecl, AllocError>
-    requires { length (rule_ids d) ≤ length ids.old }
-    ensures { IfOk result (λ e. IsMoved rule_ids blank_rule d ids.old e ids.new) }
+/// Gives a rule the next terms.
+pub(crate) fn move_rule(alloc: Global, d: &mut RuleDecl, ids: &mut Handed) -> Result<(), AllocError>
+    requires { length (rule_ids d.old) ≤ length ids.old }
+    ensures { OnOk result (IsMoved rule_ids blank_rule d.old ids.old d.new ids.new) }
 {
-    let conclusion = ids.next();
-    let params = moved_params(alloc, &d.params, ids)?;
-    let assumption = moved_option(d.assumption, ids);
-    let premises = moved_premises(alloc, &d.premises, ids)?;
-    let args = moved_ids(alloc, &d.args, ids)?;
-    let requirements = moved_pairs(alloc, &d.requirements, ids)?;
-    Ok(RuleDecl {
-        params,
-        assumption,
-        premises,
-        args,
-        requirements,
-        conclusion,
-        ..d
-    })
+    d.conclusion = ids.next();
+    d.params = moved_params(alloc, &d.params, ids)?;
+    d.assumption = moved_option(d.assumption, ids);
+    d.premises = moved_premises(alloc, &d.premises, ids)?;
+    d.args = moved_ids(alloc, &d.args, ids)?;
+    d.requirements = moved_pairs(alloc, &d.requirements, ids)?;
+    Ok(())
 }
 
 fn moved_ids(alloc: Global, old: &Ids, ids: &mut Handed) -> Result<Ids, AllocError>

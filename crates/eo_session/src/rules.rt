@@ -48,7 +48,7 @@ impl Held {
     }
 
     // Carries the terms of a rule whose name is free, and adds it.
-    fn add_rule(&mut self, d: RuleDecl) -> Result<(), Refused>
+    fn add_rule(&mut self, mut d: RuleDecl) -> Result<(), Refused>
         requires whole { IsWhole self.old }
         requires outside { is_in_scope (state_of self.old) ≡ false }
         requires below { RuleBelow (length self.old.table.trees) d }
@@ -57,7 +57,7 @@ impl Held {
         ensures whole { OnOk result (IsWhole self.new) }
         ensures does { Does result (checked_rule (state_of self.old) (read_rule self.old.table.trees d)) self.new }
     {
-        let d = self.carry_rule(d)?;
+        self.carry_rule(&mut d)?;
         self.put_rule(d)
     }
 

@@ -23,7 +23,7 @@ use eo_sig::is_reserved;
 use eo_term::Id;
 
 /// What a rule concludes.
-#[derive(Clone, Copy, Debug)]
+#[derive(Clone, Copy)]
 pub(crate) struct Conclusion {
     /// The formula.
     pub(crate) formula: Id,

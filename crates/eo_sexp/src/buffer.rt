@@ -18,7 +18,7 @@ use appending::append;
 use counting::count_child;
 
 /// A list that is open: the byte of its `(`, its node, and how many children it has so far.
-#[derive(Clone, Copy, Debug)]
+#[derive(Clone, Copy)]
 pub(crate) struct Open {
     at: u32,
     node: usize,

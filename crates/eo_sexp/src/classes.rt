@@ -4,7 +4,7 @@ ghost use Rattle.eo_sexp.specs.Lexicon.{class, is_line_end, is_text, is_quotable
 ghost use Rattle.eo_sexp.specs.Token.{class_of};
 
 /// What a byte outside tokens and comments begins.
-#[derive(Clone, Copy, Debug, PartialEq, Eq)]
+#[derive(Clone, Copy)]
 pub(crate) enum Class {
     Space,
     Comment,

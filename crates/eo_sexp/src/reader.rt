@@ -20,7 +20,7 @@ use eo_base::limits::{COMMAND, NESTING, TOKEN, WIDTH};
 use std::alloc::AllocError;
 
 /// What the next byte stands in.
-#[derive(Clone, Copy, Debug, PartialEq, Eq)]
+#[derive(Clone, Copy)]
 pub(crate) enum Position {
     /// White space, between two tokens.
     Gap,
@@ -29,7 +29,7 @@ pub(crate) enum Position {
 }
 
 /// What the next byte does to a command.
-#[derive(Clone, Copy, Debug, PartialEq, Eq)]
+#[derive(Clone, Copy)]
 pub(crate) enum ReaderTurn {
     /// The command goes on behind the byte.
     Goes,
@@ -42,7 +42,7 @@ pub(crate) enum ReaderTurn {
 }
 
 /// How many bytes were taken, and what the next one does. It is not known where that is `Goes`.
-#[derive(Clone, Copy, Debug, PartialEq, Eq)]
+#[derive(Clone, Copy)]
 pub(crate) struct Run {
     pub(crate) taken: usize,
     // how many of them are line feeds

@@ -34,7 +34,7 @@ impl AtomKind {
 }
 
 /// How a token that is begun goes on.
-#[derive(Clone, Copy, Debug, PartialEq, Eq)]
+#[derive(Clone, Copy)]
 pub(crate) enum Token {
     Word,
     /// A string literal. `closed` tells that its last byte was a quote that no quote has doubled.
@@ -44,7 +44,7 @@ pub(crate) enum Token {
 }
 
 /// What the next byte does to a token.
-#[derive(Clone, Copy, Debug, PartialEq, Eq)]
+#[derive(Clone, Copy)]
 pub(crate) enum TokenTurn {
     /// The byte belongs to the token, which goes on so.
     Goes(Token),

@@ -82,10 +82,7 @@ impl Signature {
         ensures below { IfOk result (λ s. IsBelow 4 s) }
     {
         let mut s = Signature::empty(alloc);
-        s.keep_first(b"Type", TYPE)?;
-        s.keep_first(b"Bool", TYPE)?;
-        s.keep_first(b"true", BOOL)?;
-        s.keep_first(b"false", BOOL)?;
+        s.keep_constants()?;
         Ok(s)
     }
 
@@ -187,6 +184,18 @@ impl Signature {
             binary: None,
             string: None,
         }
+    }
+
+    // Declares the first constants, where nothing is declared.
+    fn keep_constants(&mut self) -> Result<(), AllocError>
+        requires { self.old ≡ record { entries = []; macros = [] } }
+        ensures { OnOk result (self.new ≡ first_kept) }
+    {
+        self.keep_first(b"Type", TYPE)?;
+        self.keep_first(b"Bool", TYPE)?;
+        self.keep_first(b"true", BOOL)?;
+        self.keep_first(b"false", BOOL)?;
+        Ok(())
     }
 
     // Declares one of the first constants.

@@ -58,6 +58,10 @@ pub record Holds (ts : List Tree) (es : List (Root × Info)) (xs : List (List �
 abbrev pub IsSound : List (Root × Info) → List (List ℕ) → Type 0
 IsSound es xs = Holds (trees_of xs es) es xs
 
+-- these are the entries that a table begins with, before there are texts
+abbrev pub AreFirst : List (Root × Info) → Type 0
+AreFirst es = (xs : List (List ℕ)) → xs ≡ [] → (trees_of xs es ≡ first_trees) × IsSound es xs
+
 -- the tree of a node with these arguments, over a table
 abbrev pub tree_over : Terms → Node → List ℕ → Tree
 tree_over t d is = tree_of t.trees t.texts d (trees_at t.trees is)

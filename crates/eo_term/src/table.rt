@@ -12,7 +12,8 @@ ghost use Rattle.eo_term.specs.Terms.{Terms, tree_at, text_at, trees_at, tree_of
 ghost use Rattle.eo_term.specs.Terms.{HasCount, HasArity, IsProper, AreLow, Interned, InternedText, IsMark};
 ghost use Rattle.eo_term.specs.Terms.{first_trees};
 ghost use Rattle.eo_term.specs.Refused.{IsTall};
-ghost use Rattle.eo_term.specs.Held.{Tells, IsOver, HasRoot, tree_over};
+ghost use Rattle.eo_term.specs.Held.{Tells, IsOver, HasRoot, tree_over, AreFirst};
+ghost use Rattle.eo_term.specs.Keys.{entries_of, IsKept};
 
 use crate::node::Info;
 use crate::nodes::Nodes;
@@ -79,6 +80,20 @@ impl Model for Table {
     ghost invariant = { λ a. IsKept a.nodes × IsSound (entries_of a.nodes) (map (λ w. w.items) a.texts.keys) };
 }
 
+/// Adds the constants 0 to 3, where there are no terms.
+fn add_constants(alloc: Global, nodes: &mut Nodes) -> Result<(), AllocError>
+    requires kept { IsKept nodes.old }
+    requires none { entries_of nodes.old ≡ [] }
+    ensures kept { IsKept nodes.new }
+    ensures first { OnOk result (AreFirst (entries_of nodes.new)) }
+{
+    nodes.add(Node::Con(0), Vec::new(alloc), Info::leaf())?;
+    nodes.add(Node::Con(1), Vec::new(alloc), Info::leaf())?;
+    nodes.add(Node::Con(2), Vec::new(alloc), Info::leaf())?;
+    nodes.add(Node::Con(3), Vec::new(alloc), Info::leaf())?;
+    Ok(())
+}
+
 impl Table {
     /// A table with the constants 0 to 3. `Err` is want of memory.
     pub fn new(alloc: Global) -> Result<Table, AllocError>
@@ -86,10 +101,7 @@ impl Table {
         ensures texts { IfOk result (λ t. t.texts ≡ []) }
     {
         let mut nodes = Nodes::new(alloc);
-        nodes.add(Node::Con(0), Vec::new(alloc), Info::leaf())?;
-        nodes.add(Node::Con(1), Vec::new(alloc), Info::leaf())?;
-        nodes.add(Node::Con(2), Vec::new(alloc), Info::leaf())?;
-        nodes.add(Node::Con(3), Vec::new(alloc), Info::leaf())?;
+        add_constants(alloc, &mut nodes)?;
         Ok(Table {
             alloc,
             nodes,

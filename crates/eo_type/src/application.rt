@@ -27,7 +27,7 @@ pub(crate) fn application_type(
     ensures gives { Gives table.new result (application_type (tree_in table.old fun) (tree_in table.old ty) (tree_in table.old arg)) }
     ensures grows { Grows table.old table.new }
 {
-    let mut subst = Subst::new(alloc)?;
+    let mut subst = Subst::new(alloc);
     application_with(alloc, table, &mut subst, fun, ty, arg)
 }
 

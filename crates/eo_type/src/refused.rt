@@ -21,7 +21,7 @@ pub enum TypeRefused {
 }
 
 /// How a walk ends that finds no type.
-#[derive(Debug, Drop)]
+#[derive(Drop)]
 pub(crate) enum Stop {
     /// There is no type.
     Untyped,

@@ -20,7 +20,7 @@ use crate::refused::{Stop, answer};
 use eo_pattern::Subst;
 use eo_sig::{LiteralClass, Signature, growth_law, longer_law};
 use eo_term::{Id, Mark, Node, Table};
-use std::alloc::{AllocError, Global};
+use std::alloc::Global;
 use std::marker::Model;
 
 /// Types that were found, with their terms, in the order in which they were found. Contracts see them
@@ -44,15 +44,15 @@ impl Model for Types {
 }
 
 impl Types {
-    /// No types. `Err` is want of memory.
-    pub fn new(alloc: Global) -> Result<Types, AllocError>
-        ensures types { IfOk result (λ t. t ≡ []) }
-        ensures fits { IfOk result (λ t. (S : spec.Signature) (ts : List Tree) → Fits S ts t) }
+    /// No types. No memory is taken.
+    pub fn new(alloc: Global) -> Types
+        ensures types { result ≡ [] }
+        ensures fits { (S : spec.Signature) (ts : List Tree) → Fits S ts result }
     {
-        Ok(Types {
+        Types {
             alloc,
             known: Known::new(alloc),
-        })
+        }
     }
 
     /// What holds of all types that fit. A call costs nothing: it tells a proof these facts.
@@ -317,7 +317,7 @@ fn literal_in(alloc: Global, table: &mut Table, ty: Id, id: Id) -> Result<Id, St
     ensures gives { Gives table.new result (literal_type_at (Some (tree_in table.old ty)) (tree_in table.old id)) }
     ensures grows { Grows table.old table.new }
 {
-    let mut subst = Subst::new(alloc)?;
+    let mut subst = Subst::new(alloc);
     literal_with(alloc, table, &mut subst, ty, id)
 }
 

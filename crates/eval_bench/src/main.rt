@@ -98,14 +98,14 @@ impl World {
         if id.place() >= self.table.len() {
             return None;
         }
-        let mut evaluator = Evaluator::new(self.alloc).ok()?;
+        let mut evaluator = Evaluator::new(self.alloc);
         self.outcome_by(&mut evaluator, id)
     }
 
     fn outcome_by(&mut self, evaluator: &mut Evaluator, id: Id) -> Option<Outcome>
         requires { id < self.old }
     {
-        let mut types = Types::new(self.alloc).ok()?;
+        let mut types = Types::new(self.alloc);
         evaluator
             .evaluate(&self.sig, &mut self.table, &mut types, id)
             .ok()

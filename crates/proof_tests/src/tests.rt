@@ -23,9 +23,7 @@ fn lent<F: FnOnce(&mut Facts) -> Result<Option<usize>, FactRefused>>(
 ) -> Result<Option<usize>, Fail>
     requires { F.IsAlwaysCallable tell }
 {
-    let Ok(mut facts) = Facts::new(alloc) else {
-        return Err(Fail::new("out of memory"));
-    };
+    let mut facts = Facts::new(alloc);
     match tell(&mut facts) {
         Ok(told) => Ok(told),
         Err(_) => Err(Fail::new("refused")),

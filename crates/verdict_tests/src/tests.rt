@@ -8,90 +8,112 @@ mod shared;
 mod suite;
 
 use eo_base::Status;
-use eo_io::MemorySink;
-use memory_runs::{CHECK, honest_library, honest_run};
+use memory_runs::{CHECK, File, Want, first_wrong, honest_does};
 use std::alloc::{AllocError, Global};
 
-/// Whether the two files give this line and status, over a library that never fails.
-fn gives(alloc: Global, reference: &[u8], proof: &[u8], line: &[u8], status: Status) -> bool {
-    match check_run(alloc, reference, proof) {
-        Ok((got, out)) => got == status && out.bytes() == line,
-        Err(AllocError) => false,
-    }
+/// A reference file and a proof, and the line and the status that they give.
+type Row<'a> = (&'a [u8], &'a [u8], &'a [u8], Status);
+
+const ASSERTS_TRUE: &[u8] = b"(assert true)\n";
+
+const ASSERTS_FALSE: &[u8] = b"(assert false)\n";
+
+const CORRECT: &[u8] = b"correct\n";
+
+/// A proof that is refused, and the line that is printed.
+type Refusal<'a> = (&'a [u8], &'a [u8]);
+
+/// Whether the proof is as it is wanted over the reference file, where no call of the library fails.
+fn does<'a>(
+    alloc: Global,
+    reference: &'a [u8],
+    proof: &'a [u8],
+    want: &Want<'_>,
+) -> Result<bool, AllocError> {
+    let files: [File<'_>; 2] = [(b"r.smt2", reference), (b"p.eo", proof)];
+    honest_does(alloc, CHECK, &files, want)
 }
 
-fn check_run(
-    alloc: Global,
-    reference: &[u8],
-    proof: &[u8],
-) -> Result<(Status, MemorySink), AllocError> {
-    let mut files = honest_library(alloc, reference, proof)?;
-    honest_run(alloc, CHECK, &mut files)
+fn is_right(alloc: Global, row: Row<'_>) -> Result<bool, AllocError> {
+    let (reference, proof, line, status) = row;
+    does(alloc, reference, proof, &Want::Ends(status, line))
+}
+
+/// The first row whose files give another line or status.
+fn wrong(alloc: Global, rows: &[Row<'_>]) -> Option<usize> {
+    first_wrong(alloc, rows, is_right)
+}
+
+/// Whether the proof is refused with this line, where the reference file asserts `true`.
+fn refuses(alloc: Global, proof: &[u8], line: &[u8]) -> Result<bool, AllocError> {
+    does(
+        alloc,
+        ASSERTS_TRUE,
+        proof,
+        &Want::Ends(Status::Refused, line),
+    )
+}
+
+fn is_refused(alloc: Global, row: Refusal<'_>) -> Result<bool, AllocError> {
+    let (proof, line) = row;
+    refuses(alloc, proof, line)
+}
+
+/// The first proof that is not refused with its line.
+fn wrong_refusal(alloc: Global, rows: &[Refusal<'_>]) -> Option<usize> {
+    first_wrong(alloc, rows, is_refused)
 }
 
 #[test]
 fn verdicts_of_files(rt: HostRuntime) {
-    let asserts_false = b"(assert false)\n".as_slice();
-    let asserts_true = b"(assert true)\n".as_slice();
-    let assumes_false = b"(assume @p1 false)\n".as_slice();
-    let assumes_true = b"(assume @p1 true)\n".as_slice();
-    let none = b"".as_slice();
-    let rows = [
+    const ROWS: [Row<'static>; 7] = [
+        (ASSERTS_FALSE, b"(assume @p1 false)\n", CORRECT, Status::Ok),
         (
-            asserts_false,
-            assumes_false,
-            b"correct\n".as_slice(),
-            Status::Ok,
-        ),
-        (
-            asserts_true,
-            assumes_false,
-            b"refused F28 NotAsserted p.eo:1:0\n".as_slice(),
+            ASSERTS_TRUE,
+            b"(assume @p1 false)\n",
+            b"refused F28 NotAsserted p.eo:1:0\n",
             Status::Refused,
         ),
         (
-            asserts_true,
-            assumes_true,
-            b"refused F41 NoRefutation p.eo:2:18\n".as_slice(),
+            ASSERTS_TRUE,
+            b"(assume @p1 true)\n",
+            b"refused F41 NoRefutation p.eo:2:18\n",
             Status::Refused,
         ),
         (
-            asserts_false,
-            none,
-            b"refused F41 NoRefutation p.eo:1:0\n".as_slice(),
+            ASSERTS_FALSE,
+            b"",
+            b"refused F41 NoRefutation p.eo:1:0\n",
             Status::Refused,
         ),
         (
-            asserts_true,
-            none,
-            b"refused F41 NoRefutation p.eo:1:0\n".as_slice(),
+            ASSERTS_TRUE,
+            b"",
+            b"refused F41 NoRefutation p.eo:1:0\n",
             Status::Refused,
         ),
         (
-            none,
-            assumes_true,
-            b"refused F28 NotAsserted p.eo:1:0\n".as_slice(),
+            b"",
+            b"(assume @p1 true)\n",
+            b"refused F28 NotAsserted p.eo:1:0\n",
             Status::Refused,
         ),
         (
-            b"(assert (not true))".as_slice(),
-            none,
-            b"refused F13 UnknownSymbol r.smt2:1:0\n".as_slice(),
+            b"(assert (not true))",
+            b"",
+            b"refused F13 UnknownSymbol r.smt2:1:0\n",
             Status::Refused,
         ),
     ];
-    for (reference, proof, line, status) in rows {
-        assert!(&rt; gives(rt.alloc(), reference, proof, line, status));
-    }
+    assert_eq!(rt; wrong(rt.alloc(), &ROWS), None);
 }
 
 #[test]
 fn programs_of_a_proof(rt: HostRuntime) {
-    let asserts_true = b"(assert true)\n".as_slice();
-    let rows = [
+    const ROWS: [Refusal<'static>; 6] = [
         (
-            b"(program $u ((x Bool) (y Bool)) :signature (Bool) Bool ((($u x) y)))".as_slice(),
-            b"refused F21 UnboundParam p.eo:1:0\n".as_slice(),
+            b"(program $u ((x Bool) (y Bool)) :signature (Bool) Bool ((($u x) y)))",
+            b"refused F21 UnboundParam p.eo:1:0\n",
         ),
         (
             b"(program $u ((x Bool)) :signature (Bool) Bool ((($u (eo::not x)) x)))",
@@ -114,22 +136,19 @@ fn programs_of_a_proof(rt: HostRuntime) {
             b"refused F41 NoRefutation p.eo:1:79\n",
         ),
     ];
-    for (proof, line) in rows {
-        assert!(&rt; gives(rt.alloc(), asserts_true, proof, line, Status::Refused));
-    }
-    let asserts_false = b"(assert false)\n".as_slice();
-    let proof =
-        b"(program $u ((x Bool)) :signature (Bool) Bool ((($u true) false) (($u x) ($u true))))\n(assume a false)\n".as_slice();
-    assert!(&rt; gives(rt.alloc(), asserts_false, proof, b"correct\n", Status::Ok));
+    assert_eq!(rt; wrong_refusal(rt.alloc(), &ROWS), None);
+    const PROOF: &[u8] =
+        b"(program $u ((x Bool)) :signature (Bool) Bool ((($u true) false) (($u x) ($u true))))\n(assume a false)\n";
+    let row = (ASSERTS_FALSE, PROOF, CORRECT, Status::Ok);
+    assert_eq!(rt; is_right(rt.alloc(), row), Ok(true));
 }
 
 #[test]
 fn declarations_of_a_proof(rt: HostRuntime) {
-    let asserts_true = b"(assert true)\n".as_slice();
-    let rows = [
+    const ROWS: [Refusal<'static>; 8] = [
         (
-            b"(declare-const p Bool)(declare-const p Bool)".as_slice(),
-            b"refused F12 Redeclared p.eo:1:22\n".as_slice(),
+            b"(declare-const p Bool)(declare-const p Bool)",
+            b"refused F12 Redeclared p.eo:1:22\n",
         ),
         (
             b"(declare-const and (-> Bool Bool Bool) :right-assoc-nil (eo::not true))",
@@ -157,10 +176,8 @@ fn declarations_of_a_proof(rt: HostRuntime) {
             b"refused F28 NotAsserted p.eo:1:42\n",
         ),
     ];
-    for (proof, line) in rows {
-        assert!(&rt; gives(rt.alloc(), asserts_true, proof, line, Status::Refused));
-    }
-    let asserts_false = b"(assert false)\n".as_slice();
-    let proof = b"(define f ((x Bool)) x)\n(assume a (let ((y (f false))) y))\n".as_slice();
-    assert!(&rt; gives(rt.alloc(), asserts_false, proof, b"correct\n", Status::Ok));
+    assert_eq!(rt; wrong_refusal(rt.alloc(), &ROWS), None);
+    const PROOF: &[u8] = b"(define f ((x Bool)) x)\n(assume a (let ((y (f false))) y))\n";
+    let row = (ASSERTS_FALSE, PROOF, CORRECT, Status::Ok);
+    assert_eq!(rt; is_right(rt.alloc(), row), Ok(true));
 }

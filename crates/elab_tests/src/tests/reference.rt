@@ -1,16 +1,21 @@
 //! What terms of a reference file mean: bit strings, attributes, and the names that terms give
 //! themselves.
 use super::tell;
-use super::world::{Answer, Outcome, World};
+use super::world::Told::{Bits, Names, Refused};
+use super::world::{Answer, World, first_wrong};
 use std::test::Fail;
 
 // Declares `p` and `q`.
 fn declared(world: &mut World) -> Result<(), Fail> {
-    let rows = [
-        ("(declare-const p Bool)", Answer::Done),
-        ("(declare-const q Bool)", Answer::Done),
-    ];
-    match world.other_outcome(&rows)? {
+    let other = first_wrong(
+        world,
+        &[
+            ("(declare-const p Bool)", Answer::Done),
+            ("(declare-const q Bool)", Answer::Done),
+        ],
+        World::declares,
+    )?;
+    match other {
         None => Ok(()),
         Some(_) => Err(Fail::new("a constant was not declared")),
     }
@@ -18,68 +23,76 @@ fn declared(world: &mut World) -> Result<(), Fail> {
 
 // The first bit string that is not what stands beside it.
 fn bit_strings(world: &mut World) -> Result<Option<usize>, Fail> {
-    world.other_reference(
-        false,
+    first_wrong(
+        world,
         &[
-            ("(_ bv5 4)", bits(4, 5)),
-            ("(_ bv5 2)", bits(2, 1)),
-            ("(_ bv0 128)", bits(128, 0)),
+            ("(_ bv5 4)", &Bits { width: 4, value: 5 }),
+            ("(_ bv5 2)", &Bits { width: 2, value: 1 }),
+            (
+                "(_ bv0 128)",
+                &Bits {
+                    width: 128,
+                    value: 0,
+                },
+            ),
             (
                 "(_ bv340282366920938463463374607431768211457 128)",
-                bits(128, 1),
+                &Bits {
+                    width: 128,
+                    value: 1,
+                },
             ),
-            ("(_ |bv3| 2)", bits(2, 3)),
-            ("(_ bv5 129)", Outcome::Refused(Answer::UnknownSymbol)),
-            ("(_ bv5 0)", Outcome::Refused(Answer::UnknownSymbol)),
-            ("(_ bv05 4)", Outcome::Refused(Answer::UnknownSymbol)),
-            ("(_ bv 4)", Outcome::Refused(Answer::UnknownSymbol)),
-            ("(_ bv5)", Outcome::Refused(Answer::BadArity)),
+            ("(_ |bv3| 2)", &Bits { width: 2, value: 3 }),
+            ("(_ bv5 129)", &Refused(Answer::UnknownSymbol)),
+            ("(_ bv5 0)", &Refused(Answer::UnknownSymbol)),
+            ("(_ bv05 4)", &Refused(Answer::UnknownSymbol)),
+            ("(_ bv 4)", &Refused(Answer::UnknownSymbol)),
+            ("(_ bv5)", &Refused(Answer::BadArity)),
         ],
+        World::refers,
     )
-}
-
-fn bits(width: u8, value: u128) -> Outcome {
-    Outcome::Bits { width, value }
 }
 
 // The first term of an assertion that does not become what stands beside it.
 fn asserted(world: &mut World) -> Result<Option<usize>, Fail> {
     declared(world)?;
-    world.other_reference(
-        true,
+    first_wrong(
+        world,
         &[
-            ("(_ bv3 2)", bits(2, 3)),
-            ("(! p :named a)", Outcome::Names(1)),
-            ("(_ (! p :named a) (! q :named b))", Outcome::Names(2)),
-            ("(! (! p :named a) :x :named b :y 5)", Outcome::Names(2)),
-            ("(! p :named p)", Outcome::Refused(Answer::Redeclared)),
-            ("(! p :named !)", Outcome::Refused(Answer::Redeclared)),
+            ("(_ bv3 2)", &Bits { width: 2, value: 3 }),
+            ("(! p :named a)", &Names(1)),
+            ("(_ (! p :named a) (! q :named b))", &Names(2)),
+            ("(! (! p :named a) :x :named b :y 5)", &Names(2)),
+            ("(! p :named p)", &Refused(Answer::Redeclared)),
+            ("(! p :named !)", &Refused(Answer::Redeclared)),
             (
                 "(_ (! p :named a) (! q :named a))",
-                Outcome::Refused(Answer::Redeclared),
+                &Refused(Answer::Redeclared),
             ),
-            ("(! zz :named p)", Outcome::Refused(Answer::UnknownSymbol)),
-            ("(! p :named)", Outcome::Refused(Answer::BadCommand)),
-            ("(! zz :named 5)", Outcome::Refused(Answer::BadCommand)),
+            ("(! zz :named p)", &Refused(Answer::UnknownSymbol)),
+            ("(! p :named)", &Refused(Answer::BadCommand)),
+            ("(! zz :named 5)", &Refused(Answer::BadCommand)),
         ],
+        World::asserts,
     )
 }
 
 // The first term outside of assertions that does not become what stands beside it.
 fn outside(world: &mut World) -> Result<Option<usize>, Fail> {
     declared(world)?;
-    world.other_reference(
-        false,
+    first_wrong(
+        world,
         &[
-            ("(! p :named p)", Outcome::Names(0)),
-            ("(! p :named 5)", Outcome::Names(0)),
-            ("(! p :x)", Outcome::Names(0)),
-            ("(! p :x 1 2)", Outcome::Refused(Answer::BadCommand)),
-            ("(! p 1)", Outcome::Refused(Answer::BadCommand)),
-            ("(! p)", Outcome::Refused(Answer::BadCommand)),
-            ("(!)", Outcome::Refused(Answer::BadArity)),
-            ("! ", Outcome::Refused(Answer::BadArity)),
+            ("(! p :named p)", &Names(0)),
+            ("(! p :named 5)", &Names(0)),
+            ("(! p :x)", &Names(0)),
+            ("(! p :x 1 2)", &Refused(Answer::BadCommand)),
+            ("(! p 1)", &Refused(Answer::BadCommand)),
+            ("(! p)", &Refused(Answer::BadCommand)),
+            ("(!)", &Refused(Answer::BadArity)),
+            ("! ", &Refused(Answer::BadArity)),
         ],
+        World::refers,
     )
 }
 

@@ -1,5 +1,5 @@
 //! Texts, and what they mean over a signature.
-ghost use Rattle.std.specs.Prelude.{◌≡◌, ◌<◌, ◌≤◌, true, length, IsTrue, IfOk};
+ghost use Rattle.std.specs.Prelude.{◌≡◌, ◌<◌, ◌≤◌, [], true, length, IsTrue, IfOk, OnOk};
 ghost use Rattle.eo_sig.specs.Reading.{IsBelow, ConstBelow, MacroBelow, ProgramBelow, RuleBelow};
 ghost use Rattle.eo_term.specs.Growth.{Grows};
 ghost use Rattle.eo_elab.specs.Declaring.{IsCommand, DeclarationBelow};
@@ -39,14 +39,27 @@ pub(super) enum Answer {
     Unread,
 }
 
-/// What became of a term of a reference file.
+/// What a text is read as.
+#[derive(Clone, Copy)]
+enum Kind {
+    Declaration,
+    Term,
+    /// A term of a reference file, in an assertion or outside.
+    Reference { in_assert: bool },
+}
+
+/// What is told of a text.
 #[derive(Clone, Copy, PartialEq, Eq)]
-pub(super) enum Outcome {
-    /// It has a meaning, and this many names were given.
+pub(super) enum Told {
+    /// It is declared.
+    Declared,
+    /// The term that it means.
+    Means(Id),
+    /// It has a meaning in a reference file, and this many names were given.
     Names(usize),
-    /// It is this bit string.
+    /// It is this bit string of a reference file.
     Bits { width: u8, value: u128 },
-    /// It has no meaning.
+    /// It is not declared, or has no meaning.
     Refused(Answer),
 }
 
@@ -102,133 +115,61 @@ impl World {
         self.alloc
     }
 
-    /// The first text that, declared, becomes something else than what stands beside it.
-    pub(super) fn other_outcome(&mut self, rows: &[(&str, Answer)]) -> Result<Option<usize>, Fail> {
-        for (i, (text, want)) in rows.iter().enumerate() {
-            if self.declare(text)? != *want {
-                return Ok(Some(i));
-            }
-        }
-        Ok(None)
+    /// What becomes of a declaration.
+    pub(super) fn declare(&mut self, text: &str) -> Result<Answer, Fail> {
+        Ok(answer_of(self.told(Kind::Declaration, text)?))
     }
 
-    /// The first declaration behind which the constant of the name has another type.
-    pub(super) fn other_type(
-        &mut self,
-        rows: &[(&str, &str, &str)],
-    ) -> Result<Option<usize>, Fail> {
-        for (i, (text, name, ty)) in rows.iter().enumerate() {
-            self.declare(text)?;
-            if !self.has_type(name, ty)? {
-                return Ok(Some(i));
-            }
-        }
-        Ok(None)
+    /// Whether that becomes of a declaration.
+    pub(super) fn declares(&mut self, row: (&str, Answer)) -> Result<bool, Fail> {
+        let (text, want) = row;
+        Ok(self.declare(text)? == want)
     }
 
-    /// The first term that becomes something else than what stands beside it.
-    pub(super) fn other_answer(&mut self, rows: &[(&str, Answer)]) -> Result<Option<usize>, Fail> {
-        for (i, (text, want)) in rows.iter().enumerate() {
-            if self.answer(text)? != *want {
-                return Ok(Some(i));
-            }
-        }
-        Ok(None)
+    /// Whether that becomes of a term.
+    pub(super) fn answers(&mut self, row: (&str, Answer)) -> Result<bool, Fail> {
+        let (text, want) = row;
+        Ok(answer_of(self.term(text)?) == want)
     }
 
-    /// The first term of a reference file, in an assertion or outside, that becomes something else
-    /// than what stands beside it.
-    pub(super) fn other_reference(
-        &mut self,
-        in_assert: bool,
-        rows: &[(&str, Outcome)],
-    ) -> Result<Option<usize>, Fail> {
-        for (i, (text, want)) in rows.iter().enumerate() {
-            if self.outcome(text, in_assert)? != *want {
-                return Ok(Some(i));
-            }
-        }
-        Ok(None)
+    /// Whether that is told of a term of a reference file outside of assertions.
+    pub(super) fn refers(&mut self, row: (&str, &Told)) -> Result<bool, Fail> {
+        let (text, want) = row;
+        let told = self.told(Kind::Reference { in_assert: false }, text)?;
+        Ok(told == *want)
     }
 
-    // What becomes of a term of a reference file.
-    fn outcome(&mut self, text: &str, in_assert: bool) -> Result<Outcome, Fail> {
-        match read(self.alloc, text.as_bytes())? {
-            Some(text) => Ok(self.outcome_of(&text.sexp(), in_assert)),
-            None => Ok(Outcome::Refused(Answer::Unread)),
-        }
+    /// Whether that is told of a term of a reference file in an assertion.
+    pub(super) fn asserts(&mut self, row: (&str, &Told)) -> Result<bool, Fail> {
+        let (text, want) = row;
+        let told = self.told(Kind::Reference { in_assert: true }, text)?;
+        Ok(told == *want)
     }
 
-    fn outcome_of(&mut self, s: &Sexp<'_>, in_assert: bool) -> Outcome {
-        match self.reference_meaning(s, in_assert) {
-            Ok(outcome) => outcome,
-            Err(e) => Outcome::Refused(refused(&e)),
-        }
+    /// What is told of a term.
+    pub(super) fn term(&mut self, text: &str) -> Result<Told, Fail> {
+        self.told(Kind::Term, text)
     }
 
-    /// The first two terms of which one has no meaning, or another one than the other.
-    pub(super) fn other_meaning(&mut self, rows: &[(&str, &str)]) -> Result<Option<usize>, Fail> {
-        for (i, (a, b)) in rows.iter().enumerate() {
-            if !self.agree(a, b)? {
-                return Ok(Some(i));
-            }
-        }
-        Ok(None)
-    }
-
-    /// The first two terms of which one has no meaning, or the same one as the other.
-    pub(super) fn same_meaning(&mut self, rows: &[(&str, &str)]) -> Result<Option<usize>, Fail> {
-        for (i, (a, b)) in rows.iter().enumerate() {
-            if !self.differ(a, b)? {
-                return Ok(Some(i));
-            }
-        }
-        Ok(None)
-    }
-
-    /// What becomes of a term.
-    pub(super) fn answer(&mut self, text: &str) -> Result<Answer, Fail> {
-        match read(self.alloc, text.as_bytes())? {
-            Some(text) => Ok(self.answer_of(&text.sexp())),
-            None => Ok(Answer::Unread),
-        }
-    }
-
-    fn answer_of(&mut self, s: &Sexp<'_>) -> Answer {
-        match self.meaning(s) {
-            Ok(_) => Answer::Done,
-            Err(e) => refused(&e),
-        }
+    /// The term that the text means; nothing, where it is refused.
+    pub(super) fn meant(&mut self, text: &str) -> Result<Option<Id>, Fail> {
+        Ok(id_of(self.term(text)?))
     }
 
     /// Whether both texts have meanings, and the same one.
-    pub(super) fn agree(&mut self, a: &str, b: &str) -> Result<bool, Fail> {
+    pub(super) fn agree(&mut self, texts: (&str, &str)) -> Result<bool, Fail> {
+        let (a, b) = texts;
         let x = self.meant(a)?;
         let y = self.meant(b)?;
-        Ok(x.is_some() && x == y)
+        Ok(x.is_some() & (x == y))
     }
 
     /// Whether both texts have meanings, and different ones.
-    fn differ(&mut self, a: &str, b: &str) -> Result<bool, Fail> {
+    pub(super) fn differ(&mut self, texts: (&str, &str)) -> Result<bool, Fail> {
+        let (a, b) = texts;
         let x = self.meant(a)?;
         let y = self.meant(b)?;
-        Ok(x.is_some() && y.is_some() && x != y)
-    }
-
-    /// What becomes of a declaration.
-    pub(super) fn declare(&mut self, text: &str) -> Result<Answer, Fail> {
-        match read(self.alloc, text.as_bytes())? {
-            Some(text) => Ok(self.declare_sexp(&text.sexp())),
-            None => Ok(Answer::Unread),
-        }
-    }
-
-    /// The rule of the name.
-    pub(super) fn rule(&self, name: &str) -> Option<RuleIds> {
-        match self.sig.rule(name.as_bytes()) {
-            Some(n) => Some(ids_of(self.sig.rule_of(n))),
-            None => None,
-        }
+        Ok(x.is_some() & y.is_some() & (x != y))
     }
 
     /// Whether each text has a meaning, and the one that stands beside it.
@@ -246,11 +187,13 @@ impl World {
         Ok(x.is_some() && x == id)
     }
 
-    // Whether the name is that of a constant whose type is what the text means.
-    fn has_type(&mut self, name: &str, text: &str) -> Result<bool, Fail> {
+    /// Whether the constant of the name has, behind the declaration, the type that the text means.
+    pub(super) fn has_type(&mut self, row: (&str, &str, &str)) -> Result<bool, Fail> {
+        let (text, name, ty) = row;
+        self.declare(text)?;
         let x = self.declared_type(name);
-        let y = self.meant(text)?;
-        Ok(x.is_some() && x == y)
+        let y = self.meant(ty)?;
+        Ok(x.is_some() & (x == y))
     }
 
     fn declared_type(&self, name: &str) -> Option<Id> {
@@ -260,11 +203,41 @@ impl World {
         }
     }
 
-    // The term that the text means; nothing, where it is refused.
-    fn meant(&mut self, text: &str) -> Result<Option<Id>, Fail> {
+    /// The rule of the name.
+    pub(super) fn rule(&self, name: &str) -> Option<RuleIds> {
+        match self.sig.rule(name.as_bytes()) {
+            Some(n) => Some(ids_of(self.sig.rule_of(n))),
+            None => None,
+        }
+    }
+
+    // What is told of a text.
+    fn told(&mut self, kind: Kind, text: &str) -> Result<Told, Fail> {
         match read(self.alloc, text.as_bytes())? {
-            Some(text) => Ok(self.meaning(&text.sexp()).ok()),
-            None => Ok(None),
+            Some(text) => Ok(self.told_of(kind, &text.sexp())),
+            None => Ok(Told::Refused(Answer::Unread)),
+        }
+    }
+
+    fn told_of(&mut self, kind: Kind, s: &Sexp<'_>) -> Told {
+        match kind {
+            Kind::Declaration => self.declare_sexp(s),
+            Kind::Term => self.told_of_term(s),
+            Kind::Reference { in_assert } => self.told_of_reference(s, in_assert),
+        }
+    }
+
+    fn told_of_term(&mut self, s: &Sexp<'_>) -> Told {
+        match self.meaning(s) {
+            Ok(id) => Told::Means(id),
+            Err(e) => Told::Refused(refused(&e)),
+        }
+    }
+
+    fn told_of_reference(&mut self, s: &Sexp<'_>, in_assert: bool) -> Told {
+        match self.reference_meaning(s, in_assert) {
+            Ok(told) => told,
+            Err(e) => Told::Refused(refused(&e)),
         }
     }
 
@@ -273,7 +246,7 @@ impl World {
         term(self.alloc, s, &locals, &self.sig, &mut self.table)
     }
 
-    fn reference_meaning(&mut self, s: &Sexp<'_>, in_assert: bool) -> Result<Outcome, ElabRefused> {
+    fn reference_meaning(&mut self, s: &Sexp<'_>, in_assert: bool) -> Result<Told, ElabRefused> {
         self.sig.laws();
         let locals = parameters(self.alloc, &mut self.table)?;
         let mut names = Names::new(self.alloc);
@@ -286,17 +259,56 @@ impl World {
             in_assert,
             &mut names,
         )?;
-        Ok(told(self.table.node(id), names.len()))
+        Ok(named(self.table.node(id), names.len()))
     }
 
-    fn declare_sexp(&mut self, s: &Sexp<'_>) -> Answer {
+    fn declare_sexp(&mut self, s: &Sexp<'_>) -> Told {
         if !is_command(s) {
-            return Answer::Unread;
+            return Told::Refused(Answer::Unread);
         }
         match declaration(self.alloc, s, &self.sig, &mut self.table) {
-            Ok(d) => add(&mut self.sig, &self.table, d),
-            Err(e) => refused(&e),
+            Ok(d) => added(add(&mut self.sig, &self.table, d)),
+            Err(e) => Told::Refused(refused(&e)),
         }
+    }
+}
+
+/// The number of the first row that is not right.
+pub(super) fn first_wrong<Row: Copy, F: Fn(&mut World, Row) -> Result<bool, Fail>>(
+    world: &mut World,
+    rows: &[Row],
+    is_right: F,
+) -> Result<Option<usize>, Fail>
+    requires { F.IsAlwaysCallable is_right }
+{
+    for (i, row) in rows.iter().enumerate() {
+        if !is_right(world, *row)? {
+            return Ok(Some(i));
+        }
+    }
+    Ok(None)
+}
+
+// What became of a text of which that is told.
+fn answer_of(told: Told) -> Answer {
+    match told {
+        Told::Refused(answer) => answer,
+        _ => Answer::Done,
+    }
+}
+
+// The term that is told.
+fn id_of(told: Told) -> Option<Id> {
+    match told {
+        Told::Means(id) => Some(id),
+        _ => None,
+    }
+}
+
+fn added(answer: Answer) -> Told {
+    match answer {
+        Answer::Done => Told::Declared,
+        _ => Told::Refused(answer),
     }
 }
 
@@ -306,20 +318,29 @@ fn parameters(alloc: Global, table: &mut Table) -> Result<Locals, AllocError>
     ensures grows { Grows table.old table.new }
 {
     let mut locals = Locals::new(alloc)?;
+    add_parameters(table, &mut locals)?;
+    Ok(locals)
+}
+
+fn add_parameters(table: &mut Table, locals: &mut Locals) -> Result<(), AllocError>
+    requires none { locals.old ≡ [] }
+    ensures below { OnOk result (AreBelow (length table.new.trees) locals.new) }
+    ensures grows { Grows table.old table.new }
+{
     let xs = table.intern_low(Node::Par(0))?;
     let ys = table.intern_low(Node::Par(1))?;
     let z = table.intern_low(Node::Par(2))?;
     locals.add(b"xs", xs, true)?;
     locals.add(b"ys", ys, true)?;
     locals.add(b"z", z, false)?;
-    Ok(locals)
+    Ok(())
 }
 
 // A bit string, or how many names were given.
-fn told(node: Node, names: usize) -> Outcome {
+fn named(node: Node, names: usize) -> Told {
     match node {
-        Node::Bits { width, value } => Outcome::Bits { width, value },
-        _ => Outcome::Names(names),
+        Node::Bits { width, value } => Told::Bits { width, value },
+        _ => Told::Names(names),
     }
 }
 

@@ -1,9 +1,13 @@
 //! Terms, and a signature with constants and programs over them.
-ghost use Rattle.std.specs.Prelude.{◌≡◌, ◌<◌, length, All, IsTrue, IfOk};
+ghost use Rattle.std.specs.Prelude.{◌≡◌, ◌<◌, ℕ, length, All, IsTrue, IfOk};
 ghost use Rattle.eo_term.specs.Terms.{HasArity, PartsBelow, TextsBelow, IsPlain, IsProper};
 ghost use Rattle.eo_sig.specs.Growth.{GrowsUnder};
+ghost use Rattle.eo_sig.specs.declared.records.ConstDecl.{ConstDecl};
+ghost use Rattle.eo_sig.specs.declared.records.ProgramDecl.{ProgramDecl};
 ghost use Rattle.eo_sig.specs.Reading.{AttributeBelow, CaseBelow, ConstBelow, IsBelow, ProgramBelow};
 
+use super::rows::{ProgramRow, Row, Trial, Want};
+use super::words::PROGRAMS;
 use eo_base::Name;
 use eo_base::limits::PARAMETERS;
 use eo_eval::{Evaluator, Outcome};
@@ -15,7 +19,8 @@ use std::marker::Model;
 use std::test::Fail;
 
 /// A table and a signature over it. It declares the constants `p`, the number 4, and `or`, the
-/// number 5, which has the terminator `false`. Both have the type `Bool`.
+/// number 5, which has the terminator `false`, and the programs of `words`. Both constants have the
+/// type `Bool`.
 ///
 /// A call that gets a term of another table fails.
 #[derive(Drop)]
@@ -38,14 +43,6 @@ impl Model for World {
 }
 
 impl World {
-    /// No program is there yet.
-    pub(super) fn new(alloc: Global) -> Result<World, Fail> {
-        let mut w = World::first(alloc)?;
-        w.declare(b"p", None)?;
-        w.declare(b"or", Some(FALSE))?;
-        Ok(w)
-    }
-
     // Nothing is declared yet.
     fn first(alloc: Global) -> Result<World, Fail> {
         let table = Table::new(alloc)?;
@@ -53,24 +50,34 @@ impl World {
         Ok(World { alloc, table, sig })
     }
 
+    // Declares all constants and programs, where nothing is declared yet.
+    fn declare_all(&mut self) -> Result<(), Fail> {
+        self.declare(b"p", None)?;
+        self.declare(b"or", Some(FALSE))?;
+        self.declare_programs(PROGRAMS)
+    }
+
     // Declares a constant, which spells lists with this terminator if it has one.
     fn declare(&mut self, name: &[u8], end: Option<Id>) -> Result<(), Fail> {
-        let d = constant(self.alloc, &self.table, name, end)?;
-        if !self.sig.is_free(d.name.as_bytes()) {
+        if !self.sig.is_free(name) {
             return Err(Fail::new("no free name"));
         }
+        let d = constant(self.alloc, &self.table, name, end)?;
         self.sig.declare(&self.table, d)?;
         Ok(())
     }
 
-    /// A constant, by its number.
-    pub(super) fn con(&mut self, number: usize) -> Result<Id, Fail> {
-        Ok(made(&self.sig, &mut self.table, Node::Con(number))?)
+    /// Where its memory comes from.
+    pub(super) fn alloc(&self) -> Global {
+        self.alloc
     }
 
-    /// A number.
-    pub(super) fn num(&mut self, number: i128) -> Result<Id, Fail> {
-        Ok(made(&self.sig, &mut self.table, Node::Num(number))?)
+    /// The term with this root, in which no text stands and which is no operator.
+    pub(super) fn node(&mut self, node: Node) -> Result<Id, Fail> {
+        if !has_parts(&self.table, &node) {
+            return Err(Fail::new("no parts of a term"));
+        }
+        Ok(made(&self.sig, &mut self.table, node)?)
     }
 
     /// A string of one character.
@@ -84,35 +91,6 @@ impl World {
         let name = text(&self.sig, &mut self.table, letter)?;
         let ty = live(&self.table, ty)?;
         Ok(made(&self.sig, &mut self.table, Node::Var { name, ty })?)
-    }
-
-    /// A parameter, by its number.
-    pub(super) fn par(&mut self, number: u8) -> Result<Id, Fail> {
-        if number >= 64 {
-            return Err(Fail::new("no parameter"));
-        }
-        Ok(made(&self.sig, &mut self.table, Node::Par(number))?)
-    }
-
-    /// A term applied to another.
-    pub(super) fn app(&mut self, fun: Id, arg: Id) -> Result<Id, Fail> {
-        let fun = live(&self.table, fun)?;
-        let arg = live(&self.table, arg)?;
-        Ok(made(&self.sig, &mut self.table, Node::App { fun, arg })?)
-    }
-
-    /// The type of functions from one type to another.
-    pub(super) fn arr(&mut self, from: Id, to: Id) -> Result<Id, Fail> {
-        let from = live(&self.table, from)?;
-        let to = live(&self.table, to)?;
-        Ok(made(&self.sig, &mut self.table, Node::Arr { from, to })?)
-    }
-
-    /// The type of functions whose argument is bound as the parameter 0.
-    pub(super) fn qar(&mut self, ty: Id, to: Id) -> Result<Id, Fail> {
-        let ty = live(&self.table, ty)?;
-        let to = live(&self.table, to)?;
-        Ok(made(&self.sig, &mut self.table, Node::Qar { par: 0, ty, to })?)
     }
 
     /// An operator of the language on these arguments.
@@ -131,67 +109,138 @@ impl World {
         Ok(made_op(&self.sig, &mut self.table, OpCode::Prog(program), args)?)
     }
 
-    /// The number of the program that is added next.
-    pub(super) fn next_program(&self) -> usize {
-        self.sig.programs()
+    // Declares programs.
+    fn declare_programs(&mut self, rows: &[ProgramRow<'_>]) -> Result<(), Fail> {
+        for row in rows {
+            self.declare_program(row)?;
+        }
+        Ok(())
     }
 
-    /// Adds a program with these cases, of so many patterns each, and answers its number.
-    pub(super) fn program<const N: usize>(
-        &mut self,
-        name: &[u8],
-        cases: &[([Id; N], Id)],
-    ) -> Result<usize, Fail> {
-        let d = program(self.alloc, &self.table, name, cases)?;
-        if !self.sig.is_free(d.name.as_bytes()) {
+    fn declare_program(&mut self, row: &ProgramRow<'_>) -> Result<(), Fail> {
+        let (name, width, cases) = *row;
+        let mut terms = Vec::new(self.alloc);
+        self.push_cases(cases, &mut terms)?;
+        terms.reverse();
+        self.add_program(name.as_bytes(), width, terms.as_slice())
+    }
+
+    // The terms of cases, before these, of which the first stands last.
+    fn push_cases(&mut self, cases: &[&str], behind: &mut Vec<Id>) -> Result<(), Fail> {
+        for case in cases.iter().rev() {
+            self.push_terms(case, behind)?;
+        }
+        Ok(())
+    }
+
+    // Adds the program with these terms, so many in a case.
+    fn add_program(&mut self, name: &[u8], width: usize, terms: &[Id]) -> Result<(), Fail> {
+        if !self.sig.is_free(name) {
             return Err(Fail::new("no free name"));
         }
-        Ok(self.sig.add_program(&self.table, d)?)
+        let d = program(self.alloc, &self.table, name, width, terms)?;
+        self.sig.add_program(&self.table, d)?;
+        Ok(())
     }
 
-    /// The first row whose term ends in another way than the row says, if one does. One evaluator
-    /// evaluates all.
-    pub(super) fn wrong(&mut self, rows: &[(Id, Outcome)]) -> Result<Option<usize>, Fail> {
-        let mut evaluator = Evaluator::new(self.alloc)?;
-        for i in 0..rows.len() {
-            let (id, want) = rows[i];
-            if self.outcome(&mut evaluator, id)? != want {
+    // The first row whose term ends in another way than the row says, if one does.
+    fn wrong(
+        &mut self,
+        evaluator: &mut Evaluator,
+        rows: &[Row<'_>],
+    ) -> Result<Option<usize>, Fail> {
+        self.declare_all()?;
+        for (i, row) in rows.iter().enumerate() {
+            if !self.is_right(evaluator, row)? {
                 return Ok(Some(i));
             }
         }
         Ok(None)
     }
 
-    /// How the evaluation of a term ends.
-    pub(super) fn outcome(&mut self, evaluator: &mut Evaluator, id: Id) -> Result<Outcome, Fail> {
+    fn is_right(&mut self, evaluator: &mut Evaluator, row: &Row<'_>) -> Result<bool, Fail> {
+        let id = self.term(row.0)?;
+        let want = self.wanted(row.1)?;
+        Ok(self.outcome(evaluator, id)? == want)
+    }
+
+    // How the evaluation is to end, with its value.
+    fn wanted(&mut self, want: Want<'_>) -> Result<Outcome, Fail> {
+        match want {
+            Want::Value(words) => Ok(Outcome::Value(self.term(words)?)),
+            Want::Stuck => Ok(Outcome::Stuck),
+            Want::Deep => Ok(Outcome::Deep),
+            Want::Range => Ok(Outcome::Range),
+            Want::Tall => Ok(Outcome::Tall),
+        }
+    }
+
+    // How the evaluation of a term ends.
+    fn outcome(&mut self, evaluator: &mut Evaluator, id: Id) -> Result<Outcome, Fail> {
         let id = live(&self.table, id)?;
-        let mut types = Types::new(self.alloc)?;
-        Ok(evaluator.evaluate(&self.sig, &mut self.table, &mut types, id)?)
+        let mut types = Types::new(self.alloc);
+        let answer = evaluator.evaluate(&self.sig, &mut self.table, &mut types, id);
+        drop(types);
+        Ok(answer?)
     }
 }
 
-/// What a function tells of a new world. It alone owns one: each way out of a function that does
-/// is dear to prove.
-pub(super) fn tell<T, F: FnOnce(&mut World) -> Result<T, Fail>>(
+/// The first term that ends in another way than its row says, if one does: its trial, and its place
+/// there. Each trial has a new world and a new evaluator.
+pub(super) fn wrong<'a>(
     alloc: Global,
-    f: F,
-) -> Result<T, Fail>
-    requires { F.IsAlwaysCallable f }
-{
-    let mut w = World::new(alloc)?;
-    f(&mut w)
+    trials: &[Trial<'a>],
+) -> Result<Option<(&'a str, usize)>, Fail> {
+    for trial in trials {
+        if let Some(i) = wrong_alone(alloc, trial)? {
+            return Ok(Some((trial.name, i)));
+        }
+    }
+    Ok(None)
 }
 
-/// The same, with an evaluator that has evaluated terms of other worlds.
-pub(super) fn tell_by<T, F: FnOnce(&mut World, &mut Evaluator) -> Result<T, Fail>>(
+/// The same in trials that have a new world each, and all of them one evaluator.
+pub(super) fn wrong_by_one<'a>(
+    alloc: Global,
+    trials: &[Trial<'a>],
+) -> Result<Option<(&'a str, usize)>, Fail> {
+    let mut evaluator = Evaluator::new(alloc);
+    let answer = wrong_by(alloc, &mut evaluator, trials);
+    drop(evaluator);
+    answer
+}
+
+fn wrong_by<'a>(
     alloc: Global,
     evaluator: &mut Evaluator,
-    f: F,
-) -> Result<T, Fail>
-    requires { F.IsAlwaysCallable f }
-{
-    let mut w = World::new(alloc)?;
-    f(&mut w, evaluator)
+    trials: &[Trial<'a>],
+) -> Result<Option<(&'a str, usize)>, Fail> {
+    for trial in trials {
+        if let Some(i) = wrong_in(alloc, evaluator, trial)? {
+            return Ok(Some((trial.name, i)));
+        }
+    }
+    Ok(None)
+}
+
+fn wrong_alone(alloc: Global, trial: &Trial<'_>) -> Result<Option<usize>, Fail> {
+    let mut evaluator = Evaluator::new(alloc);
+    let answer = wrong_in(alloc, &mut evaluator, trial);
+    drop(evaluator);
+    answer
+}
+
+// It alone owns a world, and lets go of it by a call: each way out of a function that lets go of one
+// by itself is dear to prove.
+fn wrong_in(
+    alloc: Global,
+    evaluator: &mut Evaluator,
+    trial: &Trial<'_>,
+) -> Result<Option<usize>, Fail> {
+    let mut w = World::first(alloc)?;
+    let answer = w.wrong(evaluator, trial.rows);
+    drop(w);
+    answer
 }
 
 // The term, if it is one of the table.
@@ -210,6 +259,31 @@ fn are_live(table: &Table, ids: &[Id]) -> bool
 {
     let count = table.len();
     ids.iter().all(|id| id.place() < count)
+}
+
+// Whether the parts of a node are terms of the table, where no text stands in it and it is no
+// operator.
+fn has_parts(table: &Table, node: &Node) -> bool
+    ensures plain { IsTrue result → IsPlain node.now }
+    ensures parts { IsTrue result → PartsBelow (length table.now.trees) node.now }
+    ensures texts { IsTrue result → TextsBelow (length table.now.texts) node.now }
+    ensures proper { IsTrue result → IsProper node.now }
+{
+    match *node {
+        Node::Con(_) | Node::Num(_) => true,
+        Node::Par(number) => number < 64,
+        Node::App { fun, arg } => has(table, fun) && has(table, arg),
+        Node::Arr { from, to } => has(table, from) && has(table, to),
+        Node::Qar { ty, to, .. } => has(table, ty) && has(table, to),
+        _ => false,
+    }
+}
+
+// Whether the term is one of the table.
+fn has(table: &Table, id: Id) -> bool
+    ensures { IsTrue result → id < length table.now.trees }
+{
+    id.place() < table.len()
 }
 
 // The term with this root.
@@ -258,13 +332,17 @@ fn attribute(table: &Table, end: Option<Id>) -> Result<Attribute, Fail>
 
 // A constant of type `Bool`, with no parameters.
 fn constant(alloc: Global, table: &Table, name: &[u8], end: Option<Id>) -> Result<ConstDecl, Fail>
-    ensures { IfOk result (ConstBelow (length table.now.trees)) }
+    ensures below { IfOk result (ConstBelow (length table.now.trees)) }
+    ensures named { IfOk result (λ (d : ConstDecl). d.name ≡ name.now) }
 {
+    let ty = live(table, BOOL)?;
+    let attribute = attribute(table, end)?;
+    let name = Name::new(alloc, name)?;
     Ok(ConstDecl {
-        name: Name::new(alloc, name)?,
+        name,
         params: Params::new(alloc),
-        ty: live(table, BOOL)?,
-        attribute: attribute(table, end)?,
+        ty,
+        attribute,
         from_reference: false,
     })
 }
@@ -280,45 +358,50 @@ fn terms(alloc: Global, table: &Table, ids: &[Id]) -> Result<Ids, Fail>
     Ok(list)
 }
 
-// The cases with these patterns and bodies.
-fn cases_of<const N: usize>(
-    alloc: Global,
-    table: &Table,
-    rows: &[([Id; N], Id)],
-) -> Result<Cases, Fail>
+// The cases with these terms, so many in each: its patterns, and then its body.
+fn cases_of(alloc: Global, table: &Table, width: usize, terms: &[Id]) -> Result<Cases, Fail>
     ensures { IfOk result (All (CaseBelow (length table.now.trees))) }
 {
+    if width == 0 {
+        return Err(Fail::new("no body"));
+    }
     let mut cases = Cases::new(alloc);
-    for row in rows {
-        cases.push(case_of(alloc, table, &row.0, row.1)?)?;
+    for case in terms.chunks(width) {
+        cases.push(case_of(alloc, table, case)?)?;
     }
     Ok(cases)
 }
 
-// The case with these patterns and this body.
-fn case_of(alloc: Global, table: &Table, patterns: &[Id], body: Id) -> Result<Case, Fail>
+fn case_of(alloc: Global, table: &Table, case: &[Id]) -> Result<Case, Fail>
     ensures { IfOk result (CaseBelow (length table.now.trees)) }
 {
-    Ok(Case {
-        patterns: terms(alloc, table, patterns)?,
-        body: live(table, body)?,
-    })
+    let Some((body, patterns)) = case.split_last() else {
+        return Err(Fail::new("no body"));
+    };
+    let body = live(table, *body)?;
+    let patterns = terms(alloc, table, patterns)?;
+    Ok(Case { patterns, body })
 }
 
-// A program with these cases. The types of its inputs and of its value play no part.
-fn program<const N: usize>(
+// A program of this name with these cases. The types of its inputs and of its value play no part.
+fn program(
     alloc: Global,
     table: &Table,
     name: &[u8],
-    cases: &[([Id; N], Id)],
+    width: usize,
+    terms: &[Id],
 ) -> Result<ProgramDecl, Fail>
-    ensures { IfOk result (ProgramBelow (length table.now.trees)) }
+    ensures below { IfOk result (ProgramBelow (length table.now.trees)) }
+    ensures named { IfOk result (λ (d : ProgramDecl). d.name ≡ name.now) }
 {
+    let output = live(table, BOOL)?;
+    let cases = cases_of(alloc, table, width, terms)?;
+    let name = Name::new(alloc, name)?;
     Ok(ProgramDecl {
-        name: Name::new(alloc, name)?,
+        name,
         params: Params::new(alloc),
         inputs: Ids::new(alloc),
-        output: live(table, BOOL)?,
-        cases: cases_of(alloc, table, cases)?,
+        output,
+        cases,
     })
 }

@@ -1,8 +1,6 @@
 //! Checks against reference files, which are SMT-LIB benchmarks.
-ghost use Rattle.std.specs.Prelude.{◌≤◌};
-
 use eo_cpc::suite;
-use memory_runs::run;
+use memory_runs::{File, Job, Want, does_in_pieces, first_wrong};
 use std::alloc::{AllocError, Global};
 
 /// A reference file, a proof, and the line that is printed.
@@ -11,53 +9,50 @@ type Row<'a> = (&'a [u8], &'a [u8], &'a [u8]);
 const DECLARED: &[u8] =
     b"(declare-const p Bool)\n(declare-const q Bool)\n(declare-const r Bool)\n(assert p)\n";
 
-const PROOF: &[u8] = b"(declare-const not (-> Bool Bool))\n";
+const NOT: &[u8] = b"(declare-const not (-> Bool Bool))\n";
 
 #[test]
 fn a_benchmark_is_refuted(rt: HostRuntime) {
-    let contradiction =
+    const CONTRADICTION: &[u8] =
         b"(set-logic QF_UF)\n(set-info :smt-lib-version 2.6)\n(declare-const p Bool)\n\
-(assert p)\n(assert (not p))\n(check-sat)\n"
-            .as_slice();
-    let exclusion = b"(declare-const p Bool)\n(declare-const q Bool)\n(assert (or p q))\n\
-(assert (not p))\n(assert (not q))\n"
-        .as_slice();
-    let rows: [Row<'_>; 4] = [
+(assert p)\n(assert (not p))\n(check-sat)\n";
+    const EXCLUSION: &[u8] = b"(declare-const p Bool)\n(declare-const q Bool)\n(assert (or p q))\n\
+(assert (not p))\n(assert (not q))\n";
+    const ROWS: [Row<'static>; 4] = [
         (
-            contradiction,
+            CONTRADICTION,
             b"unsat\n(\n(declare-const p Bool)\n(define @t1 () (not p))\n(assume @p1 p)\n\
 (assume @p2 @t1)\n(step @p3 false :rule contra :premises (@p1 @p2))\n)\n",
             b"correct\n",
         ),
         (
-            contradiction,
+            CONTRADICTION,
             b"unsat\n(\n(declare-const |p| Bool)\n(define @t1 () (not |p|))\n(assume @p1 |p|)\n\
 (assume @p2 @t1)\n(step @p3 false :rule contra :premises (@p1 @p2))\n)\n",
             b"correct\n",
         ),
         (
-            exclusion,
+            EXCLUSION,
             b"(assume @p1 (or p q))\n(assume @p2 (not p))\n(assume @p3 (not q))\n\
 (step @p4 q :rule resolution :premises (@p1 @p2) :args (true p))\n\
 (step @p5 false :rule resolution :premises (@p4 @p3) :args (true q))\n",
             b"correct\n",
         ),
         (
-            exclusion,
+            EXCLUSION,
             b"(assume @p1 (or p q))\n(assume @p2 (not p))\n(assume @p3 (not q))\n\
 (step @p4 false :rule chain_resolution :premises (@p1 @p2 @p3) :args ((@list true true) (@list p q)))\n",
             b"correct\n",
         ),
     ];
-    assert_eq!(rt; wrong(rt.alloc(), suite(), &rows), None);
+    assert_eq!(rt; wrong(rt.alloc(), &ROWS), None);
 }
 
 #[test]
 fn a_step_needs_its_premises(rt: HostRuntime) {
-    let scoped = b"(declare-const p Bool)\n(declare-const q Bool)\n(declare-const c Int)\n\
-(declare-fun g (Int) Int)\n(assert false)\n"
-        .as_slice();
-    let rows: [Row<'_>; 4] = [
+    const SCOPED: &[u8] = b"(declare-const p Bool)\n(declare-const q Bool)\n(declare-const c Int)\n\
+(declare-fun g (Int) Int)\n(assert false)\n";
+    const ROWS: [Row<'static>; 4] = [
         (
             DECLARED,
             b"(assume @p1 p)\n(step @p3 false :rule contra :premises (@p1 @p1))\n",
@@ -71,7 +66,7 @@ fn a_step_needs_its_premises(rt: HostRuntime) {
             b"refused F25 PremiseMismatch p.eo:3:36\n",
         ),
         (
-            scoped,
+            SCOPED,
             b"(assume-push @a p)\n(define @x () (not q))\n(step @s (= @x @x) :rule refl :args (@x))\n\
 (step-pop @r1 :rule scope :premises (@a))\n(assume-push @b p)\n(define @x () (g c))\n\
 (step @s (= @x @x) :rule refl :args (@x))\n(step-pop @r2 :rule scope :premises (@b))\n\
@@ -79,19 +74,19 @@ fn a_step_needs_its_premises(rt: HostRuntime) {
             b"correct\n",
         ),
         (
-            scoped,
+            SCOPED,
             b"(assume-push @a p)\n(define @x () (not q))\n(step @s (= @x @x) :rule refl :args (@x))\n\
 (step-pop @r1 :rule scope :premises (@a))\n(assume-push @b p)\n(define @x () (g c))\n\
 (assume-push @s @x)\n",
             b"refused F27 NotBool p.eo:7:166\n",
         ),
     ];
-    assert_eq!(rt; wrong(rt.alloc(), suite(), &rows), None);
+    assert_eq!(rt; wrong(rt.alloc(), &ROWS), None);
 }
 
 #[test]
 fn scopes_and_marked_rules_behind_a_signature(rt: HostRuntime) {
-    let rows: [Row<'_>; 6] = [
+    const ROWS: [Row<'static>; 6] = [
         (
             DECLARED,
             b"(assume-push @a p)\n(step-pop @s (=> p p) :rule scope :premises (@a))\n\
@@ -125,17 +120,16 @@ fn scopes_and_marked_rules_behind_a_signature(rt: HostRuntime) {
             b"correct\n",
         ),
     ];
-    assert_eq!(rt; wrong(rt.alloc(), suite(), &rows), None);
+    assert_eq!(rt; wrong(rt.alloc(), &ROWS), None);
 }
 
 #[test]
 fn an_assumption_is_an_asserted_value(rt: HostRuntime) {
-    let named = b"(declare-const p Bool)\n(declare-const q Bool)\n\
-(assert (! (let ((x (not p))) (and x x)) :named h))\n"
-        .as_slice();
-    let rows: [Row<'_>; 5] = [
+    const NAMED: &[u8] = b"(declare-const p Bool)\n(declare-const q Bool)\n\
+(assert (! (let ((x (not p))) (and x x)) :named h))\n";
+    const ROWS: [Row<'static>; 5] = [
         (
-            named,
+            NAMED,
             b"(assume @p1 (and (not p) (not p)))\n(assume @p2 h)\n",
             b"refused F41 NoRefutation p.eo:3:50\n",
         ),
@@ -145,12 +139,12 @@ fn an_assumption_is_an_asserted_value(rt: HostRuntime) {
             b"refused F28 NotAsserted p.eo:1:0\n",
         ),
         (
-            named,
+            NAMED,
             b"(define h () (and (not p) (not p)))(assume @p h)",
             b"refused F41 NoRefutation p.eo:1:48\n",
         ),
         (
-            named,
+            NAMED,
             b"(define h () (not p))",
             b"refused F12 Redeclared p.eo:1:0\n",
         ),
@@ -160,12 +154,12 @@ fn an_assumption_is_an_asserted_value(rt: HostRuntime) {
             b"refused F41 NoRefutation p.eo:1:16\n",
         ),
     ];
-    assert_eq!(rt; wrong(rt.alloc(), suite(), &rows), None);
+    assert_eq!(rt; wrong(rt.alloc(), &ROWS), None);
 }
 
 #[test]
 fn the_first_fault_of_a_proof(rt: HostRuntime) {
-    let rows: [Row<'_>; 21] = [
+    const ROWS: [Row<'static>; 21] = [
         (
             DECLARED,
             b"(frob)",
@@ -268,43 +262,42 @@ fn the_first_fault_of_a_proof(rt: HostRuntime) {
             b"refused F09 BadPath p.eo:1:0\n",
         ),
     ];
-    assert_eq!(rt; wrong(rt.alloc(), suite(), &rows), None);
+    assert_eq!(rt; wrong(rt.alloc(), &ROWS), None);
 }
 
 #[test]
 fn a_whole_benchmark(rt: HostRuntime) {
-    let text = b"(set-info :source |a benchmark; ) |)\n(set-info :smt-lib-version 2.6)\n\
+    const TEXT: &[u8] = b"(set-info :source |a benchmark; ) |)\n(set-info :smt-lib-version 2.6)\n\
 (set-info :status unsat)\n(set-option :produce-proofs true)\n(set-logic QF_UF)\n\
 (declare-sort U 0)\n(declare-fun f (U) Bool)\n(declare-fun |a b| () U)\n(define-sort V () U)\n\
 (define-fun g ((x V)) Bool (not (f x)))\n(assert (! (f |a b|) :named a1))\n\
 (assert (! (g |a b|) :named a2))\n(echo \"done)\")\n(check-sat)\n(get-proof)\n\
-(get-value ((f |a b|)))\n(exit)\n)) \xff \" "
-        .as_slice();
-    let rows: [Row<'_>; 3] = [
+(get-value ((f |a b|)))\n(exit)\n)) \xff \" ";
+    const ROWS: [Row<'static>; 3] = [
         (
-            text,
+            TEXT,
             b"(define @t () (f |a b|))(assume @p1 a1)(assume @p2 a2)(assume @p3 @t)\n\
 (assume @p4 (not @t))(step @p5 false :rule contra :premises (@p1 @p2))",
             b"correct\n",
         ),
         (
-            text,
+            TEXT,
             b"(declare-sort U 0)(declare-fun f (U) Bool)(declare-fun |a b| () U)\n\
 (define g ((y U)) (not (f y)))(assume @p (g |a b|))(declare-sort U 1)",
             b"refused F12 Redeclared p.eo:2:118\n",
         ),
         (
-            text,
+            TEXT,
             b"(define g ((x U) (y U)) (not (f x)))",
             b"refused F12 Redeclared p.eo:1:0\n",
         ),
     ];
-    assert_eq!(rt; wrong(rt.alloc(), suite(), &rows), None);
+    assert_eq!(rt; wrong(rt.alloc(), &ROWS), None);
 }
 
 #[test]
 fn the_first_fault_of_a_reference_file(rt: HostRuntime) {
-    let rows: [Row<'_>; 21] = [
+    const ROWS: [Row<'static>; 21] = [
         (b"(push 1)", b"", b"refused F10 UnknownCommand r.smt2:1:0\n"),
         (
             b"(define x () true)",
@@ -402,37 +395,37 @@ fn the_first_fault_of_a_reference_file(rt: HostRuntime) {
             b"correct\n",
         ),
     ];
-    assert_eq!(rt; wrong(rt.alloc(), PROOF, &rows), None);
+    assert_eq!(rt; wrong_behind_not(rt.alloc(), &ROWS), None);
 }
 
-/// The first row that gives another line, with reads of at most one byte, of three, or of any
-/// number, where a signature of this text comes first.
-fn wrong<'a>(alloc: Global, signature: &'a [u8], rows: &[Row<'a>]) -> Option<usize> {
-    for (i, row) in rows.iter().enumerate() {
-        for piece in [1usize, 3, 65_536] {
-            if !is_right(alloc, signature, piece, row).unwrap_or(false) {
-                return Some(i);
-            }
-        }
-    }
-    None
-}
-
-/// Whether a row's line is printed with reads of at most so many bytes.
-fn is_right<'a>(
+/// Whether a row's line is printed behind a signature of this text, whole and with reads of 1 and of
+/// 3 bytes.
+fn is_right_behind<'a>(
     alloc: Global,
     signature: &'a [u8],
-    piece: usize,
-    row: &Row<'a>,
-) -> Result<bool, AllocError>
-    requires { 1 ≤ piece }
-{
-    let (reference, proof, answer) = *row;
-    let line = "ethos check --include=cpc.eo --reference=r.smt2 p.eo";
-    let others = [
-        (b"cpc.eo".as_slice(), signature),
-        (b"r.smt2".as_slice(), reference),
-    ];
-    let (_status, out) = run(alloc, line, (b"p.eo", proof), &others, piece, 0)?;
-    Ok(out.bytes() == answer)
+    row: Row<'a>,
+) -> Result<bool, AllocError> {
+    let (reference, proof, line) = row;
+    let others: [File<'_>; 2] = [(b"cpc.eo", signature), (b"r.smt2", reference)];
+    let words = "ethos check --include=cpc.eo --reference=r.smt2 p.eo";
+    let job: Job<'_> = (words, (b"p.eo", proof), &others);
+    does_in_pieces(alloc, &job, &Want::Prints(line))
+}
+
+fn is_right(alloc: Global, row: Row<'_>) -> Result<bool, AllocError> {
+    is_right_behind(alloc, suite(), row)
+}
+
+fn is_right_behind_not(alloc: Global, row: Row<'_>) -> Result<bool, AllocError> {
+    is_right_behind(alloc, NOT, row)
+}
+
+/// The first row that gives another line behind the suite.
+fn wrong(alloc: Global, rows: &[Row<'_>]) -> Option<usize> {
+    first_wrong(alloc, rows, is_right)
+}
+
+/// The same behind a signature of one constant.
+fn wrong_behind_not(alloc: Global, rows: &[Row<'_>]) -> Option<usize> {
+    first_wrong(alloc, rows, is_right_behind_not)
 }

@@ -1,9 +1,7 @@
 //! Words of the command line, over files in memory.
-ghost use Rattle.std.specs.Prelude.{◌≤◌};
-
+use super::{ASSUMES_FALSE, CORRECT};
 use eo_base::Status;
-use eo_io::MemorySink;
-use memory_runs::File;
+use memory_runs::{File, Job, Want, does_in_pieces, first_wrong};
 use std::alloc::{AllocError, Global};
 
 const USAGE: &[u8] =
@@ -26,116 +24,150 @@ fn files() -> &'static [File<'static>] {
     &FILES
 }
 
-/// What is printed for the words of a line, with reads of at most so many bytes.
-fn run(alloc: Global, line: &str, piece: usize) -> Result<(Status, MemorySink), AllocError>
-    requires { 1 ≤ piece }
-{
-    memory_runs::run(
-        alloc,
-        line,
-        (b"p.eo", b"(assume @p1 false)\n"),
-        files(),
-        piece,
-        0,
-    )
+/// The words of a line, and the status and the line that are given.
+type Row<'a> = (&'a str, Status, &'a [u8]);
+
+/// Whether the words of a line give this line, whole and with reads of 1 and of 3 bytes.
+fn gives(alloc: Global, words: &str, status: Status, line: &[u8]) -> Result<bool, AllocError> {
+    let job: Job<'_> = (words, ASSUMES_FALSE, files());
+    does_in_pieces(alloc, &job, &Want::Ends(status, line))
 }
 
-/// Whether the words of a line give this answer, whole and with reads of 1 and of 3 bytes.
-fn gives(alloc: Global, line: &str, answer: &[u8], status: Status) -> bool {
-    for piece in [1usize, 3, 65_536] {
-        match run(alloc, line, piece) {
-            Ok((got, out)) if got == status && out.bytes() == answer => {}
-            _ => return false,
-        }
-    }
-    true
+fn is_right(alloc: Global, row: Row<'_>) -> Result<bool, AllocError> {
+    let (words, status, line) = row;
+    gives(alloc, words, status, line)
+}
+
+fn wrong(alloc: Global, rows: &[Row<'_>]) -> Option<usize> {
+    first_wrong(alloc, rows, is_right)
 }
 
 #[test]
 fn words_that_are_read(rt: HostRuntime) {
-    let correct = [
-        "ethos check --reference=r.smt2 p.eo",
-        "ethos check p.eo --reference=r.smt2",
-        "ethos check --reference r.smt2 p.eo",
-        "ethos check p.eo --reference r.smt2",
-        "ethos check --include=c.eo --reference=r.smt2 p.eo",
-        "ethos check --reference=r.smt2 p.eo --include c.eo",
-        "ethos check --closed --reference=r.smt2 p.eo",
-        "ethos check --reference=r.smt2 --closed -- p.eo",
-        "ethos check --reference=./x/../r.smt2 -- -p.eo",
-        "ethos check --reference=r.smt2 bad.eo",
-        " check --reference=r.smt2 p.eo",
-    ];
-    for line in correct {
-        assert!(&rt; gives(rt.alloc(), line, b"correct\n", Status::Ok));
-    }
-    let rows: [(&str, &[u8]); 10] = [
+    const ROWS: [Row<'static>; 26] = [
+        ("ethos check --reference=r.smt2 p.eo", Status::Ok, CORRECT),
+        ("ethos check p.eo --reference=r.smt2", Status::Ok, CORRECT),
+        ("ethos check --reference r.smt2 p.eo", Status::Ok, CORRECT),
+        ("ethos check p.eo --reference r.smt2", Status::Ok, CORRECT),
+        (
+            "ethos check --include=c.eo --reference=r.smt2 p.eo",
+            Status::Ok,
+            CORRECT,
+        ),
+        (
+            "ethos check --reference=r.smt2 p.eo --include c.eo",
+            Status::Ok,
+            CORRECT,
+        ),
+        (
+            "ethos check --closed --reference=r.smt2 p.eo",
+            Status::Ok,
+            CORRECT,
+        ),
+        (
+            "ethos check --reference=r.smt2 --closed -- p.eo",
+            Status::Ok,
+            CORRECT,
+        ),
+        (
+            "ethos check --reference=./x/../r.smt2 -- -p.eo",
+            Status::Ok,
+            CORRECT,
+        ),
+        ("ethos check --reference=r.smt2 bad.eo", Status::Ok, CORRECT),
+        (" check --reference=r.smt2 p.eo", Status::Ok, CORRECT),
         (
             "ethos check --reference=r.smt2 bad.eo --closed",
+            Status::Refused,
             b"refused F38 ProofDeclares bad.eo:1:0\n",
         ),
-        ("ethos check p.eo", b"refused F29 NoReference p.eo:1:0\n"),
-        ("ethos check p.eo --", b"refused F29 NoReference p.eo:1:0\n"),
-        ("ethos check c.eo", b"refused F29 NoReference c.eo:2:23\n"),
+        (
+            "ethos check p.eo",
+            Status::Refused,
+            b"refused F29 NoReference p.eo:1:0\n",
+        ),
+        (
+            "ethos check p.eo --",
+            Status::Refused,
+            b"refused F29 NoReference p.eo:1:0\n",
+        ),
+        (
+            "ethos check c.eo",
+            Status::Refused,
+            b"refused F29 NoReference c.eo:2:23\n",
+        ),
         (
             "ethos check empty.eo",
+            Status::Refused,
             b"refused F29 NoReference empty.eo:1:0\n",
         ),
         (
             "ethos check --include= --reference=r.smt2 p.eo",
+            Status::Refused,
             b"refused F09 BadPath :1:0\n",
         ),
-        ("ethos check ", b"refused F09 BadPath :1:0\n"),
+        (
+            "ethos check ",
+            Status::Refused,
+            b"refused F09 BadPath :1:0\n",
+        ),
         (
             "ethos check --reference=p.eo p.eo",
+            Status::Refused,
             b"refused F10 UnknownCommand p.eo:1:0\n",
         ),
-        ("ethos check -", b"refused F35 FileAbsent -:1:0\n"),
-        ("ethos load ", b"refused F09 BadPath :1:0\n"),
-    ];
-    for (line, answer) in rows {
-        assert!(&rt; gives(rt.alloc(), line, answer, Status::Refused));
-    }
-    let accepted: [(&str, &[u8]); 5] = [
-        ("ethos load c.eo", b"loaded 1 commands\n"),
+        (
+            "ethos check -",
+            Status::Refused,
+            b"refused F35 FileAbsent -:1:0\n",
+        ),
+        (
+            "ethos load ",
+            Status::Refused,
+            b"refused F09 BadPath :1:0\n",
+        ),
+        ("ethos load c.eo", Status::Ok, b"loaded 1 commands\n"),
         (
             "ethos bench 1",
+            Status::Ok,
             b"bench 1: correct, 15 commands, 36 terms\n",
         ),
         (
             "ethos bench 2",
+            Status::Ok,
             b"bench 2: correct, 17 commands, 43 terms\n",
         ),
         (
             "ethos bench 10",
+            Status::Ok,
             b"bench 10: correct, 33 commands, 99 terms\n",
         ),
         (
             "ethos bench -- 10",
+            Status::Ok,
             b"bench 10: correct, 33 commands, 99 terms\n",
         ),
     ];
-    for (line, answer) in accepted {
-        assert!(&rt; gives(rt.alloc(), line, answer, Status::Ok));
-    }
+    assert_eq!(rt; wrong(rt.alloc(), &ROWS), None);
 }
 
 #[test]
 fn a_bench_gives_the_same_line_each_time(rt: HostRuntime) {
-    for _ in 0..2 {
-        match run(rt.alloc(), "ethos bench 100", 1) {
-            Ok((status, out)) => {
-                let line = b"bench 100: correct, 213 commands, 729 terms\n".as_slice();
-                assert!(&rt; status == Status::Ok && out.bytes() == line);
-            }
-            Err(AllocError) => assert!(&rt; false),
-        }
-    }
+    const ROW: Row<'static> = (
+        "ethos bench 100",
+        Status::Ok,
+        b"bench 100: correct, 213 commands, 729 terms\n",
+    );
+    assert_eq!(rt; wrong(rt.alloc(), &[ROW, ROW]), None);
+}
+
+fn is_usage(alloc: Global, words: &str) -> Result<bool, AllocError> {
+    gives(alloc, words, Status::Usage, USAGE)
 }
 
 #[test]
 fn words_that_are_not_read(rt: HostRuntime) {
-    let lines = [
+    const LINES: [&str; 47] = [
         "",
         "ethos",
         "ethos ",
@@ -184,7 +216,5 @@ fn words_that_are_not_read(rt: HostRuntime) {
         "ethos bench --closed 1",
         "ethos bench --help",
     ];
-    for line in lines {
-        assert!(&rt; gives(rt.alloc(), line, USAGE, Status::Usage));
-    }
+    assert_eq!(rt; first_wrong(rt.alloc(), &LINES, is_usage), None);
 }

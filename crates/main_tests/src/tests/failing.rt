@@ -1,39 +1,15 @@
 //! Checks during which calls of the library or of the sink fail, and checks of a proof that is cut.
 ghost use Rattle.std.specs.Prelude.{◌≤◌};
 
+use super::{ASSERTS_FALSE, CORRECT, check_into};
 use eo_base::Status;
 use eo_cpc::suite;
-use eo_io::MemorySink;
-use memory_runs::{CHECK, File, ROOM, library, run_into};
+use memory_runs::{CHECK, File, Job, Want, calls, does};
 use std::alloc::{AllocError, Global};
 
-/// The words, the proof, the other files with their paths, and the line that is printed.
-type Job<'a> = (&'a str, &'a [u8], &'a [File<'a>], &'a [u8]);
-
-/// A job with reads of at most 8 bytes, and with one call of the library that fails, if its number
-/// is one of a call.
-fn run(alloc: Global, job: &Job<'_>, failing: u64) -> Result<(Status, MemorySink), AllocError> {
-    let (line, proof, texts, _printed) = *job;
-    memory_runs::run(alloc, line, (b"p.eo", proof), texts, 8, failing)
-}
-
-/// How many calls of the library a job makes: each run in which one of them fails ends with a read
-/// fault, and the first in which none does prints the job's line.
-fn calls(alloc: Global, job: &Job<'_>) -> Option<u64> {
-    let (_words, _proof, _texts, line) = *job;
-    for call in 1..1_000u64 {
-        match run(alloc, job, call) {
-            Ok((Status::ReadFault, out)) if out.bytes() == b"read fault\n".as_slice() => {}
-            Ok((Status::Ok, out)) if out.bytes() == line => return Some(call - 1),
-            _ => return None,
-        }
-    }
-    None
-}
-
-#[test]
-fn each_call_in_turn_fails_in_a_check(rt: HostRuntime) {
-    let files: [(&[u8], &[u8]); 2] = [
+/// How many calls of the library a check behind the suite makes.
+fn calls_of_check(alloc: Global) -> Result<Option<u64>, AllocError> {
+    let files: [File<'_>; 2] = [
         (b"cpc.eo", suite()),
         (
             b"r.smt2",
@@ -41,53 +17,52 @@ fn each_call_in_turn_fails_in_a_check(rt: HostRuntime) {
 (assert p)\n(assert (not p))\n(check-sat)\n",
         ),
     ];
-    let job: Job<'_> = (
-        "ethos check --include=cpc.eo --reference=r.smt2 p.eo",
+    let proof: File<'_> = (
+        b"p.eo",
         b"unsat\n(\n(declare-const p Bool)\n(define @t1 () (not p))\n(assume @p1 p)\n\
 (assume @p2 @t1)\n(step @p3 false :rule contra :premises (@p1 @p2))\n)\n",
-        &files,
-        b"correct\n",
     );
-    assert_eq!(rt; calls(rt.alloc(), &job), Some(831));
+    let job: Job<'_> = (
+        "ethos check --include=cpc.eo --reference=r.smt2 p.eo",
+        proof,
+        &files,
+    );
+    calls(alloc, &job, 8, &Want::Ends(Status::Ok, CORRECT))
+}
+
+#[test]
+fn each_call_in_turn_fails_in_a_check(rt: HostRuntime) {
+    assert_eq!(rt; calls_of_check(rt.alloc()), Ok(Some(831)));
 }
 
 #[test]
 fn each_call_in_turn_fails_in_a_load(rt: HostRuntime) {
-    let files: [(&[u8], &[u8]); 4] = [
-        (b"a.eo", b"(include \"b.eo\")\n(include \"c.eo\")\n"),
-        (b"b.eo", b"(include \"d.eo\")\n"),
-        (b"c.eo", b"(include \"x/../d.eo\")\n(include \"c.eo\")\n"),
-        (b"d.eo", b"(declare-const p Bool)\n"),
-    ];
-    let job: Job<'_> = ("ethos load a.eo", b"", &files, b"loaded 6 commands\n");
-    assert_eq!(rt; calls(rt.alloc(), &job), Some(24));
-}
-
-/// What is printed for a check of this proof against the assertion of `false`, into a sink of so much room.
-fn printed(alloc: Global, proof: &[u8], room: usize) -> Result<(Status, MemorySink), AllocError> {
-    let mut files = library(alloc, (b"p.eo", proof), &[(b"r.smt2", b"(assert false)\n")])?;
-    let mut out = MemorySink::new(alloc, room)?;
-    let status = run_into(alloc, CHECK, &mut files, &mut out)?;
-    Ok((status, out))
+    const JOB: Job<'static> = (
+        "ethos load a.eo",
+        (b"p.eo", b""),
+        &[
+            (b"a.eo", b"(include \"b.eo\")\n(include \"c.eo\")\n"),
+            (b"b.eo", b"(include \"d.eo\")\n"),
+            (b"c.eo", b"(include \"x/../d.eo\")\n(include \"c.eo\")\n"),
+            (b"d.eo", b"(declare-const p Bool)\n"),
+        ],
+    );
+    let want = Want::Ends(Status::Ok, b"loaded 6 commands\n");
+    assert_eq!(rt; calls(rt.alloc(), &JOB, 8, &want), Ok(Some(24)));
 }
 
 #[test]
 fn a_sink_without_room(rt: HostRuntime) {
-    match printed(rt.alloc(), b"(assume @p1 false)\n", 3) {
-        Ok((status, out)) => {
-            assert!(&rt; status == Status::WriteFault);
-            assert!(&rt; out.bytes() == b"cor".as_slice());
-        }
-        Err(AllocError) => assert!(&rt; false),
-    }
+    let want = Want::Ends(Status::WriteFault, b"cor");
+    assert_eq!(rt; check_into(rt.alloc(), 3, 65_536, 0, &want), Ok(true));
 }
 
 /// The line for a proof of which this many bytes are left, without its end.
 fn line_of_cut(alloc: Global, length: usize) -> Result<String, AllocError> {
     match length {
-        0 => Ok(format!(in alloc; "refused F41 NoRefutation p.eo:1:0\n")?),
-        18 | 19 => Ok(format!(in alloc; "correct\n")?),
-        _ => Ok(format!(in alloc; "refused F02 Unclosed p.eo:1:{length}\n")?),
+        0 => String::from_str(alloc, "refused F41 NoRefutation p.eo:1:0\n"),
+        18 | 19 => String::from_str(alloc, "correct\n"),
+        _ => format!(in alloc; "refused F02 Unclosed p.eo:1:{length}\n"),
     }
 }
 
@@ -97,13 +72,21 @@ fn is_right_cut(alloc: Global, length: usize) -> Result<bool, AllocError>
 {
     let proof: [u8; 19] = *b"(assume @p1 false)\n";
     let line = line_of_cut(alloc, length)?;
-    let (_status, out) = printed(alloc, &proof[..length], ROOM)?;
-    Ok(out.bytes() == line.as_bytes())
+    let job: Job<'_> = (CHECK, (b"p.eo", &proof[..length]), &[ASSERTS_FALSE]);
+    does(alloc, &job, 65_536, 0, &Want::Prints(line.as_bytes()))
+}
+
+/// Whether the proof gives its line however it is cut.
+fn are_right_cuts(alloc: Global) -> Result<bool, AllocError> {
+    for length in 0..20usize {
+        if !is_right_cut(alloc, length)? {
+            return Ok(false);
+        }
+    }
+    Ok(true)
 }
 
 #[test]
 fn a_proof_that_is_cut(rt: HostRuntime) {
-    for length in 0..20usize {
-        assert!(&rt; is_right_cut(rt.alloc(), length) == Ok(true));
-    }
+    assert_eq!(rt; are_right_cuts(rt.alloc()), Ok(true));
 }

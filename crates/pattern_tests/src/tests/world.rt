@@ -103,7 +103,7 @@ fn match_twice(
     requires first { first < length table.now.trees }
     requires second { second < length table.now.trees }
 {
-    let mut subst = Subst::new(alloc)?;
+    let mut subst = Subst::new(alloc);
     let room = table.parameters(pattern).bound();
     subst.reserve(room, table.height(pattern) as usize)?;
     let matches = match_terms(table, &[pattern, pattern], &[first, second], &mut subst);
@@ -119,7 +119,7 @@ fn match_and_put(
     requires pattern { pattern < length table.old.trees }
     requires term { term < length table.old.trees }
 {
-    let mut subst = Subst::new(alloc)?;
+    let mut subst = Subst::new(alloc);
     let room = table.parameters(pattern).bound();
     subst.reserve(room, table.height(pattern) as usize)?;
     if match_terms(table, &[pattern], &[term], &mut subst) {
@@ -133,7 +133,7 @@ fn put_in(alloc: Global, table: &mut Table, term: Id, value: Id) -> Result<Id, T
     requires term { term < length table.old.trees }
     requires value { value < length table.old.trees }
 {
-    let mut subst = Subst::new(alloc)?;
+    let mut subst = Subst::new(alloc);
     subst.reserve(1, 0)?;
     subst.put(0, value);
     substitute(table, &subst, term)

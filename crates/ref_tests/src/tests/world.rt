@@ -62,7 +62,7 @@ impl World {
             alloc,
             table: Table::new(alloc)?,
             sig: Signature::new(alloc)?,
-            reference: Reference::new(alloc)?,
+            reference: Reference::new(alloc),
         })
     }
 

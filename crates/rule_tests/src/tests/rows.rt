@@ -19,6 +19,15 @@ pub(super) type RuleRow<'a> = (
 /// arguments, the formula that it is said to conclude if any is, and what it gives.
 pub(super) type UseRow<'a> = (&'a str, &'a str, &'a str, &'a str, &'a str, Want<'a>);
 
+/// Rules, with the cases of a program that they may call, each a pattern and a body, and uses of the
+/// rules.
+pub(super) struct Trial<'a> {
+    pub(super) name: &'a str,
+    pub(super) cases: &'a [(&'a str, &'a str)],
+    pub(super) rules: &'a [RuleRow<'a>],
+    pub(super) uses: &'a [UseRow<'a>],
+}
+
 /// What a use of a rule is to give: a formula, as a code, or a fault.
 #[derive(Clone, Copy)]
 pub(super) enum Want<'a> {

@@ -8,13 +8,15 @@ ghost use Rattle.eo_term.specs.Tree.{is_value, uses_only};
 ghost use Rattle.eo_sig.specs.Growth.{GrowsUnder};
 ghost use Rattle.eo_sig.specs.Reading.{AttributeBelow, CaseBelow, ConstBelow, IsBelow, PremisesBelow, ProgramBelow, RuleBelow};
 ghost use Rattle.eo_sig.specs.Reading.{SomeBelow, read_parameter, rules_of, signature};
+ghost use Rattle.eo_sig.specs.declared.records.ConstDecl.{ConstDecl};
 ghost use Rattle.eo_sig.specs.declared.records.Param.{Param};
+ghost use Rattle.eo_sig.specs.declared.records.ProgramDecl.{ProgramDecl};
 ghost use Rattle.eo_sig.specs.declared.records.RuleDecl.{RuleDecl};
 ghost use Rattle.eo_sig.specs.Signature.{are_ordered};
 ghost use Rattle.eo_sig.specs.Usable.{AreOrdered, IsUsable};
 ghost use Rattle.eo_rule.specs.Reading.{IsUseOf};
 
-use super::rows::{Form, Given, RuleRow, Told, UseRow, Want};
+use super::rows::{Form, Given, RuleRow, Told, Trial, UseRow, Want};
 use eo_base::Name;
 use eo_eval::Evaluator;
 use eo_pattern::Subst;
@@ -58,13 +60,6 @@ impl Model for World {
 }
 
 impl World {
-    /// No rule is there yet.
-    pub(super) fn new(alloc: Global) -> Result<World, Fail> {
-        let mut w = World::first(alloc)?;
-        w.declare_all()?;
-        Ok(w)
-    }
-
     // Nothing is declared yet.
     fn first(alloc: Global) -> Result<World, Fail> {
         let table = Table::new(alloc)?;
@@ -132,10 +127,10 @@ impl World {
 
     // Declares a constant, which spells lists with this terminator if it has one.
     fn declare(&mut self, name: &[u8], ty: Id, end: Option<Id>) -> Result<(), Fail> {
-        let d = constant(self.alloc, &self.table, name, ty, end)?;
-        if !self.sig.is_free(d.name.as_bytes()) {
+        if !self.sig.is_free(name) {
             return Err(Fail::new("no free name"));
         }
+        let d = constant(self.alloc, &self.table, name, ty, end)?;
         self.sig.declare(&self.table, d)?;
         Ok(())
     }
@@ -241,10 +236,10 @@ impl World {
 
     /// Adds a program with these cases, each a pattern and a body.
     pub(super) fn program(&mut self, name: &[u8], cases: &[(Id, Id)]) -> Result<(), Fail> {
-        let d = program(self.alloc, &self.table, name, cases)?;
-        if !self.sig.is_free(d.name.as_bytes()) {
+        if !self.sig.is_free(name) {
             return Err(Fail::new("no free name"));
         }
+        let d = program(self.alloc, &self.table, name, cases)?;
         self.sig.add_program(&self.table, d)?;
         Ok(())
     }
@@ -267,24 +262,33 @@ impl World {
     // Declares rules.
     fn declare_rules(&mut self, rows: &[RuleRow<'_>]) -> Result<(), Fail> {
         for row in rows {
-            let form = self.form(row)?;
-            self.rule(row.0.as_bytes(), &form)?;
+            self.declare_rule(row)?;
         }
         Ok(())
+    }
+
+    fn declare_rule(&mut self, row: &RuleRow<'_>) -> Result<(), Fail> {
+        let form = self.form(row)?;
+        let declared = self.rule(row.0.as_bytes(), &form);
+        drop(form);
+        declared
     }
 
     // The terms of a rule.
     fn form(&mut self, row: &RuleRow<'_>) -> Result<Form, Fail> {
         let (_, types, assumption, premises, args, requirement, conclusion) = *row;
         let list = premises.strip_prefix("*");
+        let assumption = self.optional(assumption)?;
+        let requirement = self.pair(requirement)?;
+        let conclusion = self.term(conclusion)?;
         Ok(Form {
             types: self.terms(types)?,
-            assumption: self.optional(assumption)?,
+            assumption,
             premises: self.terms(list.unwrap_or(premises))?,
             joins: list.is_some(),
             args: self.terms(args)?,
-            requirement: self.pair(requirement)?,
-            conclusion: self.term(conclusion)?,
+            requirement,
+            conclusion,
         })
     }
 
@@ -292,18 +296,37 @@ impl World {
     fn rule(&mut self, name: &[u8], form: &Form) -> Result<(), Fail> {
         let d = ordered_rule(self.alloc, &self.table, name, form)?;
         if !self.sig.is_free_rule(d.name.as_bytes()) {
+            drop(d);
             return Err(Fail::new("no free name"));
         }
         self.sig.add_rule(&self.table, d)?;
         Ok(())
     }
 
+    // The first use of a rule that gives another answer than its row says, if one does.
+    fn try_out(&mut self, trial: &Trial<'_>) -> Result<Option<usize>, Fail> {
+        self.declare_all()?;
+        self.declare_program(trial.cases)?;
+        self.declare_rules(trial.rules)?;
+        self.wrong(trial.uses)
+    }
+
     // The first row that gives another answer than it says, if one does. What stands for the
     // parameters is held in one assignment for all rows.
     fn wrong(&mut self, rows: &[UseRow<'_>]) -> Result<Option<usize>, Fail> {
-        let mut subst = Subst::new(self.alloc)?;
+        let mut subst = Subst::new(self.alloc);
+        let answer = self.wrong_with(&mut subst, rows);
+        drop(subst);
+        answer
+    }
+
+    fn wrong_with(
+        &mut self,
+        subst: &mut Subst,
+        rows: &[UseRow<'_>],
+    ) -> Result<Option<usize>, Fail> {
         for (i, row) in rows.iter().enumerate() {
-            if !self.is_right(&mut subst, row)? {
+            if !self.is_right(subst, row)? {
                 return Ok(Some(i));
             }
         }
@@ -312,19 +335,23 @@ impl World {
 
     // Whether a row gives what it says.
     fn is_right(&mut self, subst: &mut Subst, row: &UseRow<'_>) -> Result<bool, Fail> {
-        let given = self.given(row)?;
         let want = self.wanted(row.5)?;
-        Ok(self.told(subst, row.0.as_bytes(), &given)? == want)
+        let given = self.given(row)?;
+        let told = self.told(subst, row.0.as_bytes(), &given);
+        drop(given);
+        Ok(told? == want)
     }
 
     // The terms that a row gives.
     fn given(&mut self, row: &UseRow<'_>) -> Result<Given, Fail> {
         let (_, assumption, premises, args, stated, _) = *row;
+        let assumption = self.optional(assumption)?;
+        let stated = self.optional(stated)?;
         Ok(Given {
-            assumption: self.optional(assumption)?,
+            assumption,
             premises: self.terms(premises)?,
             args: self.terms(args)?,
-            stated: self.optional(stated)?,
+            stated,
         })
     }
 
@@ -338,26 +365,37 @@ impl World {
 
     // What a use of a rule gives.
     fn told(&mut self, subst: &mut Subst, name: &[u8], given: &Given) -> Result<Told, Fail> {
-        let given = values_given(self.alloc, &self.table, given)?;
         let Some(rule) = self.sig.rule(name) else {
             return Err(Fail::new("no such rule"));
         };
-        told_by(self.alloc, &self.sig, &mut self.table, subst, rule, &given)
+        let given = values_given(self.alloc, &self.table, given)?;
+        let answer = told_by(self.alloc, &self.sig, &mut self.table, subst, rule, &given);
+        drop(given);
+        answer
     }
 }
 
-/// The first use of a rule that gives another answer than its row says, if one does, in a new world
-/// with these rules, and with a program of these cases, each a pattern and a body.
-pub(super) fn wrong(
+/// The first use of a rule that gives another answer than its row says, if one does: its trial, and
+/// its place there. Each trial has a new world.
+pub(super) fn wrong<'a>(
     alloc: Global,
-    cases: &[(&str, &str)],
-    rules: &[RuleRow<'_>],
-    rows: &[UseRow<'_>],
-) -> Result<Option<usize>, Fail> {
-    let mut w = World::new(alloc)?;
-    w.declare_program(cases)?;
-    w.declare_rules(rules)?;
-    w.wrong(rows)
+    trials: &[Trial<'a>],
+) -> Result<Option<(&'a str, usize)>, Fail> {
+    for trial in trials {
+        if let Some(i) = wrong_in(alloc, trial)? {
+            return Ok(Some((trial.name, i)));
+        }
+    }
+    Ok(None)
+}
+
+// The same in one trial. This alone owns a world, and lets go of it by a call: each way out of a
+// function that lets go of one by itself is dear to prove.
+fn wrong_in(alloc: Global, trial: &Trial<'_>) -> Result<Option<usize>, Fail> {
+    let mut w = World::first(alloc)?;
+    let answer = w.try_out(trial);
+    drop(w);
+    answer
 }
 
 // What a use of the rule of this number gives.
@@ -376,9 +414,33 @@ fn told_by(
     ensures grows { GrowsUnder sig.now table.old table.new }
 {
     sig.laws();
-    let mut types = Types::new(alloc)?;
-    let mut eval = Evaluator::new(alloc)?;
-    tells(conclude(alloc, sig, table, &mut types, &mut eval, subst, rule, given))
+    let mut eval = Evaluator::new(alloc);
+    let answer = told_with(alloc, sig, table, &mut eval, subst, rule, given);
+    drop(eval);
+    answer
+}
+
+// The same by this evaluator.
+fn told_with(
+    alloc: Global,
+    sig: &Signature,
+    table: &mut Table,
+    eval: &mut Evaluator,
+    subst: &mut Subst,
+    rule: usize,
+    given: &RuleUse,
+) -> Result<Told, Fail>
+    requires rule { rule < length (rules_of sig.now) }
+    requires given { IsUseOf table.old given.now }
+    requires below { IsBelow (length table.old.trees) sig.now }
+    requires usable { IsUsable (signature table.old.trees sig.now) }
+    ensures grows { GrowsUnder sig.now table.old table.new }
+{
+    sig.laws();
+    let mut types = Types::new(alloc);
+    let answer = conclude(alloc, sig, table, &mut types, eval, subst, rule, given);
+    drop(types);
+    tells(answer)
 }
 
 // The same of what is answered.
@@ -460,13 +522,17 @@ fn constant(
     ty: Id,
     end: Option<Id>,
 ) -> Result<ConstDecl, Fail>
-    ensures { IfOk result (ConstBelow (length table.now.trees)) }
+    ensures below { IfOk result (ConstBelow (length table.now.trees)) }
+    ensures named { IfOk result (λ (d : ConstDecl). d.name ≡ name.now) }
 {
+    let ty = live(table, ty)?;
+    let attribute = attribute(table, end)?;
+    let name = Name::new(alloc, name)?;
     Ok(ConstDecl {
-        name: Name::new(alloc, name)?,
+        name,
         params: Params::new(alloc),
-        ty: live(table, ty)?,
-        attribute: attribute(table, end)?,
+        ty,
+        attribute,
         from_reference: false,
     })
 }
@@ -512,6 +578,7 @@ fn ordered_rule(alloc: Global, table: &Table, name: &[u8], form: &Form) -> Resul
 {
     let d = rule(alloc, table, name, form)?;
     if !are_ordered(table, d.params.as_slice(), 0) {
+        drop(d);
         return Err(Fail::new("a type uses a later parameter"));
     }
     Ok(d)
@@ -580,14 +647,18 @@ fn program(
     name: &[u8],
     cases: &[(Id, Id)],
 ) -> Result<ProgramDecl, Fail>
-    ensures { IfOk result (ProgramBelow (length table.now.trees)) }
+    ensures below { IfOk result (ProgramBelow (length table.now.trees)) }
+    ensures named { IfOk result (λ (d : ProgramDecl). d.name ≡ name.now) }
 {
+    let output = live(table, BOOL)?;
+    let cases = cases_of(alloc, table, cases)?;
+    let name = Name::new(alloc, name)?;
     Ok(ProgramDecl {
-        name: Name::new(alloc, name)?,
+        name,
         params: Params::new(alloc),
         inputs: Ids::new(alloc),
-        output: live(table, BOOL)?,
-        cases: cases_of(alloc, table, cases)?,
+        output,
+        cases,
     })
 }
 
@@ -595,14 +666,16 @@ fn program(
 fn rule(alloc: Global, table: &Table, name: &[u8], form: &Form) -> Result<RuleDecl, Fail>
     ensures { IfOk result (RuleBelow (length table.now.trees)) }
 {
+    let assumption = live_or_none(table, form.assumption)?;
+    let conclusion = live(table, form.conclusion)?;
     Ok(RuleDecl {
         name: Name::new(alloc, name)?,
         params: params(alloc, table, form.types.as_slice())?,
-        assumption: live_or_none(table, form.assumption)?,
+        assumption,
         premises: shape(alloc, table, form)?,
         args: terms(alloc, table, form.args.as_slice())?,
         requirements: requirements(alloc, table, form.requirement)?,
-        conclusion: live(table, form.conclusion)?,
+        conclusion,
         sorry: false,
     })
 }
@@ -639,11 +712,13 @@ fn requirements(alloc: Global, table: &Table, pair: Option<(Id, Id)>) -> Result<
 fn values_given(alloc: Global, table: &Table, given: &Given) -> Result<RuleUse, Fail>
     ensures { IfOk result (IsUseOf table.now) }
 {
+    let assumption = value_or_none(table, given.assumption)?;
+    let stated = live_or_none(table, given.stated)?;
     Ok(RuleUse {
-        assumption: value_or_none(table, given.assumption)?,
+        assumption,
         premises: values(alloc, table, given.premises.as_slice())?,
         args: values(alloc, table, given.args.as_slice())?,
-        stated: live_or_none(table, given.stated)?,
+        stated,
     })
 }
 

@@ -154,28 +154,28 @@ impl World {
 
     /// Whether each term has the type beside it, or none.
     pub(super) fn have_types(&mut self, rows: &[(Id, Option<Id>)]) -> Result<bool, Fail> {
-        let mut types = Types::new(self.alloc)?;
+        let mut types = Types::new(self.alloc);
         have_types(&mut types, &self.sig, &mut self.table, rows)
     }
 
     /// The type of a term, if it has one.
     pub(super) fn type_of(&mut self, id: Id) -> Result<Result<Option<Id>, TypeRefused>, Fail> {
         let id = live(&self.table, id)?;
-        let mut types = Types::new(self.alloc)?;
+        let mut types = Types::new(self.alloc);
         Ok(types.type_of(&self.sig, &mut self.table, id))
     }
 
     /// Whether the type of a term is the same when it is asked for again, and nothing is made for it.
     pub(super) fn is_kept(&mut self, id: Id) -> Result<bool, Fail> {
         let id = live(&self.table, id)?;
-        let mut types = Types::new(self.alloc)?;
+        let mut types = Types::new(self.alloc);
         is_kept(&mut types, &self.sig, &mut self.table, id)
     }
 
     /// Whether a variable of type `Bool`, and then a function type that is made with its number once
     /// the variable is given back, have their types.
     pub(super) fn have_types_in_turn(&mut self) -> Result<bool, Fail> {
-        let mut types = Types::new(self.alloc)?;
+        let mut types = Types::new(self.alloc);
         have_types_in_turn(&mut types, &self.sig, &mut self.table)
     }
 

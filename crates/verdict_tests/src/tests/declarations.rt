@@ -1,16 +1,14 @@
 //! What a proof declares, and the terms over it.
-use super::gives;
-use eo_base::Status;
+use super::{Refusal, refuses, wrong_refusal};
+use memory_runs::{first_wrong, joined};
 use std::alloc::{AllocError, Global};
-
-const ASSERTS_TRUE: &[u8] = b"(assert true)\n";
 
 #[test]
 fn declarations_that_are_accepted(rt: HostRuntime) {
-    let rows = [
+    const ROWS: [Refusal<'static>; 9] = [
         (
-            b"(declare-fun f (Bool Bool) Bool)(assume a (f true false))".as_slice(),
-            b"refused F28 NotAsserted p.eo:1:32\n".as_slice(),
+            b"(declare-fun f (Bool Bool) Bool)(assume a (f true false))",
+            b"refused F28 NotAsserted p.eo:1:32\n",
         ),
         (
             b"(declare-fun f (Bool Bool) Bool)(assume a (f true))",
@@ -45,9 +43,7 @@ fn declarations_that_are_accepted(rt: HostRuntime) {
             b"refused F28 NotAsserted p.eo:1:64\n",
         ),
     ];
-    for (proof, line) in rows {
-        assert!(&rt; gives(rt.alloc(), ASSERTS_TRUE, proof, line, Status::Refused));
-    }
+    assert_eq!(rt; wrong_refusal(rt.alloc(), &ROWS), None);
 }
 
 /// Bit strings and equality, on the lines 1 to 7, in 441 bytes.
@@ -61,18 +57,22 @@ const BIT_STRINGS: &[u8] = b"(declare-const Int Type)
 ";
 
 /// Whether a command on line 8, behind bit strings and equality, gives this line.
-fn gives_over_bit_strings(alloc: Global, command: &[u8], line: &[u8]) -> Result<bool, AllocError> {
-    let mut proof = BIT_STRINGS.to_vec(alloc)?;
-    proof.extend_from_slice(command)?;
-    Ok(gives(alloc, ASSERTS_TRUE, &proof, line, Status::Refused))
+fn is_right(alloc: Global, row: Refusal<'_>) -> Result<bool, AllocError> {
+    let (command, line) = row;
+    let proof = joined(alloc, BIT_STRINGS, command)?;
+    refuses(alloc, &proof, line)
+}
+
+fn wrong_over_bit_strings(alloc: Global, rows: &[Refusal<'_>]) -> Option<usize> {
+    first_wrong(alloc, rows, is_right)
 }
 
 #[test]
 fn widths_of_bit_strings_are_compared(rt: HostRuntime) {
-    let rows = [
+    const ROWS: [Refusal<'static>; 4] = [
         (
-            b"(assume @a (= (extract 7 4 #xA5) #x5))".as_slice(),
-            b"refused F28 NotAsserted p.eo:8:441\n".as_slice(),
+            b"(assume @a (= (extract 7 4 #xA5) #x5))",
+            b"refused F28 NotAsserted p.eo:8:441\n",
         ),
         (
             b"(assume @a (= (extract 7 4 #xA5) #xA5))",
@@ -87,7 +87,5 @@ fn widths_of_bit_strings_are_compared(rt: HostRuntime) {
             b"refused F27 NotBool p.eo:8:441\n",
         ),
     ];
-    for (command, line) in rows {
-        assert!(&rt; gives_over_bit_strings(rt.alloc(), command, line) == Ok(true));
-    }
+    assert_eq!(rt; wrong_over_bit_strings(rt.alloc(), &ROWS), None);
 }

@@ -1,9 +1,5 @@
 //! Each rule of the suite: used once as it is meant, and once in a way that is refused.
-use super::suite::{ACCEPTED, OPEN, begins};
-use std::alloc::Global;
-
-/// Commands behind the suite, and how the line begins that is printed.
-type Row<'a> = (&'a [u8], &'a [u8]);
+use super::suite::{ACCEPTED, OPEN, Row, other_start};
 
 const STUCK: &[u8] = b"refused F16 Stuck ";
 
@@ -11,20 +7,9 @@ const MISMATCH: &[u8] = b"refused F25 PremiseMismatch ";
 
 const DIFFERS: &[u8] = b"refused F26 ConclusionDiffers ";
 
-/// The first row that gives another line.
-fn wrong(alloc: Global, rows: &[Row<'_>]) -> Option<usize> {
-    for (i, row) in rows.iter().enumerate() {
-        let (commands, start) = *row;
-        if !begins(alloc, commands, start) {
-            return Some(i);
-        }
-    }
-    None
-}
-
 #[test]
 fn rules_of_equality(rt: HostRuntime) {
-    let rows: [Row<'_>; 12] = [
+    const ROWS: [Row<'static>; 12] = [
         (b"(step @s (= p p) :rule refl :args (p))", ACCEPTED),
         (b"(step @s (= p q) :rule refl :args (p))", DIFFERS),
         (
@@ -72,12 +57,12 @@ fn rules_of_equality(rt: HostRuntime) {
             DIFFERS,
         ),
     ];
-    assert_eq!(rt; wrong(rt.alloc(), &rows), None);
+    assert_eq!(rt; other_start(rt.alloc(), &ROWS), None);
 }
 
 #[test]
 fn rules_of_negation_and_implication(rt: HostRuntime) {
-    let rows: [Row<'_>; 16] = [
+    const ROWS: [Row<'static>; 16] = [
         (
             b"(assume-push @a (not (not p)))(step @s p :rule not_not_elim :premises (@a))",
             OPEN,
@@ -142,12 +127,12 @@ fn rules_of_negation_and_implication(rt: HostRuntime) {
             DIFFERS,
         ),
     ];
-    assert_eq!(rt; wrong(rt.alloc(), &rows), None);
+    assert_eq!(rt; other_start(rt.alloc(), &ROWS), None);
 }
 
 #[test]
 fn rules_of_conjunction_and_disjunction(rt: HostRuntime) {
-    let rows: [Row<'_>; 18] = [
+    const ROWS: [Row<'static>; 18] = [
         (
             b"(assume-push @a (and p q))(step @s q :rule and_elim :premises (@a) :args (1))",
             OPEN,
@@ -216,12 +201,12 @@ fn rules_of_conjunction_and_disjunction(rt: HostRuntime) {
             STUCK,
         ),
     ];
-    assert_eq!(rt; wrong(rt.alloc(), &rows), None);
+    assert_eq!(rt; other_start(rt.alloc(), &ROWS), None);
 }
 
 #[test]
 fn rules_of_resolution_and_exclusion(rt: HostRuntime) {
-    let rows: [Row<'_>; 18] = [
+    const ROWS: [Row<'static>; 18] = [
         (
             b"(assume-push @a (or p q))(assume-push @b (or (not p) r))
               (step @s (or q r) :rule resolution :premises (@a @b) :args (true p))",
@@ -302,12 +287,12 @@ fn rules_of_resolution_and_exclusion(rt: HostRuntime) {
             MISMATCH,
         ),
     ];
-    assert_eq!(rt; wrong(rt.alloc(), &rows), None);
+    assert_eq!(rt; other_start(rt.alloc(), &ROWS), None);
 }
 
 #[test]
 fn rules_that_name_a_part_of_a_formula(rt: HostRuntime) {
-    let rows: [Row<'_>; 18] = [
+    const ROWS: [Row<'static>; 18] = [
         (
             b"(assume-push @a (not (ite p q r)))
               (step @s (or (not p) (not q)) :rule not_ite_elim1 :premises (@a))",
@@ -381,5 +366,5 @@ fn rules_that_name_a_part_of_a_formula(rt: HostRuntime) {
             DIFFERS,
         ),
     ];
-    assert_eq!(rt; wrong(rt.alloc(), &rows), None);
+    assert_eq!(rt; other_start(rt.alloc(), &ROWS), None);
 }

@@ -1,18 +1,15 @@
 //! The values of terms: formulas and declared types that are evaluated.
-use super::gives;
+use super::{ASSERTS_FALSE, CORRECT, Refusal, is_right, refuses, wrong_refusal};
 use eo_base::Status;
+use memory_runs::{first_wrong, joined};
 use std::alloc::{AllocError, Global};
-
-const ASSERTS_TRUE: &[u8] = b"(assert true)\n";
-
-const ASSERTS_FALSE: &[u8] = b"(assert false)\n";
 
 #[test]
 fn formulas_are_evaluated(rt: HostRuntime) {
-    let rows = [
+    const ROWS: [Refusal<'static>; 12] = [
         (
-            b"(assume a (eo::not false))".as_slice(),
-            b"refused F41 NoRefutation p.eo:1:26\n".as_slice(),
+            b"(assume a (eo::not false))",
+            b"refused F41 NoRefutation p.eo:1:26\n",
         ),
         (
             b"(assume a (eo::not true))",
@@ -59,24 +56,23 @@ fn formulas_are_evaluated(rt: HostRuntime) {
             b"refused F41 NoRefutation p.eo:1:53\n",
         ),
     ];
-    for (proof, line) in rows {
-        assert!(&rt; gives(rt.alloc(), ASSERTS_TRUE, proof, line, Status::Refused));
-    }
+    assert_eq!(rt; wrong_refusal(rt.alloc(), &ROWS), None);
 }
 
 #[test]
 fn a_test_of_a_stuck_term_is_a_fact(rt: HostRuntime) {
-    let proof =
-        b"(program $g ((x Bool)) :signature (Bool) Bool ((($g false) true)))(assume @p1 (eo::is_ok ($g true)))".as_slice();
-    assert!(&rt; gives(rt.alloc(), ASSERTS_FALSE, proof, b"correct\n", Status::Ok));
+    const PROOF: &[u8] =
+        b"(program $g ((x Bool)) :signature (Bool) Bool ((($g false) true)))(assume @p1 (eo::is_ok ($g true)))";
+    let row = (ASSERTS_FALSE, PROOF, CORRECT, Status::Ok);
+    assert_eq!(rt; is_right(rt.alloc(), row), Ok(true));
 }
 
 #[test]
 fn declared_types_are_evaluated(rt: HostRuntime) {
-    let rows = [
+    const ROWS: [Refusal<'static>; 10] = [
         (
-            b"(declare-const c (eo::ite (eo::is_eq Type Type) Bool Type))(assume a c)".as_slice(),
-            b"refused F28 NotAsserted p.eo:1:59\n".as_slice(),
+            b"(declare-const c (eo::ite (eo::is_eq Type Type) Bool Type))(assume a c)",
+            b"refused F28 NotAsserted p.eo:1:59\n",
         ),
         (
             b"(declare-const c (eo::ite (eo::is_eq Type Bool) Bool Type))(assume a c)",
@@ -115,9 +111,7 @@ fn declared_types_are_evaluated(rt: HostRuntime) {
             b"refused F22 BadPattern p.eo:1:0\n",
         ),
     ];
-    for (proof, line) in rows {
-        assert!(&rt; gives(rt.alloc(), ASSERTS_TRUE, proof, line, Status::Refused));
-    }
+    assert_eq!(rt; wrong_refusal(rt.alloc(), &ROWS), None);
 }
 
 /// Programs that go down from a number, on the lines 1 to 7, in 464 bytes.
@@ -131,18 +125,22 @@ const COUNTDOWNS: &[u8] = b"(declare-const Int Type)
 ";
 
 /// Whether a command on line 8, behind these programs, gives this line.
-fn gives_over_countdowns(alloc: Global, command: &[u8], line: &[u8]) -> Result<bool, AllocError> {
-    let mut proof = COUNTDOWNS.to_vec(alloc)?;
-    proof.extend_from_slice(command)?;
-    Ok(gives(alloc, ASSERTS_TRUE, &proof, line, Status::Refused))
+fn is_right_behind(alloc: Global, row: Refusal<'_>) -> Result<bool, AllocError> {
+    let (command, line) = row;
+    let proof = joined(alloc, COUNTDOWNS, command)?;
+    refuses(alloc, &proof, line)
+}
+
+fn wrong_over_countdowns(alloc: Global, rows: &[Refusal<'_>]) -> Option<usize> {
+    first_wrong(alloc, rows, is_right_behind)
 }
 
 #[test]
 fn calls_have_a_greatest_depth(rt: HostRuntime) {
-    let rows = [
+    const ROWS: [Refusal<'static>; 8] = [
         (
-            b"(assume @a (eo::and ($e 999) ($k 998)))".as_slice(),
-            b"refused F41 NoRefutation p.eo:8:503\n".as_slice(),
+            b"(assume @a (eo::and ($e 999) ($k 998)))",
+            b"refused F41 NoRefutation p.eo:8:503\n",
         ),
         (
             b"(assume @a (eo::and ($e 999) ($k 999)))",
@@ -170,7 +168,5 @@ fn calls_have_a_greatest_depth(rt: HostRuntime) {
         ),
         (b"(assume @a ($e false))", b"refused F16 Stuck p.eo:8:464\n"),
     ];
-    for (command, line) in rows {
-        assert!(&rt; gives_over_countdowns(rt.alloc(), command, line) == Ok(true));
-    }
+    assert_eq!(rt; wrong_over_countdowns(rt.alloc(), &ROWS), None);
 }

@@ -1,54 +1,53 @@
 //! Rules and steps, behind the suite's signature.
-use super::gives;
-use super::suite::{ACCEPTED, OPEN, begins};
+use super::suite::{ACCEPTED, OPEN, Row, begins, other_start};
+use super::{ASSERTS_FALSE, CORRECT, wrong};
 use eo_base::Status;
-
-const ASSERTS_FALSE: &[u8] = b"(assert false)\n";
 
 #[test]
 fn the_suite_is_accepted(rt: HostRuntime) {
-    assert!(&rt; begins(rt.alloc(), b"".as_slice(), ACCEPTED));
+    assert_eq!(rt; begins(rt.alloc(), (b"", ACCEPTED)), Ok(true));
 }
 
 #[test]
 fn a_rule_that_is_marked_as_unproved(rt: HostRuntime) {
-    let rows = [
+    const ROWS: [super::Row<'static>; 4] = [
         (
-            b"(declare-rule trust ((F Bool)) :args (F) :conclusion F :sorry)(assume @p1 false)".as_slice(),
-            b"correct\n".as_slice(),
+            ASSERTS_FALSE,
+            b"(declare-rule trust ((F Bool)) :args (F) :conclusion F :sorry)(assume @p1 false)",
+            b"correct\n",
             Status::Ok,
         ),
         (
+            ASSERTS_FALSE,
             b"(declare-rule trust ((F Bool)) :args (F) :conclusion F :sorry)
               (step @p1 :rule trust :args (false))",
             b"incomplete\n",
             Status::Incomplete,
         ),
         (
+            ASSERTS_FALSE,
             b"(declare-rule trust ((F Bool)) :args (F) :conclusion F :sorry)
               (step @p1 :rule trust :args (true))(assume @p2 false)",
             b"incomplete\n",
             Status::Incomplete,
         ),
         (
+            ASSERTS_FALSE,
             b"(declare-rule trust ((F Bool)) :args (F) :conclusion F :sorry)
               (declare-rule bad () :conclusion false)(step @p1 false :rule bad)",
             b"correct\n",
             Status::Ok,
         ),
     ];
-    for (proof, line, status) in rows {
-        assert!(&rt; gives(rt.alloc(), ASSERTS_FALSE, proof, line, status));
-    }
+    assert_eq!(rt; wrong(rt.alloc(), &ROWS), None);
 }
 
 #[test]
 fn terms_that_have_the_same_value(rt: HostRuntime) {
-    let rows = [
+    const ROWS: [Row<'static>; 12] = [
         (
             b"(define m ((xs Bool :list)) (or xs p))
-              (step @s (= (or p) (_ (_ or p) false)) :rule refl :args ((or p)))"
-                .as_slice(),
+              (step @s (= (or p) (_ (_ or p) false)) :rule refl :args ((or p)))",
             ACCEPTED,
         ),
         (
@@ -100,17 +99,15 @@ fn terms_that_have_the_same_value(rt: HostRuntime) {
             ACCEPTED,
         ),
     ];
-    for (commands, start) in rows {
-        assert!(&rt; begins(rt.alloc(), commands, start));
-    }
+    assert_eq!(rt; other_start(rt.alloc(), &ROWS), None);
 }
 
 #[test]
 fn values_of_arguments(rt: HostRuntime) {
-    let rows = [
+    const ROWS: [Row<'static>; 8] = [
         (
-            b"(step @s :rule refl :args ((eo::add 170141183460469231731687303715884105727 1)))".as_slice(),
-            b"refused F17 NumberRange ".as_slice(),
+            b"(step @s :rule refl :args ((eo::add 170141183460469231731687303715884105727 1)))",
+            b"refused F17 NumberRange ",
         ),
         (
             b"(step @s :rule refl :args ((eo::is_ok (eo::add 170141183460469231731687303715884105727 1))))",
@@ -145,19 +142,17 @@ fn values_of_arguments(rt: HostRuntime) {
             ACCEPTED,
         ),
     ];
-    for (commands, start) in rows {
-        assert!(&rt; begins(rt.alloc(), commands, start));
-    }
+    assert_eq!(rt; other_start(rt.alloc(), &ROWS), None);
 }
 
 #[test]
 fn other_uses_of_the_suite(rt: HostRuntime) {
-    let rows = [
-        (b"(step @s true :rule and_intro)".as_slice(), ACCEPTED),
+    const ROWS: [Row<'static>; 4] = [
+        (b"(step @s true :rule and_intro)", ACCEPTED),
         (
             b"(assume-push @a (= p q))(assume-push @b (= r q))
               (step @s (= p r) :rule trans :premises (@a @b))",
-            b"refused F16 Stuck ".as_slice(),
+            b"refused F16 Stuck ",
         ),
         (
             b"(assume-push @a (not (= p q)))(step @s (not (= q p)) :rule symm :premises (@a))",
@@ -169,18 +164,13 @@ fn other_uses_of_the_suite(rt: HostRuntime) {
             OPEN,
         ),
     ];
-    for (commands, start) in rows {
-        assert!(&rt; begins(rt.alloc(), commands, start));
-    }
+    assert_eq!(rt; other_start(rt.alloc(), &ROWS), None);
 }
 
 #[test]
 fn steps_that_are_refused(rt: HostRuntime) {
-    let rows = [
-        (
-            b"(step @a :rule nope)".as_slice(),
-            b"refused F23 UnknownRule ".as_slice(),
-        ),
+    const ROWS: [Row<'static>; 20] = [
+        (b"(step @a :rule nope)", b"refused F23 UnknownRule "),
         (
             b"(step @a :rule contra :premises (@z @z))",
             b"refused F24 UnknownPremise ",
@@ -260,7 +250,5 @@ fn steps_that_are_refused(rt: HostRuntime) {
             b"refused F11 BadCommand ",
         ),
     ];
-    for (commands, start) in rows {
-        assert!(&rt; begins(rt.alloc(), commands, start));
-    }
+    assert_eq!(rt; other_start(rt.alloc(), &ROWS), None);
 }

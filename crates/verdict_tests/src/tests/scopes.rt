@@ -1,19 +1,16 @@
 //! Scopes: assumptions that steps discharge.
-use super::gives;
-use super::suite::{ACCEPTED, OPEN, begins};
+use super::suite::{ACCEPTED, OPEN, Row, other_start};
+use super::{ASSERTS_FALSE, wrong};
 use eo_base::Status;
-
-const ASSERTS_FALSE: &[u8] = b"(assert false)\n";
 
 #[test]
 fn what_is_known_in_a_scope_ends_with_it(rt: HostRuntime) {
-    let rows = [
+    const ROWS: [Row<'static>; 13] = [
         // A fact of a closed scope.
         (
             b"(assume-push @a p)(step-pop @s (=> p p) :rule scope :premises (@a))
-              (step @x :rule contra :premises (@a @s))"
-                .as_slice(),
-            b"refused F24 UnknownPremise ".as_slice(),
+              (step @x :rule contra :premises (@a @s))",
+            b"refused F24 UnknownPremise ",
         ),
         // What the closing step concludes is a fact outside.
         (
@@ -81,17 +78,15 @@ fn what_is_known_in_a_scope_ends_with_it(rt: HostRuntime) {
             ACCEPTED,
         ),
     ];
-    for (commands, start) in rows {
-        assert!(&rt; begins(rt.alloc(), commands, start));
-    }
+    assert_eq!(rt; other_start(rt.alloc(), &ROWS), None);
 }
 
 #[test]
 fn commands_in_a_scope(rt: HostRuntime) {
-    let rows = [
+    const ROWS: [Row<'static>; 21] = [
         (
-            b"(assume-push @a p)(declare-const c Bool)".as_slice(),
-            b"refused F31 InScope ".as_slice(),
+            b"(assume-push @a p)(declare-const c Bool)",
+            b"refused F31 InScope ",
         ),
         (
             b"(assume-push @a p)(declare-const c zz)",
@@ -150,37 +145,37 @@ fn commands_in_a_scope(rt: HostRuntime) {
             b"refused F12 Redeclared ",
         ),
     ];
-    for (commands, start) in rows {
-        assert!(&rt; begins(rt.alloc(), commands, start));
-    }
+    assert_eq!(rt; other_start(rt.alloc(), &ROWS), None);
 }
 
 #[test]
 fn the_end_of_a_proof(rt: HostRuntime) {
-    let rows = [
+    const ROWS: [super::Row<'static>; 4] = [
         (
-            b"(assume-push @a false)".as_slice(),
-            b"refused F40 ScopeOpen p.eo:1:22\n".as_slice(),
+            ASSERTS_FALSE,
+            b"(assume-push @a false)",
+            b"refused F40 ScopeOpen p.eo:1:22\n",
             Status::Refused,
         ),
         (
+            ASSERTS_FALSE,
             b"(assume @p1 false)(assume-push @a true)",
             b"refused F40 ScopeOpen p.eo:1:39\n",
             Status::Refused,
         ),
         (
+            ASSERTS_FALSE,
             b"(declare-rule same ((F Bool)) :assumption F :conclusion F)(assume-push @a false)
               (step-pop @s :rule same)",
             b"correct\n",
             Status::Ok,
         ),
         (
+            ASSERTS_FALSE,
             b"(declare-rule drop ((F Bool)) :assumption F :conclusion true)(assume-push @a false)(step-pop @s :rule drop)",
             b"refused F41 NoRefutation p.eo:1:107\n",
             Status::Refused,
         ),
     ];
-    for (proof, line, status) in rows {
-        assert!(&rt; gives(rt.alloc(), ASSERTS_FALSE, proof, line, status));
-    }
+    assert_eq!(rt; wrong(rt.alloc(), &ROWS), None);
 }

@@ -3,6 +3,7 @@ use Rattle.std.specs.Prelude.{Ok}
 use Rattle.eo_base.specs.declared.FaultName.TheVariants.{Redeclared}
 use Rattle.eo_base.specs.Limits.{parameters_limit}
 use Rattle.eo_base.proofs.Answering.{fails}
+use Rattle.eo_term.proofs.Growing.{grows_refl, grows_on}
 use Rattle.eo_term.specs.Growth.{tree_in}
 use Rattle.eo_elab.specs.Declarations.{bind, unbound, defined, macro}
 use Rattle.eo_elab.specs.Declaring.{read_bound}
@@ -24,6 +25,9 @@ returns-then-len-gt-PARAMETERS-clause-gives c =
     let many : parameters_limit < length c.args.params.now = omega (arith, c.len.ensures, c.if-len-gt-PARAMETERS.true) in
     defined-many (context_in t c.args.sig.now) c.args.name.now c.args.params.now c.args.body.now (sym (c.may_declare.ensures t.trees) ∙ c.if-not-may_declare.false) many
 
+pub bind-requires-clause-few : goal.bind-requires-clause-few
+bind-requires-clause-few c = omega (arith, c.len.ensures, c.if-len-gt-PARAMETERS.false)
+
 pub returns-in_err-bound-clause-gives : goal.returns-in_err-bound-clause-gives
 returns-in_err-bound-clause-gives c =
     let t = c.args.table.now in
@@ -32,6 +36,9 @@ returns-in_err-bound-clause-gives c =
     let few : length shapes ≤ parameters_limit = omega (arith, c.len.ensures, c.if-len-gt-PARAMETERS.false) in
     let parts = defined-parts x c.args.name.now shapes c.args.body.now (sym (c.may_declare.ensures t.trees) ∙ c.if-not-may_declare.false) few in
     fails _ _ _ _ _ _ _ c.from_residual.ensures.1 (λ f e. parts ∙ then-err (body_read x c.args.name.now shapes c.args.body.now) (bind x unbound shapes) f e) c.in_err-bound.ensures.gives
+
+pub term-requires : goal.term-requires
+term-requires c = record { ready = c.in_ok-bound.ensures.gives.live.ready }
 
 pub returns-in_err-tree-clause-gives : goal.returns-in_err-tree-clause-gives
 returns-in_err-tree-clause-gives c =
@@ -66,3 +73,24 @@ returns-clause-gives c =
       is = parts ∙ then-ok (λ u. Ok (macro x c.args.name.now b.parameters u)) (meaning x b.locals body) tree (ap (λ y. meaning y b.locals body) (sym same) ∙ c.in_ok-tree.ensures.gives.is)
           ∙ (λ i. Ok (record { name = sym c.in_ok-new.ensures i; parameters = sym params i; tree = tree; from_reference = false }));
     }
+
+pub returns-in_err-tree-clause-grows : goal.returns-in_err-tree-clause-grows
+returns-in_err-tree-clause-grows c =
+    c.laws.ensures c.args.table.now c.term.new.table c.requires (grows_on c.args.table.now c.bind.new.table c.term.new.table c.in_ok-bound.ensures.grows c.in_err-tree.ensures.grows)
+
+pub returns-in_err-new-clause-grows : goal.returns-in_err-new-clause-grows
+returns-in_err-new-clause-grows c =
+    c.laws.ensures c.args.table.now c.term.new.table c.requires (grows_on c.args.table.now c.bind.new.table c.term.new.table c.in_ok-bound.ensures.grows c.in_ok-tree.ensures.grows)
+
+pub returns-clause-grows : goal.returns-clause-grows
+returns-clause-grows c =
+    c.laws.ensures c.args.table.now c.term.new.table c.requires (grows_on c.args.table.now c.bind.new.table c.term.new.table c.in_ok-bound.ensures.grows c.in_ok-tree.ensures.grows)
+
+pub returns-then-not-may_declare-clause-grows : goal.returns-then-not-may_declare-clause-grows
+returns-then-not-may_declare-clause-grows c = c.laws.ensures c.args.table.now c.args.table.now c.requires (grows_refl c.args.table.now)
+
+pub returns-then-len-gt-PARAMETERS-clause-grows : goal.returns-then-len-gt-PARAMETERS-clause-grows
+returns-then-len-gt-PARAMETERS-clause-grows c = c.laws.ensures c.args.table.now c.args.table.now c.requires (grows_refl c.args.table.now)
+
+pub returns-in_err-bound-clause-grows : goal.returns-in_err-bound-clause-grows
+returns-in_err-bound-clause-grows c = c.laws.ensures c.args.table.now c.bind.new.table c.requires c.in_err-bound.ensures.grows

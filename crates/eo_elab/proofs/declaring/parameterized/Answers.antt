@@ -7,6 +7,7 @@ use Rattle.eo_base.proofs.Answering.{fails}
 use Rattle.eo_shape.specs.Reading as forms
 use Rattle.eo_sig.specs.Reading.{read_attribute}
 use Rattle.eo_sig.specs.Signature.{Attribute, Constant}
+use Rattle.eo_term.proofs.Growing.{grows_refl, grows_on}
 use Rattle.eo_term.specs.Growth.{tree_in}
 use Rattle.eo_term.specs.Tree.{Tree}
 use Rattle.eo_elab.specs.Declarations.{declared_parameterized, constant, is_free_name, is_reference_name}
@@ -28,12 +29,21 @@ returns-then-len-gt-PARAMETERS-clause-gives c =
     let many : parameters_limit < length c.args.params.now = omega (arith, c.len.ensures, c.if-len-gt-PARAMETERS.true) in
     parameterized-many (context_in t c.args.sig.now) c.args.name.now c.args.params.now c.args.ty.now (forms.read_attribute c.args.attribute.now) (sym (c.is_free.ensures t.trees) ∙ c.if-not-is_free.false) many
 
+pub bind-requires-clause-few : goal.bind-requires-clause-few
+bind-requires-clause-few c = omega (arith, c.len.ensures, c.if-len-gt-PARAMETERS.false)
+
 pub returns-in_err-bound-clause-gives : goal.returns-in_err-bound-clause-gives
 returns-in_err-bound-clause-gives c =
     let t = c.args.table.now in
     let few : length c.args.params.now ≤ parameters_limit = omega (arith, c.len.ensures, c.if-len-gt-PARAMETERS.false) in
     fails _ _ _ _ _ _ _ c.from_residual.ensures.1
     (λ f e. parameterized-unbound (context_in t c.args.sig.now) c.args.name.now c.args.params.now c.args.ty.now (forms.read_attribute c.args.attribute.now) f (sym (c.is_free.ensures t.trees) ∙ c.if-not-is_free.false) few e) c.in_err-bound.ensures.gives
+
+pub typed_over-requires-clause-bound : goal.typed_over-requires-clause-bound
+typed_over-requires-clause-bound c = c.in_ok-bound.ensures.gives.live
+
+pub typed_over-requires-clause-few : goal.typed_over-requires-clause-few
+typed_over-requires-clause-few c = omega (arith, c.len.ensures, c.if-len-gt-PARAMETERS.false, c.in_ok-bound.ensures.count)
 
 pub returns-in_err-ty-clause-gives : goal.returns-in_err-ty-clause-gives
 returns-in_err-ty-clause-gives c =
@@ -75,3 +85,24 @@ returns-clause-named c =
     let t = c.args.table.now in
     let x = context_in t c.args.sig.now in
     ap (λ b. b || is_reference_name x c.in_ok-new.field-0) (ap (is_free_name x) c.in_ok-new.ensures ∙ sym (c.is_free.ensures t.trees) ∙ c.if-not-is_free.false)
+
+pub returns-in_err-ty-clause-grows : goal.returns-in_err-ty-clause-grows
+returns-in_err-ty-clause-grows c =
+    c.laws.ensures c.args.table.now c.typed_over.new.table c.requires (grows_on c.args.table.now c.bind.new.table c.typed_over.new.table c.in_ok-bound.ensures.grows c.in_err-ty.ensures.grows)
+
+pub returns-in_err-new-clause-grows : goal.returns-in_err-new-clause-grows
+returns-in_err-new-clause-grows c =
+    c.laws.ensures c.args.table.now c.typed_over.new.table c.requires (grows_on c.args.table.now c.bind.new.table c.typed_over.new.table c.in_ok-bound.ensures.grows c.in_ok-ty.ensures.grows)
+
+pub returns-clause-grows : goal.returns-clause-grows
+returns-clause-grows c =
+    c.laws.ensures c.args.table.now c.typed_over.new.table c.requires (grows_on c.args.table.now c.bind.new.table c.typed_over.new.table c.in_ok-bound.ensures.grows c.in_ok-ty.ensures.grows)
+
+pub returns-then-not-is_free-clause-grows : goal.returns-then-not-is_free-clause-grows
+returns-then-not-is_free-clause-grows c = c.laws.ensures c.args.table.now c.args.table.now c.requires (grows_refl c.args.table.now)
+
+pub returns-then-len-gt-PARAMETERS-clause-grows : goal.returns-then-len-gt-PARAMETERS-clause-grows
+returns-then-len-gt-PARAMETERS-clause-grows c = c.laws.ensures c.args.table.now c.args.table.now c.requires (grows_refl c.args.table.now)
+
+pub returns-in_err-bound-clause-grows : goal.returns-in_err-bound-clause-grows
+returns-in_err-bound-clause-grows c = c.laws.ensures c.args.table.now c.bind.new.table c.requires c.in_err-bound.ensures.grows

@@ -16,6 +16,9 @@ returns-in_err-patterns-clause-gives c =
     let many : (length s.patterns == c.args.inputs) ≡ true = same-count (length s.patterns) c.args.inputs (omega (arith, c.len.ensures, c.if-len-inputs.false)) in
     fails _ _ _ _ _ _ _ c.from_residual.ensures.1 (case-no-patterns w.names w.locals c.args.inputs s many) c.in_err-patterns.ensures.gives
 
+pub mean_term-requires : goal.mean_term-requires
+mean_term-requires c = record { ready = (c.names_law.ensures.stays c.args.sig.now c.args.locals.now c.args.table.now c.mean_terms.new.table c.requires.ready c.in_ok-patterns.ensures.grows).ready }
+
 pub returns-in_err-body-clause-gives : goal.returns-in_err-body-clause-gives
 returns-in_err-body-clause-gives c =
     let t = c.args.table.now in

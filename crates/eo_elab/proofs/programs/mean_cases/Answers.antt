@@ -1,12 +1,12 @@
-use Rattle.std.proofs.Common.{◌≡◌, ◌++◌, [], ◌∷◌, length, map, All, arith, rules, ap, sym, subst, ◌∙◌}
+use Rattle.std.proofs.Common.{◌≡◌, ◌++◌, [], ◌∷◌, length, map, All, ap, sym, subst, ◌∙◌}
 use Rattle.std.specs.Prelude.{Ok}
-use Rattle.std.proofs.lemmas.Grind.{common_steps}
 use Rattle.std.proofs.lemmas.List.{map-append}
 use Rattle.std.proofs.lemmas.List.Elements.{All-nil, All-append, All-cons}
 use Rattle.eo_base.proofs.ChecksLemmas.{behind, behind-none}
 use Rattle.eo_base.proofs.Answering.{fails}
 use Rattle.eo_shape.specs.Reading.{read_case as read_shape}
 use Rattle.eo_sig.specs.Reading.{read_case, CaseBelow}
+use Rattle.eo_term.proofs.Growing.{grows_refl, grows_on}
 use Rattle.eo_names.specs.Worlds.{World, world_of}
 use Rattle.eo_elab.specs.Worlds.{case_in, cases_in}
 use Rattle.eo_elab.proofs.ProgramLemmas.{cases-next, cases-refused, cases-end, cases-grown, cases-more}
@@ -21,7 +21,7 @@ loop-shape-init c =
     record {
       left = sym (ap (λ ks. behind (map (read_case t.trees) ks) (cases_in w c.args.inputs left)) c.new-cases.ensures ∙ behind-none (cases_in w c.args.inputs left) ∙ ap (cases_in w c.args.inputs) all);
       live = subst (All (CaseBelow (length t.trees))) (sym c.new-cases.ensures) (All-nil (CaseBelow (length t.trees)));
-      grows = grind (arith, common_steps);
+      grows = grows_refl t;
     }
 
 pub mean_case-requires : goal.mean_case-requires
@@ -54,7 +54,7 @@ loop-shape-preserved c =
     record {
       left = step ∙ sym (cases-next w.names w.locals c.args.inputs done s c.next.new.self k own) ∙ ap (λ ks. behind ks (cases_in w c.args.inputs c.next.new.self)) (sym more);
       live = subst (All (CaseBelow (length new.trees))) (sym c.in_ok-push.ensures.pushed) (All-append (CaseBelow (length new.trees)) c.loop-shape.cases (c.in_ok-case.case ∷ []) before (All-cons (CaseBelow (length new.trees)) c.in_ok-case.case [] c.in_ok-case.ensures.gives.live (All-nil (CaseBelow (length new.trees)))));
-      grows = search rules;
+      grows = grows_on c.args.table.now now new c.loop-shape.invariant.grows c.mean_case.ensures.grows;
     }
 
 pub returns-clause-gives : goal.returns-clause-gives
@@ -65,3 +65,9 @@ returns-clause-gives c =
       live = c.loop-shape.invariant.live;
       is = c.loop-shape.invariant.left ∙ ap (λ ss. behind done (cases_in w c.args.inputs ss)) c.in-None.ensures.steps.0 ∙ cases-end w.names w.locals c.args.inputs done;
     }
+
+pub returns-in_err-case-clause-grows : goal.returns-in_err-case-clause-grows
+returns-in_err-case-clause-grows c = grows_on c.args.table.now c.loop-shape.table c.mean_case.new.table c.loop-shape.invariant.grows c.in_err-case.ensures.grows
+
+pub returns-in_err-push-clause-grows : goal.returns-in_err-push-clause-grows
+returns-in_err-push-clause-grows c = grows_on c.args.table.now c.loop-shape.table c.mean_case.new.table c.loop-shape.invariant.grows c.in_ok-case.ensures.grows

@@ -1,9 +1,10 @@
-use Rattle.std.proofs.Common.{length, map, All, arith, rules, ap, sym, subst, ◌∙◌}
+use Rattle.std.proofs.Common.{length, map, All, arith, ap, sym, subst, ◌∙◌}
 use Rattle.std.proofs.lemmas.List.Elements.{All-nil}
 use Rattle.eo_base.proofs.Answering.{fails}
 use Rattle.eo_shape.specs.Reading.{read_program}
 use Rattle.eo_sig.specs.Reading.{read_case, CaseBelow}
-use Rattle.eo_term.specs.Growth.{tree_in, trees_in, Grows}
+use Rattle.eo_term.proofs.Growing.{grows_on}
+use Rattle.eo_term.specs.Growth.{tree_in, trees_in}
 use Rattle.eo_names.specs.Worlds.{World}
 use Rattle.eo_elab.specs.Declarations.{with_cases}
 use Rattle.eo_elab.specs.Declaring.{read_bound}
@@ -31,14 +32,16 @@ pub term-requires : goal.term-requires
 term-requires c = record { ready = (c.names_law.ensures.stays c.args.sig.now c.args.bound.locals c.args.table.now c.meanings.new.table c.requires.bound.ready c.in_ok-types.ensures.grows).ready }
 
 pub with_cases-requires-clause-ready : goal.with_cases-requires-clause-ready
-with_cases-requires-clause-ready c = (c.names_law.ensures.stays c.args.sig.now c.args.bound.locals c.args.table.now c.term.new.table c.requires.bound.ready (search rules)).ready
+with_cases-requires-clause-ready c =
+    let all = grows_on c.args.table.now c.meanings.new.table c.term.new.table c.in_ok-types.ensures.grows c.in_ok-output.ensures.grows in
+    (c.names_law.ensures.stays c.args.sig.now c.args.bound.locals c.args.table.now c.term.new.table c.requires.bound.ready all).ready
 
 pub with_cases-requires-clause-head : goal.with_cases-requires-clause-head
 with_cases-requires-clause-head c =
     let t = c.args.table.now in
     let us = c.meanings.new.table in
     let vs = c.term.new.table in
-    let all : Grows t vs = search rules in
+    let all = grows_on t us vs c.in_ok-types.ensures.grows c.in_ok-output.ensures.grows in
     record {
       params = parameters-more (length t.trees) (length vs.trees) c.args.bound.params all.now.more_trees c.requires.bound.params;
       inputs = ids-more (length us.trees) (length vs.trees) c.in_ok-types.types c.in_ok-output.ensures.grows.now.more_trees c.in_ok-types.ensures.gives.live;
@@ -55,7 +58,7 @@ returns-clause-gives c =
     let k = c.args.sig.now in
     let x = context_in t k in
     let b = read_bound t.trees c.args.bound in
-    let all : Grows t vs = search rules in
+    let all = grows_on t us vs c.in_ok-types.ensures.grows c.in_ok-output.ensures.grows in
     let first = (c.names_law.ensures.stays k c.args.bound.locals t us c.requires.bound.ready c.in_ok-types.ensures.grows).world in
     let last = (c.names_law.ensures.stays k c.args.bound.locals t vs c.requires.bound.ready all).world in
     let ts = trees_in us c.in_ok-types.types in
@@ -66,3 +69,14 @@ returns-clause-gives c =
     subst (GivesProgram c.with_cases.new.table c.with_cases.result)
     (sym (parts ∙ (λ i. with_cases (sym last i).names (sym last i).locals (record { name = sym c.in_ok-new.ensures i; parameters = sym params i; inputs = sym inputs i; output = o; cases = map (read_case vs.trees) (sym c.new-2.ensures i) }) c.args.shape.now.cases)))
     c.with_cases.ensures.gives
+
+pub returns-in_err-output-clause-grows : goal.returns-in_err-output-clause-grows
+returns-in_err-output-clause-grows c = grows_on c.args.table.now c.meanings.new.table c.term.new.table c.in_ok-types.ensures.grows c.in_err-output.ensures.grows
+
+pub returns-in_err-new-clause-grows : goal.returns-in_err-new-clause-grows
+returns-in_err-new-clause-grows c = grows_on c.args.table.now c.meanings.new.table c.term.new.table c.in_ok-types.ensures.grows c.in_ok-output.ensures.grows
+
+pub returns-clause-grows : goal.returns-clause-grows
+returns-clause-grows c =
+    let all = grows_on c.args.table.now c.meanings.new.table c.term.new.table c.in_ok-types.ensures.grows c.in_ok-output.ensures.grows in
+    grows_on c.args.table.now c.term.new.table c.with_cases.new.table all c.with_cases.ensures.grows

@@ -1,6 +1,7 @@
 use Rattle.std.proofs.Common.{length, ap, sym, ◌∙◌}
 use Rattle.std.specs.Prelude.{Ok, true}
 use Rattle.eo_base.proofs.Answering.{fails}
+use Rattle.eo_term.proofs.Growing.{grows_on}
 use Rattle.eo_term.specs.Growth.{tree_in}
 use Rattle.eo_elab.specs.Declaring.{read_bound}
 use Rattle.eo_elab.specs.Worlds.{reference_context, meaning_in, in_setting}
@@ -14,6 +15,9 @@ pub returns-in_err-term_at-clause-gives : goal.returns-in_err-term_at-clause-giv
 returns-in_err-term_at-clause-gives c =
     let t = c.args.table.now in
     fails _ _ _ _ _ _ _ c.from_residual.ensures.1 (macro-no-type (reference_context t c.args.sig.now) c.args.name.now c.args.output.now c.args.body.now (read_bound t.trees c.args.bound)) c.in_err-term_at.ensures.gives
+
+pub term_at-requires-2 : goal.term_at-requires-2
+term_at-requires-2 c = record { ready = (c.names_law.ensures.stays c.args.sig.now c.args.bound.locals c.args.table.now c.term_at.new.table c.requires.bound.ready c.in_ok-term_at.ensures.grows).ready }
 
 pub returns-in_err-tree-clause-gives : goal.returns-in_err-tree-clause-gives
 returns-in_err-tree-clause-gives c =
@@ -39,3 +43,18 @@ returns-clause-gives c =
       is = macro-whole (reference_context t k) c.args.name.now c.args.output.now c.args.body.now (read_bound t.trees c.args.bound) _ c.in_ok-term_at.ensures.gives.is (tree_in vs c.in_ok-tree.tree) (ap (λ (u : World). meaning_in u c.args.body.now) (sym same) ∙ c.in_ok-tree.ensures.gives.is)
           ∙ (λ i. Ok (record { name = sym c.in_ok-new.ensures i; parameters = sym params i; tree = tree_in vs c.in_ok-tree.tree; from_reference = true }));
     }
+
+pub returns-in_err-tree-clause-grows : goal.returns-in_err-tree-clause-grows
+returns-in_err-tree-clause-grows c =
+    let all = grows_on c.args.table.now c.term_at.new.table c.term_at-2.new.table c.in_ok-term_at.ensures.grows c.in_err-tree.ensures.grows in
+    c.laws.ensures c.args.table.now c.term_at-2.new.table c.requires.bound.ready.below all
+
+pub returns-in_err-new-clause-grows : goal.returns-in_err-new-clause-grows
+returns-in_err-new-clause-grows c =
+    let all = grows_on c.args.table.now c.term_at.new.table c.term_at-2.new.table c.in_ok-term_at.ensures.grows c.in_ok-tree.ensures.grows in
+    c.laws.ensures c.args.table.now c.term_at-2.new.table c.requires.bound.ready.below all
+
+pub returns-clause-grows : goal.returns-clause-grows
+returns-clause-grows c =
+    let all = grows_on c.args.table.now c.term_at.new.table c.term_at-2.new.table c.in_ok-term_at.ensures.grows c.in_ok-tree.ensures.grows in
+    c.laws.ensures c.args.table.now c.term_at-2.new.table c.requires.bound.ready.below all

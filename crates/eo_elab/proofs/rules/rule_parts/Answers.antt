@@ -1,9 +1,10 @@
-use Rattle.std.proofs.Common.{length, map, ap, sym, ◌∙◌, rules}
+use Rattle.std.proofs.Common.{length, map, ap, sym, ◌∙◌}
 use Rattle.std.specs.Prelude.{Ok, option_map}
 use Rattle.eo_base.proofs.Answering.{fails}
 use Rattle.eo_shape.specs.Reading.{read_rule}
+use Rattle.eo_term.proofs.Growing.{grows_on}
 use Rattle.eo_sig.specs.Reading.{read_pair}
-use Rattle.eo_term.specs.Growth.{tree_in, trees_in, Grows}
+use Rattle.eo_term.specs.Growth.{tree_in, trees_in}
 use Rattle.eo_term.specs.Terms.{tree_at}
 use Rattle.eo_names.specs.Worlds.{World, world_of}
 use Rattle.eo_elab.specs.Worlds.{meaning_in, meanings_in}
@@ -13,16 +14,34 @@ use Rattle.eo_elab.proofs.RuleLemmas.{parts-no-assumed, parts-no-premises, parts
 use Rattle.eo_elab.proofs.rules.rule_parts.Goals as goal
 
 pub premises-requires : goal.premises-requires
-premises-requires c = record { ready = (c.names_law.ensures.stays c.args.sig.now c.args.locals.now c.args.table.now c.optional.new.table c.requires.ready (search rules)).ready }
+premises-requires c = record { ready = (c.names_law.ensures.stays c.args.sig.now c.args.locals.now c.args.table.now c.optional.new.table c.requires.ready c.in_ok-assumption.ensures.grows).ready }
 
 pub meanings-requires : goal.meanings-requires
-meanings-requires c = record { ready = (c.names_law.ensures.stays c.args.sig.now c.args.locals.now c.args.table.now c.premises.new.table c.requires.ready (search rules)).ready }
+meanings-requires c =
+    let t = c.args.table.now in
+    let t1 = c.optional.new.table in
+    let t2 = c.premises.new.table in
+    record { ready = (c.names_law.ensures.stays c.args.sig.now c.args.locals.now t t2 c.requires.ready (grows_on t t1 t2 c.in_ok-assumption.ensures.grows c.in_ok-premises.ensures.grows)).ready }
 
 pub requirements-requires : goal.requirements-requires
-requirements-requires c = record { ready = (c.names_law.ensures.stays c.args.sig.now c.args.locals.now c.args.table.now c.meanings.new.table c.requires.ready (search rules)).ready }
+requirements-requires c =
+    let t = c.args.table.now in
+    let t1 = c.optional.new.table in
+    let t2 = c.premises.new.table in
+    let t3 = c.meanings.new.table in
+    let g2 = grows_on t t1 t2 c.in_ok-assumption.ensures.grows c.in_ok-premises.ensures.grows in
+    record { ready = (c.names_law.ensures.stays c.args.sig.now c.args.locals.now t t3 c.requires.ready (grows_on t t2 t3 g2 c.in_ok-args.ensures.grows)).ready }
 
 pub term-requires : goal.term-requires
-term-requires c = record { ready = (c.names_law.ensures.stays c.args.sig.now c.args.locals.now c.args.table.now c.requirements.new.table c.requires.ready (search rules)).ready }
+term-requires c =
+    let t = c.args.table.now in
+    let t1 = c.optional.new.table in
+    let t2 = c.premises.new.table in
+    let t3 = c.meanings.new.table in
+    let t4 = c.requirements.new.table in
+    let g2 = grows_on t t1 t2 c.in_ok-assumption.ensures.grows c.in_ok-premises.ensures.grows in
+    let g3 = grows_on t t2 t3 g2 c.in_ok-args.ensures.grows in
+    record { ready = (c.names_law.ensures.stays c.args.sig.now c.args.locals.now t t4 c.requires.ready (grows_on t t3 t4 g3 c.in_ok-requirements.ensures.grows)).ready }
 
 pub returns-in_err-assumption-clause-gives : goal.returns-in_err-assumption-clause-gives
 returns-in_err-assumption-clause-gives c =
@@ -35,7 +54,7 @@ returns-in_err-premises-clause-gives c =
     let w = world_of t c.args.sig.now c.args.locals.now in
     let s = read_rule c.args.shape.now in
     let t1 = c.optional.new.table in
-    let g1 : Grows t t1 = search rules in
+    let g1 = c.in_ok-assumption.ensures.grows in
     let w1 = (c.names_law.ensures.stays c.args.sig.now c.args.locals.now t t1 c.requires.ready g1).world in
     fails _ _ _ _ _ _ _ c.from_residual-in_err-premises.ensures.1
     (λ f e. parts-no-premises w.names w.locals s _ c.in_ok-assumption.ensures.gives.is f (ap (λ (u : World). premises_in u s.premises) (sym w1) ∙ e)) c.in_err-premises.ensures.gives
@@ -47,8 +66,8 @@ returns-in_err-args-clause-gives c =
     let s = read_rule c.args.shape.now in
     let t1 = c.optional.new.table in
     let t2 = c.premises.new.table in
-    let g1 : Grows t t1 = search rules in
-    let g2 : Grows t t2 = search rules in
+    let g1 = c.in_ok-assumption.ensures.grows in
+    let g2 = grows_on t t1 t2 g1 c.in_ok-premises.ensures.grows in
     let w1 = (c.names_law.ensures.stays c.args.sig.now c.args.locals.now t t1 c.requires.ready g1).world in
     let w2 = (c.names_law.ensures.stays c.args.sig.now c.args.locals.now t t2 c.requires.ready g2).world in
     fails _ _ _ _ _ _ _ c.from_residual-in_err-args.ensures.1
@@ -62,9 +81,9 @@ returns-in_err-requirements-clause-gives c =
     let t1 = c.optional.new.table in
     let t2 = c.premises.new.table in
     let t3 = c.meanings.new.table in
-    let g1 : Grows t t1 = search rules in
-    let g2 : Grows t t2 = search rules in
-    let g3 : Grows t t3 = search rules in
+    let g1 = c.in_ok-assumption.ensures.grows in
+    let g2 = grows_on t t1 t2 g1 c.in_ok-premises.ensures.grows in
+    let g3 = grows_on t t2 t3 g2 c.in_ok-args.ensures.grows in
     let w1 = (c.names_law.ensures.stays c.args.sig.now c.args.locals.now t t1 c.requires.ready g1).world in
     let w2 = (c.names_law.ensures.stays c.args.sig.now c.args.locals.now t t2 c.requires.ready g2).world in
     let w3 = (c.names_law.ensures.stays c.args.sig.now c.args.locals.now t t3 c.requires.ready g3).world in
@@ -81,10 +100,10 @@ returns-in_err-conclusion-clause-gives c =
     let t2 = c.premises.new.table in
     let t3 = c.meanings.new.table in
     let t4 = c.requirements.new.table in
-    let g1 : Grows t t1 = search rules in
-    let g2 : Grows t t2 = search rules in
-    let g3 : Grows t t3 = search rules in
-    let g4 : Grows t t4 = search rules in
+    let g1 = c.in_ok-assumption.ensures.grows in
+    let g2 = grows_on t t1 t2 g1 c.in_ok-premises.ensures.grows in
+    let g3 = grows_on t t2 t3 g2 c.in_ok-args.ensures.grows in
+    let g4 = grows_on t t3 t4 g3 c.in_ok-requirements.ensures.grows in
     let w1 = (c.names_law.ensures.stays c.args.sig.now c.args.locals.now t t1 c.requires.ready g1).world in
     let w2 = (c.names_law.ensures.stays c.args.sig.now c.args.locals.now t t2 c.requires.ready g2).world in
     let w3 = (c.names_law.ensures.stays c.args.sig.now c.args.locals.now t t3 c.requires.ready g3).world in
@@ -104,18 +123,18 @@ returns-clause-gives c =
     let t3 = c.meanings.new.table in
     let t4 = c.requirements.new.table in
     let t5 = c.term.new.table in
-    let g1 : Grows t t1 = search rules in
-    let g2 : Grows t t2 = search rules in
-    let g3 : Grows t t3 = search rules in
-    let g4 : Grows t t4 = search rules in
+    let g1 = c.in_ok-assumption.ensures.grows in
+    let g2 = grows_on t t1 t2 g1 c.in_ok-premises.ensures.grows in
+    let g3 = grows_on t t2 t3 g2 c.in_ok-args.ensures.grows in
+    let g4 = grows_on t t3 t4 g3 c.in_ok-requirements.ensures.grows in
     let w1 = (c.names_law.ensures.stays c.args.sig.now c.args.locals.now t t1 c.requires.ready g1).world in
     let w2 = (c.names_law.ensures.stays c.args.sig.now c.args.locals.now t t2 c.requires.ready g2).world in
     let w3 = (c.names_law.ensures.stays c.args.sig.now c.args.locals.now t t3 c.requires.ready g3).world in
     let w4 = (c.names_law.ensures.stays c.args.sig.now c.args.locals.now t t4 c.requires.ready g4).world in
-    let l1 : Grows t1 t5 = search rules in
-    let l2 : Grows t2 t5 = search rules in
-    let l3 : Grows t3 t5 = search rules in
-    let l4 : Grows t4 t5 = search rules in
+    let l4 = c.in_ok-conclusion.ensures.grows in
+    let l3 = grows_on t3 t4 t5 c.in_ok-requirements.ensures.grows l4 in
+    let l2 = grows_on t2 t3 t5 c.in_ok-args.ensures.grows l3 in
+    let l1 = grows_on t1 t2 t5 c.in_ok-premises.ensures.grows l2 in
     let o = c.in_ok-assumption.assumption in
     let p = c.in_ok-premises.premises in
     let is = c.in_ok-args.args in
@@ -144,3 +163,41 @@ returns-clause-gives c =
           last (ap (λ (u : World). meaning_in u s.conclusion) (sym w4) ∙ c.in_ok-conclusion.ensures.gives.is)
           ∙ (λ i. Ok (record { assumed = sym assumed i; premises = sym meant i; arguments = sym args i; requirements = sym pairs i; conclusion = last }));
     }
+
+pub returns-in_err-args-clause-grows : goal.returns-in_err-args-clause-grows
+returns-in_err-args-clause-grows c =
+    let t = c.args.table.now in
+    let t1 = c.optional.new.table in
+    let t2 = c.premises.new.table in
+    grows_on t t2 c.meanings.new.table (grows_on t t1 t2 c.in_ok-assumption.ensures.grows c.in_ok-premises.ensures.grows) c.in_err-args.ensures.grows
+
+pub returns-in_err-requirements-clause-grows : goal.returns-in_err-requirements-clause-grows
+returns-in_err-requirements-clause-grows c =
+    let t = c.args.table.now in
+    let t1 = c.optional.new.table in
+    let t2 = c.premises.new.table in
+    let t3 = c.meanings.new.table in
+    let g2 = grows_on t t1 t2 c.in_ok-assumption.ensures.grows c.in_ok-premises.ensures.grows in
+    grows_on t t3 c.requirements.new.table (grows_on t t2 t3 g2 c.in_ok-args.ensures.grows) c.in_err-requirements.ensures.grows
+
+pub returns-in_err-conclusion-clause-grows : goal.returns-in_err-conclusion-clause-grows
+returns-in_err-conclusion-clause-grows c =
+    let t = c.args.table.now in
+    let t1 = c.optional.new.table in
+    let t2 = c.premises.new.table in
+    let t3 = c.meanings.new.table in
+    let t4 = c.requirements.new.table in
+    let g2 = grows_on t t1 t2 c.in_ok-assumption.ensures.grows c.in_ok-premises.ensures.grows in
+    let g3 = grows_on t t2 t3 g2 c.in_ok-args.ensures.grows in
+    grows_on t t4 c.term.new.table (grows_on t t3 t4 g3 c.in_ok-requirements.ensures.grows) c.in_err-conclusion.ensures.grows
+
+pub returns-clause-grows : goal.returns-clause-grows
+returns-clause-grows c =
+    let t = c.args.table.now in
+    let t1 = c.optional.new.table in
+    let t2 = c.premises.new.table in
+    let t3 = c.meanings.new.table in
+    let t4 = c.requirements.new.table in
+    let g2 = grows_on t t1 t2 c.in_ok-assumption.ensures.grows c.in_ok-premises.ensures.grows in
+    let g3 = grows_on t t2 t3 g2 c.in_ok-args.ensures.grows in
+    grows_on t t4 c.term.new.table (grows_on t t3 t4 g3 c.in_ok-requirements.ensures.grows) c.in_ok-conclusion.ensures.grows

@@ -1,11 +1,11 @@
-use Rattle.std.proofs.Common.{◌≡◌, ◌<◌, ◌++◌, [], ◌∷◌, length, All, refl, arith, rules, ap, sym, subst, ◌∙◌}
+use Rattle.std.proofs.Common.{◌≡◌, ◌<◌, ◌++◌, [], ◌∷◌, length, All, refl, arith, ap, sym, subst, ◌∙◌}
 use Rattle.std.specs.Prelude.{Ok}
-use Rattle.std.proofs.lemmas.Grind.{common_steps}
 use Rattle.std.proofs.lemmas.List.{length-append}
 use Rattle.std.proofs.lemmas.List.Elements.{All-nil}
 use Rattle.eo_base.proofs.ChecksLemmas.{behind, behind-none}
 use Rattle.eo_base.proofs.Answering.{fails}
 use Rattle.eo_base.proofs.Elements.{push_same, push_below}
+use Rattle.eo_term.proofs.Growing.{grows_refl, grows_on}
 use Rattle.eo_term.specs.Terms.{tree_at}
 use Rattle.eo_term.specs.Growth.{tree_in, trees_in}
 use Rattle.eo_names.specs.Scopes.{read_setting}
@@ -26,7 +26,7 @@ loop-s-init c =
       count = omega (arith, none, whole);
       left = sym (ap (λ ids. behind (trees_in t ids) (meanings_in w left)) c.new-ids.ensures ∙ behind-none (meanings_in w left) ∙ ap (meanings_in w) all);
       live = subst (All (λ i. i < length t.trees)) (sym c.new-ids.ensures) (All-nil (λ i. i < length t.trees));
-      grows = grind (arith, common_steps);
+      grows = grows_refl t;
     }
 
 pub mean_term-requires : goal.mean_term-requires
@@ -60,7 +60,7 @@ loop-s-preserved c =
       count = omega (arith, long, first, c.loop-s.invariant.count);
       left = step ∙ sym (meanings-next w.names w.locals done s c.next.new.self (tree_in new id) own) ∙ ap (λ us. behind us (meanings_in w c.next.new.self)) (sym more);
       live = subst (All (λ i. i < length new.trees)) (sym c.in_ok-push.ensures.pushed) (push_below (length now.trees) (length new.trees) id c.loop-s.ids c.mean_term.ensures.grows.now.more_trees c.in_ok-id.ensures.gives.live c.loop-s.invariant.live);
-      grows = search rules;
+      grows = grows_on c.args.table.now now new c.loop-s.invariant.grows c.mean_term.ensures.grows;
     }
 
 pub returns-clause-gives : goal.returns-clause-gives
@@ -73,3 +73,9 @@ pub returns-clause-count : goal.returns-clause-count
 returns-clause-count c =
     let none = ap length c.in-None.ensures.steps.0 in
     omega (arith, none, c.loop-s.invariant.count)
+
+pub returns-in_err-id-clause-grows : goal.returns-in_err-id-clause-grows
+returns-in_err-id-clause-grows c = grows_on c.args.table.now c.loop-s.table c.mean_term.new.table c.loop-s.invariant.grows c.in_err-id.ensures.grows
+
+pub returns-in_err-push-clause-grows : goal.returns-in_err-push-clause-grows
+returns-in_err-push-clause-grows c = grows_on c.args.table.now c.loop-s.table c.mean_term.new.table c.loop-s.invariant.grows c.in_ok-id.ensures.grows

@@ -7,6 +7,7 @@ use Rattle.eo_base.proofs.Answering.{fails, tells_on}
 use Rattle.eo_base.proofs.Elements.{push_same, push_below}
 use Rattle.eo_sexp.specs.Sexp.{Next, sexp_span}
 use Rattle.eo_sexp.specs.Sizes.{size, size_of_all}
+use Rattle.eo_term.proofs.Growing.{grows_refl, grows_on}
 use Rattle.eo_term.specs.Terms.{tree_at}
 use Rattle.eo_term.specs.Growth.{tree_in, trees_in}
 use Rattle.eo_names.specs.declared.scope.Scope.{the_lemmas}
@@ -20,7 +21,7 @@ use Rattle.eo_elab.specs.Gives.{GivesTerm, GivesTerms, atom_told}
 use Rattle.eo_names.specs.Names.{Binding, binding_local, read_pairs, BindingsBelow}
 use Rattle.eo_names.specs.Refused.{told}
 use Rattle.eo_names.specs.Scopes.{bound_in, setting_in}
-use Rattle.eo_names.specs.Usage.{made_of}
+use Rattle.eo_names.specs.Usage.{made_of, Suits}
 use Rattle.eo_names.specs.Ready.{IsReady}
 use Rattle.eo_names.specs.Worlds.{World, world, made_in, bound_list_in}
 use Rattle.eo_elab.specs.Worlds.{place, labels_in, annotated_in, label_by, sexps, term_in, list_in, parts_in, application_in, form_in, headed_in, applied_in, use_in, all_in, let_in, binder_in, pairs_in, more_pairs_in}
@@ -217,7 +218,7 @@ mean_all-loop-s-preserved t c =
       live = subst (λ is. All (λ i. i < length us) is) (sym c.in_ok-push.ensures.pushed) (push_below (length now) (length us) id c.loop-s.ids c.mean.ensures.grows.now.more_trees c.in_ok-id.ensures.gives.live c.loop-s.invariant.live);
       count = omega (arith, long, first, c.loop-s.invariant.count);
       smaller = omega (arith, whole, c.loop-s.invariant.smaller);
-      grows = search rules;
+      grows = grows_on c.args.table.now c.loop-s.table c.mean.new.table c.loop-s.invariant.grows c.mean.ensures.grows;
       labels = names_join _ _ _ _ _ c.loop-s.invariant.labels c.mean.ensures.labels;
     }
 
@@ -312,7 +313,7 @@ mean_bound-mean_all-requires t c =
     let ls = bound_in c.args.scope.now in
     let vs = c.bind.new.table.trees in
     let bs = c.bind.new.names in
-    let still = (c.names_law.ensures.stays sig (bound_in c.args.scope.now) c.args.table.now c.bind.new.table c.requires.ready (search rules)).ready in
+    let still = (c.names_law.ensures.stays sig (bound_in c.args.scope.now) c.args.table.now c.bind.new.table c.requires.ready (grows_on c.args.table.now c.mean_pairs.new.table c.bind.new.table c.mean_pairs.ensures.grows c.bind.ensures.grows)).ready in
     let pushed : c.push.new.self ≡ c.in_ok-list.list ∷ [] = c.in_ok-push.ensures.pushed ∙ ap (λ is. is ++ c.in_ok-list.list ∷ []) c.new-ids.ensures in
     let ready : IsReady (length vs) sig (map binding_local bs ++ ls) = record { below = still.below; names = (c.names_law.ensures.inside bs ls).below (length vs) c.in_ok-list.ensures.below still.names } in
     let small = ap size_of_all (one_given c.args.args.now c.in-Some.pairs c.in-Some.others c.in-Some.ensures) in (
@@ -339,7 +340,7 @@ mean_bound-returns-clause-gives t c =
     let ps = read_pairs next.trees c.in_ok-names.names in
     let last = c.bind.new.table in
     let first = tree_in last c.in_ok-list.list in
-    let then = place_stays scope _ _ _ (c.names_law.ensures.stays sig (bound_in scope) c.args.table.now last c.requires.ready (search rules)) in
+    let then = place_stays scope _ _ _ (c.names_law.ensures.stays sig (bound_in scope) c.args.table.now last c.requires.ready (grows_on c.args.table.now c.mean_pairs.new.table c.bind.new.table c.mean_pairs.ensures.grows c.bind.ensures.grows)) in
     let bs = c.bind.new.names in
     let others = c.in-Some.others in
     let pushed : c.push.new.self ≡ c.in_ok-list.list ∷ [] = c.in_ok-push.ensures.pushed ∙ ap (λ is. is ++ c.in_ok-list.list ∷ []) c.new-ids.ensures in
@@ -418,7 +419,7 @@ mean_pairs-loop-pair-init t c =
           ∙ ap (λ ss. more_pairs_in w (sexps ss) (read_pairs ts c.new-names.result) here) (sym all);
       live = subst (BindingsBelow (length ts)) (sym c.new-names.ensures) (All-nil (λ (b : Binding). b.1 < length ts));
       smaller = subst (λ ss. size_of_all ss < size c.args.pairs.now) (sym all) smaller;
-      grows = grind (arith, common_steps);
+      grows = grows_refl c.args.table.now;
       labels = names_same c.args.table.now c.args.labels.now c.requires.labels;
     }
 
@@ -456,7 +457,7 @@ mean_pairs-loop-pair-preserved t c =
       left = step ∙ ap (λ (u : World). more_pairs_in u (Next pair rest) before now_labels) (sym same) ∙ c.in_ok-mean_pair.ensures.adds.pairs rest ∙ ap (λ (u : World). more_pairs_in u rest more next_labels) same;
       live = c.in_ok-mean_pair.ensures.adds.live;
       smaller = omega (arith, whole, c.loop-pair.invariant.smaller);
-      grows = search rules;
+      grows = grows_on c.args.table.now c.loop-pair.table c.mean_pair.new.table c.loop-pair.invariant.grows c.mean_pair.ensures.grows;
       labels = names_join _ _ _ _ _ c.loop-pair.invariant.labels c.mean_pair.ensures.labels;
     }
 
@@ -553,7 +554,7 @@ mean_all-loop-s-init t c =
       live = c.requires.before;
       count = omega (arith, whole);
       smaller = omega (arith, small);
-      grows = grind (arith, common_steps);
+      grows = grows_refl c.args.table.now;
       labels = names_same c.args.table.now c.args.labels.now c.requires.labels;
     }
 
@@ -621,3 +622,76 @@ mean_annotated-returns-in_err-label-clause-labels t c = names_join _ _ _ _ _ c.m
 
 pub mean_annotated-returns-clause-labels : goal.mean_annotated-returns-clause-labels
 mean_annotated-returns-clause-labels t c = names_join _ _ _ _ _ c.mean.ensures.labels (c.label.ensures.grows c.mean.new.table c.in_ok-id.ensures.gives.live c.mean.ensures.labels.below)
+
+pub mean_use-use_arguments-requires-clause-ready : goal.mean_use-use_arguments-requires-clause-ready
+mean_use-use_arguments-requires-clause-ready t c = (c.names_law.ensures.stays c.args.sig.now (bound_in c.args.scope.now) c.args.table.now c.mean_arguments.new.table c.requires.ready c.mean_arguments.ensures.grows).ready
+
+pub mean_use-use_arguments-requires-clause-suits : goal.mean_use-use_arguments-requires-clause-suits
+mean_use-use_arguments-requires-clause-suits t c = subst (λ is. Suits c.args.used.now (length is)) (sym c.as_slice.ensures) (c.in_ok-ids.ensures.suits c.requires.suits)
+
+pub mean_head-returns-clause-grows : goal.mean_head-returns-clause-grows
+mean_head-returns-clause-grows t c = grows_on c.args.table.now c.mean.new.table c.mean_use.new.table c.mean.ensures.grows c.mean_use.ensures.grows
+
+pub mean_use-returns-clause-grows : goal.mean_use-returns-clause-grows
+mean_use-returns-clause-grows t c = grows_on c.args.table.now c.mean_arguments.new.table c.use_arguments.new.table c.mean_arguments.ensures.grows c.use_arguments.ensures.grows
+
+pub mean_all-returns-in_err-id-clause-grows : goal.mean_all-returns-in_err-id-clause-grows
+mean_all-returns-in_err-id-clause-grows t c = grows_on c.args.table.now c.loop-s.table c.mean.new.table c.loop-s.invariant.grows c.mean.ensures.grows
+
+pub mean_all-returns-in_err-push-clause-grows : goal.mean_all-returns-in_err-push-clause-grows
+mean_all-returns-in_err-push-clause-grows t c = grows_on c.args.table.now c.loop-s.table c.mean.new.table c.loop-s.invariant.grows c.mean.ensures.grows
+
+pub mean_let-returns-clause-grows : goal.mean_let-returns-clause-grows
+mean_let-returns-clause-grows t c = grows_on c.args.table.now c.mean_pairs.new.table c.mean.new.table c.mean_pairs.ensures.grows c.mean.ensures.grows
+
+pub mean_bound-returns-in_err-list-clause-grows : goal.mean_bound-returns-in_err-list-clause-grows
+mean_bound-returns-in_err-list-clause-grows t c = grows_on c.args.table.now c.mean_pairs.new.table c.bind.new.table c.mean_pairs.ensures.grows c.bind.ensures.grows
+
+pub mean_bound-returns-in_err-push-clause-grows : goal.mean_bound-returns-in_err-push-clause-grows
+mean_bound-returns-in_err-push-clause-grows t c = grows_on c.args.table.now c.mean_pairs.new.table c.bind.new.table c.mean_pairs.ensures.grows c.bind.ensures.grows
+
+pub mean_bound-returns-clause-grows : goal.mean_bound-returns-clause-grows
+mean_bound-returns-clause-grows t c =
+    let named = grows_on c.args.table.now c.mean_pairs.new.table c.bind.new.table c.mean_pairs.ensures.grows c.bind.ensures.grows in
+    grows_on c.args.table.now c.bind.new.table c.mean_all.new.table named c.mean_all.ensures.grows
+
+pub mean_pairs-returns-in_err-mean_pair-clause-grows : goal.mean_pairs-returns-in_err-mean_pair-clause-grows
+mean_pairs-returns-in_err-mean_pair-clause-grows t c = grows_on c.args.table.now c.loop-pair.table c.mean_pair.new.table c.loop-pair.invariant.grows c.mean_pair.ensures.grows
+
+pub mean_list-returns-in_default-clause-grows : goal.mean_list-returns-in_default-clause-grows
+mean_list-returns-in_default-clause-grows t c = grows_refl c.args.table.now
+
+pub mean_list-returns-in_err-form_of-clause-grows : goal.mean_list-returns-in_err-form_of-clause-grows
+mean_list-returns-in_err-form_of-clause-grows t c = grows_refl c.args.table.now
+
+pub mean_let-returns-in_default-clause-grows : goal.mean_let-returns-in_default-clause-grows
+mean_let-returns-in_default-clause-grows t c = grows_refl c.args.table.now
+
+pub mean_bound-returns-in_default-clause-grows : goal.mean_bound-returns-in_default-clause-grows
+mean_bound-returns-in_default-clause-grows t c = grows_refl c.args.table.now
+
+pub mean_annotated-returns-in_default-clause-grows : goal.mean_annotated-returns-in_default-clause-grows
+mean_annotated-returns-in_default-clause-grows t c = grows_refl c.args.table.now
+
+pub mean_pair-returns-in_default-clause-grows : goal.mean_pair-returns-in_default-clause-grows
+mean_pair-returns-in_default-clause-grows t c = grows_refl c.args.table.now
+
+pub mean_pair-returns-then-contains-clause-grows : goal.mean_pair-returns-then-contains-clause-grows
+mean_pair-returns-then-contains-clause-grows t c = grows_refl c.args.table.now
+
+pub mean_pairs-returns-in_default-clause-grows : goal.mean_pairs-returns-in_default-clause-grows
+mean_pairs-returns-in_default-clause-grows t c = grows_refl c.args.table.now
+
+pub mean_head-use_of_term-requires-clause-live : goal.mean_head-use_of_term-requires-clause-live
+mean_head-use_of_term-requires-clause-live t c = c.in_ok-f.ensures.gives.live
+
+pub mean_use-use_arguments-requires-clause-args : goal.mean_use-use_arguments-requires-clause-args
+mean_use-use_arguments-requires-clause-args t c = subst (All (λ i. i < length c.mean_arguments.new.table.trees)) (sym c.as_slice.ensures) c.in_ok-ids.ensures.live
+
+pub mean_bound-bind-requires-clause-types : goal.mean_bound-bind-requires-clause-types
+mean_bound-bind-requires-clause-types t c = c.in_ok-names.ensures.gives.live
+
+pub mean_all-returns-clause-count : goal.mean_all-returns-clause-count
+mean_all-returns-clause-count t c =
+    let none = ap length c.in-None.ensures.steps.0 in
+    omega (arith, none, c.loop-s.invariant.count)

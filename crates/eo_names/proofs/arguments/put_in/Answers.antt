@@ -14,8 +14,8 @@ loop-i-init c =
     let ts = c.args.table.now.trees in
     record {
       room = c.in_ok-reserve.ensures.pars;
-      below = c.reserve.ensures.below (length ts) (c.in_ok-values.ensures.below (length ts));
-      held = λ j. (λ k. c.reserve.ensures.held ts k j) ∙ ap (option_map (tree_at ts)) (none_held c.in_ok-values.values.values c.in_ok-values.ensures.empty j);
+      below = c.reserve.ensures.below (length ts) (c.new-values.ensures.below (length ts));
+      held = λ j. (λ k. c.reserve.ensures.held ts k j) ∙ ap (option_map (tree_at ts)) (none_held c.new-values.result.values c.new-values.ensures.empty j);
     }
 
 pub loop-i-preserved : goal.loop-i-preserved

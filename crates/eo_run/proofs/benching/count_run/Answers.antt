@@ -9,5 +9,5 @@ returns c =
     let files = c.args.files.now.told in
     let job = c.args.job.now in
     let called = c.check_job-verdict in
-    subst (λ (e : BenchEnd). AnswersBench files job called.new.paths e) (sym c.counts.ensures)
+    subst (λ (e : BenchEnd). AnswersBench files job called.new.paths e) (sym c.counts-end.ensures)
     (counted-answers files job called.new.paths called.result called.new.run called.ensures.verdict called.ensures.last called.ensures.kind called.ensures.cause)

@@ -8,40 +8,40 @@ use Rattle.eo_session.proofs.beginning.first.Goals as goal
 
 pub returns-clause-settled : goal.returns-clause-settled
 returns-clause-settled c =
-    let h : Held = record { alloc = c.args.alloc; table = c.args.table; signature = c.args.signature; types = c.args.finders.types; evaluator = c.args.finders.evaluator; subst = c.args.finders.subst; assertions = c.args.known.assertions; has_reference = false; facts = c.args.known.facts; marks = c.new.result; kept = c.mark-kept.result; sorry = false; closed = c.args.closed; commands = 0 } in
+    let h : Held = record { alloc = c.args.alloc; table = c.args.table; signature = c.args.signature; types = c.new-types.result; evaluator = c.new-evaluator.result; subst = c.new-subst.result; assertions = c.new-assertions.result; has_reference = false; facts = c.new-facts.result; marks = c.new-marks.result; kept = c.mark-kept.result; sorry = false; closed = c.args.closed; commands = 0 } in
     let first : IsFirst h c.args.closed = record {
       trees = c.requires.trees;
       kept = c.requires.signature.kept;
       signature = c.requires.signature.read h.table.trees (ap (take 4) c.requires.trees);
-      assertions = c.requires.known.assertions;
+      assertions = c.new-assertions.ensures;
       reference = refl;
-      facts = c.requires.known.facts;
-      marks = c.new.ensures;
+      facts = c.new-facts.ensures;
+      marks = c.new-marks.ensures;
       sorry = refl;
       closed_is = refl;
       commands = refl;
     } in
-    let held = whole_first h c.args.closed first c.requires.signature.below (c.requires.signature.usable h.table.trees (ap (take 4) c.requires.trees)) (c.requires.finders.types _ _) c.requires.finders.lasts in
+    let held = whole_first h c.args.closed first c.requires.signature.below (c.requires.signature.usable h.table.trees (ap (take 4) c.requires.trees)) (c.new-types.ensures.fits _ _) c.laws.ensures in
     let at = c.mark-kept.ensures.mark in
     record {
       whole = record {
         held = held;
-        live = live_first h c.requires.trees at (subst (IsMark h.table) at c.mark-kept.ensures.holds) c.requires.signature.kept c.requires.known.assertions c.new.ensures (none_open h.facts c.requires.known.facts) held.signature held.facts;
+        live = live_first h c.requires.trees at (subst (IsMark h.table) at c.mark-kept.ensures.holds) c.requires.signature.kept c.new-assertions.ensures c.new-marks.ensures (none_open h.facts c.new-facts.ensures) held.signature held.facts;
       };
       settled = sym (ap (λ (m : ℕ × ℕ). m.0) at);
     }
 
 pub returns-clause-state : goal.returns-clause-state
 returns-clause-state c =
-    let h : Held = record { alloc = c.args.alloc; table = c.args.table; signature = c.args.signature; types = c.args.finders.types; evaluator = c.args.finders.evaluator; subst = c.args.finders.subst; assertions = c.args.known.assertions; has_reference = false; facts = c.args.known.facts; marks = c.new.result; kept = c.mark-kept.result; sorry = false; closed = c.args.closed; commands = 0 } in
+    let h : Held = record { alloc = c.args.alloc; table = c.args.table; signature = c.args.signature; types = c.new-types.result; evaluator = c.new-evaluator.result; subst = c.new-subst.result; assertions = c.new-assertions.result; has_reference = false; facts = c.new-facts.result; marks = c.new-marks.result; kept = c.mark-kept.result; sorry = false; closed = c.args.closed; commands = 0 } in
     state_first h c.args.closed (record {
       trees = c.requires.trees;
       kept = c.requires.signature.kept;
       signature = c.requires.signature.read h.table.trees (ap (take 4) c.requires.trees);
-      assertions = c.requires.known.assertions;
+      assertions = c.new-assertions.ensures;
       reference = refl;
-      facts = c.requires.known.facts;
-      marks = c.new.ensures;
+      facts = c.new-facts.ensures;
+      marks = c.new-marks.ensures;
       sorry = refl;
       closed_is = refl;
       commands = refl;

@@ -1,4 +1,5 @@
 use Rattle.std.proofs.Common.{◌≡◌, ◌<◌, List, ◌++◌, ◌∷◌, [], length, All, false, ap, sym, subst, ◌∙◌, arith}
+use Rattle.std.proofs.lemmas.List.{length-append}
 use Rattle.std.proofs.lemmas.List.Elements.{All-append, All-cons, All-nil}
 use Rattle.eo_sig.specs.declared.records.Param.{Param}
 use Rattle.eo_term.specs.Terms.{tree_at}
@@ -44,3 +45,8 @@ returns-clause-names c =
       };
       binds = λ rest. types-taken (read_bound old.trees b) name rest (read_bound last.trees c.push.new.self) new read;
     }
+
+pub returns-clause-count : goal.returns-clause-count
+returns-clause-count c =
+    let long = ap length c.in_ok-push.ensures.params ∙ length-append c.args.self.now.params _ in
+    omega (arith, long)

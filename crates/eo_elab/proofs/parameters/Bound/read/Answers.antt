@@ -1,7 +1,9 @@
-use Rattle.std.proofs.Common.{◌≡◌, ◌<◌, List, ◌++◌, ◌∷◌, [], length, All, ap, sym, subst, ◌∙◌, arith, rules}
+use Rattle.std.proofs.Common.{◌≡◌, ◌<◌, List, ◌++◌, ◌∷◌, [], length, All, ap, sym, subst, ◌∙◌, arith}
+use Rattle.std.proofs.lemmas.List.{length-append}
 use Rattle.std.proofs.lemmas.List.Elements.{All-append, All-cons, All-nil}
 use Rattle.eo_sig.specs.declared.records.Param.{Param}
 use Rattle.eo_shape.specs.Reading as shapes
+use Rattle.eo_term.proofs.Growing.{grows_on}
 use Rattle.eo_term.specs.Growth.{tree_in}
 use Rattle.eo_term.specs.Tree.{Par}
 use Rattle.eo_elab.specs.Declarations.{with_parameter}
@@ -33,7 +35,7 @@ returns-clause-reads c =
     let b = c.args.self.now in
     let new = bound-names old.trees p.name b.params ∙ sym c.has.ensures ∙ c.if-has.false in
     let grows = c.in_ok-id.ensures.grows.since old c.in_ok-ty.ensures.grows.now in
-    let stays = c.names_law.ensures.stays c.args.sig.now b.locals old last c.requires.bound.ready (search rules) in
+    let stays = c.names_law.ensures.stays c.args.sig.now b.locals old last c.requires.bound.ready (grows_on old c.term_at.new.table last c.in_ok-ty.ensures.grows c.in_ok-id.ensures.grows) in
     let x : Param = record { name = p.name; ty = c.in_ok-ty.ty; implicit = p.implicit; list = p.list } in
     let t = tree_in c.term_at.new.table c.in_ok-ty.ty in
     let type = c.in_ok-id.ensures.grows.now.tree c.in_ok-ty.ty c.in_ok-ty.ensures.gives.live in
@@ -58,3 +60,20 @@ returns-clause-reads c =
       };
       binds = λ rest. bind-taken (context_at old c.args.sig.now c.args.setting) (read_bound old.trees b) p rest t (read_bound last.trees c.push.new.self) new c.in_ok-ty.ensures.gives.is read;
     }
+
+pub returns-in_err-id-clause-grows : goal.returns-in_err-id-clause-grows
+returns-in_err-id-clause-grows c = grows_on c.args.table.now c.term_at.new.table c.parameter.new.table c.in_ok-ty.ensures.grows c.in_err-id.ensures.grows
+
+pub returns-in_err-new-clause-grows : goal.returns-in_err-new-clause-grows
+returns-in_err-new-clause-grows c = grows_on c.args.table.now c.term_at.new.table c.parameter.new.table c.in_ok-ty.ensures.grows c.in_ok-id.ensures.grows
+
+pub returns-in_err-push-clause-grows : goal.returns-in_err-push-clause-grows
+returns-in_err-push-clause-grows c = grows_on c.args.table.now c.term_at.new.table c.parameter.new.table c.in_ok-ty.ensures.grows c.in_ok-id.ensures.grows
+
+pub returns-clause-grows : goal.returns-clause-grows
+returns-clause-grows c = grows_on c.args.table.now c.term_at.new.table c.parameter.new.table c.in_ok-ty.ensures.grows c.in_ok-id.ensures.grows
+
+pub returns-clause-count : goal.returns-clause-count
+returns-clause-count c =
+    let long = ap length c.in_ok-push.ensures.params ∙ length-append c.args.self.now.params _ in
+    omega (arith, long)

@@ -10,30 +10,30 @@ use Rattle.eo_session.proofs.held.Held.carry_macro.Goals as goal
 pub carry_list-requires-clause-live : goal.carry_list-requires-clause-live
 carry_list-requires-clause-live c =
     let n = length c.args.self.now.table.trees in
-    let is : c.push_macro.new.ids.items ≡ macro_ids c.args.d = c.in_ok-push_macro.ensures ∙ ap (λ (xs : List ℕ). xs ++ macro_ids c.args.d) c.new-ids.ensures.items in
-    subst (All (λ (i : ℕ). i < n)) (sym is) (macro_terms n c.args.d c.requires.below)
+    let is : c.push_macro.new.ids.items ≡ macro_ids c.args.d.now = c.in_ok-push_macro.ensures ∙ ap (λ (xs : List ℕ). xs ++ macro_ids c.args.d.now) c.new-ids.ensures.items in
+    subst (All (λ (i : ℕ). i < n)) (sym is) (macro_terms n c.args.d.now c.requires.below)
 
-pub moved_macro-requires : goal.moved_macro-requires
-moved_macro-requires c =
-    let is : c.push_macro.new.ids.items ≡ macro_ids c.args.d = c.in_ok-push_macro.ensures ∙ ap (λ (xs : List ℕ). xs ++ macro_ids c.args.d) c.new-ids.ensures.items in
+pub move_macro-requires : goal.move_macro-requires
+move_macro-requires c =
+    let is : c.push_macro.new.ids.items ≡ macro_ids c.args.d.now = c.in_ok-push_macro.ensures ∙ ap (λ (xs : List ℕ). xs ++ macro_ids c.args.d.now) c.new-ids.ensures.items in
     omega (arith, carried_long c.args.self.now c.carry_list.new.self c.push_macro.new.ids.items c.in_ok-left.left c.in_ok-left.ensures, ap length is)
 
 pub returns-clause-leaves : goal.returns-clause-leaves
 returns-clause-leaves c =
     let h = c.args.self.now in
-    let is : c.push_macro.new.ids.items ≡ macro_ids c.args.d = c.in_ok-push_macro.ensures ∙ ap (λ (xs : List ℕ). xs ++ macro_ids c.args.d) c.new-ids.ensures.items in
-    subst (λ (us : List Tree). Leaves h us c.carry_list.new.self) (ap (map (tree_in h.table)) is ∙ macro_read h.table.trees c.args.d) c.in_ok-left.ensures.leaves
+    let is : c.push_macro.new.ids.items ≡ macro_ids c.args.d.now = c.in_ok-push_macro.ensures ∙ ap (λ (xs : List ℕ). xs ++ macro_ids c.args.d.now) c.new-ids.ensures.items in
+    subst (λ (us : List Tree). Leaves h us c.carry_list.new.self) (ap (map (tree_in h.table)) is ∙ macro_read h.table.trees c.args.d.now) c.in_ok-left.ensures.leaves
 
 pub returns-clause-read : goal.returns-clause-read
 returns-clause-read c =
     let h = c.args.self.now in
     let mid = c.carry_list.new.self in
-    let is : c.push_macro.new.ids.items ≡ macro_ids c.args.d = c.in_ok-push_macro.ensures ∙ ap (λ (xs : List ℕ). xs ++ macro_ids c.args.d) c.new-ids.ensures.items in
-    (macro_carried mid.table.trees h.table.trees (length mid.table.trees) (length h.table.trees) c.in_ok-left.left c.moved_macro.new.ids c.in_ok-left.ensures.below c.args.d c.in_ok-moved.moved c.requires.below c.in_ok-moved.ensures (c.in_ok-left.ensures.trees ∙ ap (map (tree_in h.table)) is)).0
+    let is : c.push_macro.new.ids.items ≡ macro_ids c.args.d.now = c.in_ok-push_macro.ensures ∙ ap (λ (xs : List ℕ). xs ++ macro_ids c.args.d.now) c.new-ids.ensures.items in
+    (macro_carried mid.table.trees h.table.trees (length mid.table.trees) (length h.table.trees) c.in_ok-left.left c.move_macro.new.ids c.in_ok-left.ensures.below c.args.d.now c.move_macro.new.d c.requires.below c.in_ok-move_macro.ensures (c.in_ok-left.ensures.trees ∙ ap (map (tree_in h.table)) is)).0
 
 pub returns-clause-below : goal.returns-clause-below
 returns-clause-below c =
     let h = c.args.self.now in
     let mid = c.carry_list.new.self in
-    let is : c.push_macro.new.ids.items ≡ macro_ids c.args.d = c.in_ok-push_macro.ensures ∙ ap (λ (xs : List ℕ). xs ++ macro_ids c.args.d) c.new-ids.ensures.items in
-    (macro_carried mid.table.trees h.table.trees (length mid.table.trees) (length h.table.trees) c.in_ok-left.left c.moved_macro.new.ids c.in_ok-left.ensures.below c.args.d c.in_ok-moved.moved c.requires.below c.in_ok-moved.ensures (c.in_ok-left.ensures.trees ∙ ap (map (tree_in h.table)) is)).1
+    let is : c.push_macro.new.ids.items ≡ macro_ids c.args.d.now = c.in_ok-push_macro.ensures ∙ ap (λ (xs : List ℕ). xs ++ macro_ids c.args.d.now) c.new-ids.ensures.items in
+    (macro_carried mid.table.trees h.table.trees (length mid.table.trees) (length h.table.trees) c.in_ok-left.left c.move_macro.new.ids c.in_ok-left.ensures.below c.args.d.now c.move_macro.new.d c.requires.below c.in_ok-move_macro.ensures (c.in_ok-left.ensures.trees ∙ ap (map (tree_in h.table)) is)).1

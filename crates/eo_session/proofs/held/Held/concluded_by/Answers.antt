@@ -13,7 +13,7 @@ use Rattle.eo_session.specs.declared.steps.Conclusion.{Conclusion}
 use Rattle.eo_session.proofs.Concluding.{concluded-fault, concluded-use}
 use Rattle.eo_base.proofs.Answering.{at_exit}
 use Rattle.eo_session.proofs.Sessions.{refuses_on}
-use Rattle.eo_session.proofs.Used.{concluded-same}
+use Rattle.eo_session.proofs.Used.{concluded-same, keeps_on}
 use Rattle.eo_session.proofs.held.Held.concluded_by.Goals as goal
 
 pub returns-in_err-given-clause-gives : goal.returns-in_err-given-clause-gives
@@ -39,3 +39,9 @@ returns-clause-gives c =
     concluded-same c.concluded_from.new.self c.concluded_from.result _ _
     (concluded-use st a s c.args.rule given c.in_ok-given.ensures.gives.is ∙ ap (λ (z : State). concluded_from z c.args.rule given) (sym c.in_ok-given.ensures.keeps.same))
     c.concluded_from.ensures.gives
+
+pub returns-in_err-given-clause-keeps : goal.returns-in_err-given-clause-keeps
+returns-in_err-given-clause-keeps c = c.in_err-given.ensures.keeps
+
+pub returns-clause-keeps : goal.returns-clause-keeps
+returns-clause-keeps c = keeps_on c.args.self.now c.use_of.new.self c.concluded_from.new.self c.in_ok-given.ensures.keeps c.concluded_from.ensures.keeps

@@ -8,6 +8,7 @@ use Rattle.eo_session.specs.Stepping.{GivesTerm}
 use Rattle.eo_session.specs.declared.refused.Refused.{Refused}
 use Rattle.eo_base.proofs.Answering.{at_exit}
 use Rattle.eo_session.proofs.Sessions.{formula-value, formula-kind, formula-not_bool, formula-ok, refuses_on, value_later}
+use Rattle.eo_session.proofs.Used.{keeps_on}
 use Rattle.eo_session.proofs.held.Held.formula_of.Goals as goal
 
 pub returns-in_err-value-clause-gives : goal.returns-in_err-value-clause-gives
@@ -53,3 +54,21 @@ returns-clause-gives c =
 
 pub returns-clause-value : goal.returns-clause-value
 returns-clause-value c = value_later c.evaluate.new.self.table c.has_kind.new.self.table c.in_ok-value.value c.in_ok-has_kind.ensures.keeps.grows c.in_ok-value.ensures.value
+
+pub has_kind-requires-clause-whole : goal.has_kind-requires-clause-whole
+has_kind-requires-clause-whole c = c.in_ok-value.ensures.keeps.whole
+
+pub has_kind-requires-clause-live : goal.has_kind-requires-clause-live
+has_kind-requires-clause-live c = c.in_ok-value.ensures.gives.live
+
+pub returns-in_err-value-clause-keeps : goal.returns-in_err-value-clause-keeps
+returns-in_err-value-clause-keeps c = c.in_err-value.ensures.keeps
+
+pub returns-in_err-has_kind-clause-keeps : goal.returns-in_err-has_kind-clause-keeps
+returns-in_err-has_kind-clause-keeps c = keeps_on c.args.self.now c.evaluate.new.self c.has_kind.new.self c.in_ok-value.ensures.keeps c.in_err-has_kind.ensures.keeps
+
+pub returns-then-not-branch-clause-keeps : goal.returns-then-not-branch-clause-keeps
+returns-then-not-branch-clause-keeps c = keeps_on c.args.self.now c.evaluate.new.self c.has_kind.new.self c.in_ok-value.ensures.keeps c.in_ok-has_kind.ensures.keeps
+
+pub returns-clause-keeps : goal.returns-clause-keeps
+returns-clause-keeps c = keeps_on c.args.self.now c.evaluate.new.self c.has_kind.new.self c.in_ok-value.ensures.keeps c.in_ok-has_kind.ensures.keeps

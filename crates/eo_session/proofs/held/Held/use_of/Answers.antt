@@ -12,7 +12,7 @@ use Rattle.eo_session.specs.declared.refused.Refused.{Refused}
 use Rattle.eo_session.proofs.Concluding.{use-no_premises, use-not_stated, use-no_arguments, use-whole}
 use Rattle.eo_base.proofs.Answering.{at_exit}
 use Rattle.eo_session.proofs.Sessions.{refuses_on}
-use Rattle.eo_session.proofs.Used.{use_read, use_is, keeps_on}
+use Rattle.eo_session.proofs.Used.{use_read, use_is, keeps_on, keeps_self}
 use Rattle.eo_session.proofs.held.Held.use_of.Goals as goal
 
 pub returns-in_err-premises-clause-gives : goal.returns-in_err-premises-clause-gives
@@ -70,3 +70,21 @@ returns-clause-gives c =
           use-whole st a s (trees_in t ps) c.in_ok-premises.ensures.is (option_map (tree_in u) o) c.in_ok-stated.ensures.gives.is (trees_in v xs) arguments
           ∙ ap (λ (w : Use). Ok w) (use_read t u v first.grows.now second.grows.now all.grows.now c.args.assumed o ps xs c.requires.assumed c.in_ok-premises.ensures.live c.in_ok-stated.ensures.gives.live c.in_ok-args.ensures.gives.live);
     }
+
+pub optional_value-requires : goal.optional_value-requires
+optional_value-requires c = c.requires.whole
+
+pub values-requires : goal.values-requires
+values-requires c = c.in_ok-stated.ensures.keeps.whole
+
+pub returns-in_err-premises-clause-keeps : goal.returns-in_err-premises-clause-keeps
+returns-in_err-premises-clause-keeps c = keeps_self c.args.self.now c.requires.whole
+
+pub returns-in_err-stated-clause-keeps : goal.returns-in_err-stated-clause-keeps
+returns-in_err-stated-clause-keeps c = c.in_err-stated.ensures.keeps
+
+pub returns-in_err-args-clause-keeps : goal.returns-in_err-args-clause-keeps
+returns-in_err-args-clause-keeps c = keeps_on c.args.self.now c.optional_value.new.self c.values.new.self c.in_ok-stated.ensures.keeps c.in_err-args.ensures.keeps
+
+pub returns-clause-keeps : goal.returns-clause-keeps
+returns-clause-keeps c = keeps_on c.args.self.now c.optional_value.new.self c.values.new.self c.in_ok-stated.ensures.keeps c.in_ok-args.ensures.keeps

@@ -3,5 +3,5 @@ use Rattle.eo_sig.specs.Reading.{CaseBelow}
 use Rattle.eval_tests.proofs.tests.world.cases_of.Given as goal
 
 -- the terms of the cases so far are there
-abbrev pub invariant-loop-row : goal.invariant-loop-row
-invariant-loop-row g l = All (CaseBelow (length l.table.trees)) l.cases
+abbrev pub invariant-loop-case : goal.invariant-loop-case
+invariant-loop-case l = All (CaseBelow (length l.table.trees)) l.cases
