@@ -336,7 +336,7 @@ impl Reader {
         if begins_quoted(rest[0]) {
             let n = self.bar_ahead(buffer, rest);
             if n > 0 {
-                return self.take_quoted(buffer, at, n, rest);
+                return self.take_quoted(buffer, n, rest);
             }
         }
         if begins_text(rest[0]) {
@@ -442,15 +442,8 @@ impl Reader {
 
     // Takes a quoted symbol with `n` bytes before its closing bar, and the spaces behind it.
     #[inline(always)]
-    fn take_quoted(
-        &self,
-        buffer: &mut Buffer,
-        at: usize,
-        n: usize,
-        rest: &[u8],
-    ) -> Result<Run, AllocError>
-        requires reader { IsReader limits (held buffer.old self.now) at }
-        requires at { length buffer.old.bytes ≡ at }
+    fn take_quoted(&self, buffer: &mut Buffer, n: usize, rest: &[u8]) -> Result<Run, AllocError>
+        requires reader { IsReader limits (held buffer.old self.now) (length buffer.old.bytes) }
         requires room { length buffer.old.bytes + length rest.now ≤ 2 ^ 24 }
         requires first { IsFirstOf self.now (get_or rest.now 0 0) Token.Quoted }
         requires ahead { IsAhead limits buffer.old Token.Quoted rest.now n }
@@ -459,6 +452,7 @@ impl Reader {
         ensures moves { IfOk result (λ r. r.turn ≡ ReaderTurn.Goes → 0 < r.taken) }
         ensures runs { IfOk result (λ r. Runs limits buffer.old self.now rest.now r.taken r.lines r.turn buffer.new self.now) }
     {
+        let at = buffer.bytes().len();
         let to = n + 1;
         let taken = to + blank_run(&rest[to..]);
         buffer.extend(rest, taken)?;
