@@ -1,14 +1,13 @@
 -- The terms that are alive: those before the mark of what is kept.
-use Rattle.std.proofs.Common.{◌≡◌, refl, sym, ap, subst, ◌∙◌, ◌⊎◌, inl, inr, ℕ, zero, suc, ◌+◌, ◌<◌, ◌≤◌, List, [], ◌∷◌, ◌++◌, length, map, take, drop, get_or, Contains, All, arith}
-use Rattle.std.specs.Prelude.{flat_map, Decides, nat_eq, not}
+use Rattle.std.proofs.Common.{◌≡◌, refl, sym, ap, subst, ◌∙◌, ℕ, zero, suc, ◌<◌, ◌≤◌, List, [], ◌∷◌, ◌++◌, length, map, take, drop, get_or, Contains, All, arith}
+use Rattle.std.specs.Prelude.{flat_map, Decides}
 use Rattle.std.proofs.Math.Seq.{take-length}
-use Rattle.std.proofs.lemmas.List.{length-take-le, take-take, take-append-le, take-append-drop, get_or-take, length-map}
-use Rattle.std.proofs.lemmas.List.Elements.{All-nil, All-cons, All-append, All-weaker, All-contains, All-contains_itself, Contains-get_or, Contains-append_left}
+use Rattle.std.proofs.lemmas.List.{length-take-le, take-take, take-append-le, take-append-drop, get_or-take}
+use Rattle.std.proofs.lemmas.List.Elements.{All-nil, All-cons, All-append, All-weaker, All-contains, All-contains_itself, Contains-get_or}
 use Rattle.eo_term.specs.Growth.{IsTable, tree_in}
 use Rattle.eo_term.specs.Terms.{Terms, Since, IsMark, HasTextsOf, tree_at, text_at, first_trees}
 use Rattle.eo_term.specs.Tree.{Tree, Con, IsSubtree, subtrees, tree_eq}
 use Rattle.eo_term.specs.Carry.{Carried}
-use Rattle.eo_sig.specs.declared.records.Declared.{Declared}
 use Rattle.eo_sig.specs.declared.records.MacroDecl.{MacroDecl}
 use Rattle.eo_sig.specs.Growth.{StaysSince}
 use Rattle.eo_sig.specs.Reading.{Kept, signature, macros, constants_of, IsBelow, first_kept}

@@ -1,7 +1,6 @@
 -- How many different trees there are.
-use Rattle.std.proofs.Common.{◌≡◌, refl, sym, ap, subst, ◌∙◌, ◌⊎◌, inl, inr, ℕ, zero, suc, ◌<◌, ◌≤◌, Bool, true, false, not, cond, List, [], ◌∷◌, ◌++◌, length, get_or, Contains, true≢false, arith}
+use Rattle.std.proofs.Common.{◌≡◌, refl, sym, ap, subst, ◌∙◌, inl, inr, suc, ◌<◌, ◌≤◌, Bool, true, false, not, cond, List, [], ◌∷◌, length, Contains, true≢false, arith}
 use Rattle.std.specs.Prelude.{filter, Decides}
-use Rattle.std.proofs.lemmas.List.Elements.{Contains-append_left, Contains-append_right, Contains-append_cases}
 use Rattle.eo_term.specs.Terms.{AreApart}
 use Rattle.eo_term.specs.Tree.{Tree, tree_eq}
 use Rattle.eo_session.specs.Roots.{distinct}

@@ -1,14 +1,14 @@
 -- What is held where terms are given back, and where what is carried is added.
-use Rattle.std.proofs.Common.{◌≡◌, refl, sym, ap, subst, ◌∙◌, ◌⊎◌, inl, inr, ℕ, zero, suc, ◌+◌, ◌<◌, ◌≤◌, Bool, true, false, List, [], ◌∷◌, ◌++◌, length, map, take, drop, get_or, Contains, All, true≢false, arith}
+use Rattle.std.proofs.Common.{◌≡◌, refl, sym, ap, subst, ◌∙◌, inl, inr, ℕ, suc, ◌<◌, ◌≤◌, Bool, true, false, List, [], ◌∷◌, ◌++◌, length, map, take, drop, get_or, Contains, All, arith}
 use Rattle.std.specs.Prelude.{flat_map, filter_map, nat_eq, not, if◌then◌else◌}
 use Rattle.std.proofs.Math.Seq.{take-length}
-use Rattle.std.proofs.lemmas.List.{append-nil, nil_from_length, length-take-le, length-take, length-map, length-append, get_or-map, ext_get_or}
+use Rattle.std.proofs.lemmas.List.{append-nil, length-take-le, length-take, length-map, length-append, get_or-map, ext_get_or}
 use Rattle.std.proofs.lemmas.List.Elements.{All-nil, All-cons, All-head, All-tail, All-from_get_or, Contains-append_left, filter_map-append}
 use Rattle.std.proofs.lemmas.Bool.{cases_lt}
 use Rattle.std.proofs.lemmas.Bool.Decides.{nat_tests}
 use Rattle.eo_base.proofs.Elements.{ids_more, contains_later, contains_split, contains_none}
-use Rattle.eo_term.specs.Growth.{IsTable, tree_in}
-use Rattle.eo_term.specs.Terms.{Terms, Since, IsMark, tree_at, text_at}
+use Rattle.eo_term.specs.Growth.{tree_in}
+use Rattle.eo_term.specs.Terms.{Terms, Since, IsMark, tree_at}
 use Rattle.eo_term.specs.Tree.{Tree, Con, subtrees, tree_eq, is_value, is_tall}
 use Rattle.eo_term.specs.Carry.{Carried}
 use Rattle.eo_sig.specs.declared.records.ConstDecl.{ConstDecl}
@@ -18,7 +18,7 @@ use Rattle.eo_sig.specs.declared.records.MacroDecl.{MacroDecl}
 use Rattle.eo_sig.specs.Growth.{StaysSince}
 use Rattle.eo_sig.specs.Reading.{Kept, IsBelow, with_entry, with_macro, read_entry, read_macro, const_of, constants_of}
 use Rattle.eo_sig.specs.Reading.{signature as signature_of, macros as macros_of}
-use Rattle.eo_sig.specs.Signature.{Signature, SignatureEntry, Macro, constants, constant_of}
+use Rattle.eo_sig.specs.Signature.{Signature, constants}
 use Rattle.eo_sig.specs.Usable.{IsUsable}
 use Rattle.eo_elab.specs.Fitting.{FitsTerms}
 use Rattle.eo_eval.specs.Outcomes.{IsValueOf}
@@ -26,10 +26,10 @@ use Rattle.eo_proof.specs.declared.facts.Begun.{Begun}
 use Rattle.eo_proof.specs.Kept as fact
 use Rattle.eo_proof.specs.Kept.{NamedId, opened, scopes, with_named, with_begun, without_begun, AreBegun, AreBelow}
 use Rattle.eo_proof.specs.Scopes.{Scopes, depth, no_facts}
-use Rattle.eo_type.specs.Known.{Fit, FitsCut, Lasts}
+use Rattle.eo_type.specs.Known.{FitsCut, Lasts}
 use Rattle.eo_session.specs.declared.held.Held.{Held}
 use Rattle.eo_session.specs.declared.marks.ScopeMark.{ScopeMark}
-use Rattle.eo_session.specs.Held.{state_of, macro_marks, AreValues, IsHeld, IsLive, IsExact, IsWhole, IsSettled, HoldsOnly, Leaves, Carries, label_trees}
+use Rattle.eo_session.specs.Held.{state_of, macro_marks, AreValues, IsHeld, IsExact, IsWhole, IsSettled, HoldsOnly, Carries, label_trees}
 use Rattle.eo_names.specs.Names.{Binding, with_terms}
 use Rattle.eo_names.specs.Readers.{Label}
 use Rattle.eo_elab.specs.Worlds.{labels_in}

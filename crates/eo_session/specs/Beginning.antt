@@ -1,7 +1,7 @@
 -- What is held before the first command.
 use Rattle.std.specs.Prelude.{◌≡◌, List, take}
 use Rattle.eo_sig.specs.Reading.{Kept, IsBelow, first_kept, signature}
-use Rattle.eo_sig.specs.Signature.{Signature, first_signature}
+use Rattle.eo_sig.specs.Signature.{first_signature}
 use Rattle.eo_sig.specs.Usable.{IsUsable}
 use Rattle.eo_term.specs.Terms.{first_trees}
 use Rattle.eo_term.specs.Tree.{Tree}

@@ -1,7 +1,7 @@
 -- The trees that a state holds.
 use Rattle.std.specs.Prelude.{ℕ, suc, not, List, [], ◌∷◌, ◌++◌, map, flat_map, filter, length, option_to_list}
 use Rattle.eo_term.specs.Tree.{Tree, Con, subtrees, tree_eq}
-use Rattle.eo_sig.specs.Signature.{Signature, SignatureEntry, IsConstant, IsProgram, IsRule, IsLiteralType, Attribute, Plain, RightNil, LeftNil, Right, Left, Chain, Pairs, Binder, Parameter, Constant, Macro, Case, Program, Rule, premise_patterns}
+use Rattle.eo_sig.specs.Signature.{Signature, IsConstant, IsProgram, IsRule, IsLiteralType, Attribute, Plain, RightNil, LeftNil, Right, Left, Chain, Pairs, Binder, Parameter, Constant, Macro, Case, Program, Rule, premise_patterns}
 use Rattle.eo_proof.specs.Scopes.{Scopes, formulas}
 use Rattle.eo_session.specs.State.{State}
 

@@ -15,7 +15,7 @@ returns-clause-settled c =
       signature = c.requires.signature.read h.table.trees (ap (take 4) c.requires.trees);
       assertions = c.new-assertions.ensures;
       reference = refl;
-      facts = c.new-facts.ensures;
+      facts = c.new-facts.ensures.none;
       marks = c.new-marks.ensures;
       sorry = refl;
       closed_is = refl;
@@ -26,7 +26,7 @@ returns-clause-settled c =
     record {
       whole = record {
         held = held;
-        live = live_first h c.requires.trees at (subst (IsMark h.table) at c.mark-kept.ensures.holds) c.requires.signature.kept c.new-assertions.ensures c.new-marks.ensures (none_open h.facts c.new-facts.ensures) held.signature held.facts;
+        live = live_first h c.requires.trees at (subst (IsMark h.table) at c.mark-kept.ensures.holds) c.requires.signature.kept c.new-assertions.ensures c.new-marks.ensures (none_open h.facts c.new-facts.ensures.none) held.signature held.facts;
       };
       settled = sym (ap (λ (m : ℕ × ℕ). m.0) at);
     }
@@ -40,7 +40,7 @@ returns-clause-state c =
       signature = c.requires.signature.read h.table.trees (ap (take 4) c.requires.trees);
       assertions = c.new-assertions.ensures;
       reference = refl;
-      facts = c.new-facts.ensures;
+      facts = c.new-facts.ensures.none;
       marks = c.new-marks.ensures;
       sorry = refl;
       closed_is = refl;

@@ -1,4 +1,4 @@
 use Rattle.pattern_tests.proofs.tests.world.match_and_put.Goals as goal
 
 pub match_terms-requires-clause-below : goal.match_terms-requires-clause-below
-match_terms-requires-clause-below c = c.reserve.ensures.below _ (c.in_ok-subst.ensures.below _)
+match_terms-requires-clause-below c = c.reserve.ensures.below _ (c.new-subst.ensures.below _)

@@ -4,4 +4,4 @@ use Rattle.pattern_tests.proofs.tests.world.put_in.Goals as goal
 pub substitute-requires-clause-below : goal.substitute-requires-clause-below
 substitute-requires-clause-below c =
     let n = length c.args.table.now.trees in
-    c.put.ensures.below n (c.in_ok-reserve.ensures.below n (c.in_ok-subst.ensures.below n)) c.requires.value
+    c.put.ensures.below n (c.in_ok-reserve.ensures.below n (c.new-subst.ensures.below n)) c.requires.value
