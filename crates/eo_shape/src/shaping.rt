@@ -64,9 +64,6 @@ pub(crate) enum Form {
 /// It is `BadCommand` where the s-expression is no list that begins with a symbol. Else it is
 /// `UnknownCommand` where the symbol is no command's word there. Else it is `BadCommand` where what
 /// follows the word has a wrong shape.
-// A command has room for the largest of its kinds: where this call stood in another, each word of it
-// would be moved one by one.
-#[inline(never)]
 pub fn command_of<'b>(s: &Sexp<'b>, in_reference: bool) -> Result<Command<'b>, ShapeRefused>
     ensures shape { IfOk result (λ c. command_of in_reference s.now ≡ Ok (read_command c)) }
     ensures refused { IfErr result (λ e. command_of in_reference s.now ≡ Err (fault_of e)) }
