@@ -254,7 +254,7 @@ fn typed(
     ensures grows { Grows table.old table.new }
 {
     names_law();
-    let none = Locals::new(alloc)?;
+    let none = Locals::new(alloc);
     let ty = term_at(alloc, ty, &none, setting, sig, table)?;
     let attribute = attribute_meant(alloc, attribute, &none, setting, sig, table)?;
     Ok((ty, attribute))
@@ -332,7 +332,7 @@ fn type_of_function(
     ensures grows { Grows table.old table.new }
 {
     names_law();
-    let none = Locals::new(alloc)?;
+    let none = Locals::new(alloc);
     let mut types = meanings_at(alloc, inputs, &none, setting, sig, table)?;
     function_to(alloc, &mut types, output, &none, setting, sig, table)
 }
@@ -562,7 +562,7 @@ fn literals(
 fn self_name(alloc: Global, literal: Id) -> Result<Locals, AllocError>
     ensures { IfOk result (λ ls. ls ≡ local (codes "eo::self") literal false ∷ []) }
 {
-    let mut names = Locals::new(alloc)?;
+    let mut names = Locals::new(alloc);
     names.add(b"eo::self", literal, false)?;
     Ok(names)
 }

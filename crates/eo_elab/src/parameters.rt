@@ -81,7 +81,7 @@ fn no_parameters(alloc: Global) -> Result<Bound, AllocError>
 {
     Ok(Bound {
         params: Params::new(alloc),
-        locals: Locals::new(alloc)?,
+        locals: Locals::new(alloc),
     })
 }
 

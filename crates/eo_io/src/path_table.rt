@@ -26,14 +26,14 @@ impl Model for Paths {
 }
 
 impl Paths {
-    /// A table without paths. `Err` is want of memory.
-    pub fn new(alloc: Global) -> Result<Paths, AllocError>
-        ensures { IfOk result (λ paths. paths ≡ []) }
+    /// A table without paths. It takes no memory yet.
+    pub fn new(alloc: Global) -> Paths
+        ensures { result ≡ [] }
     {
-        Ok(Paths {
+        Paths {
             alloc,
             paths: IndexSet::with_hasher(alloc, BuildHasherDefault::new()),
-        })
+        }
     }
 
     /// Adds a path, unless it is there, and answers its number. `Err` is want of memory, and the

@@ -96,8 +96,7 @@ pub fn run_in_memory<W: Sink>(
     ethos_main(alloc, words, files, out)
 }
 
-/// Checks the files of a job, and prints the verdict, or that there is no memory for the table of
-/// their paths.
+/// Checks the files of a job, and prints the verdict.
 fn check<L: Library, W: Sink>(alloc: Global, job: &CheckJob, files: &mut L, out: &mut W) -> Status
     requires { L.open_files files.old ≡ [] }
     ensures exact { EndsAs (L.told files.old) result (Some (Request.Check job.now)) (W.written out.old) (W.written out.new) }
@@ -105,16 +104,12 @@ fn check<L: Library, W: Sink>(alloc: Global, job: &CheckJob, files: &mut L, out:
     ensures usage { result ≢ Status.Usage }
     ensures absent { AbsentHasCause (L.told files.old) (W.written out.old) (W.written out.new) (L.faults files.old) (L.faults files.new) }
 {
-    match Paths::new(alloc) {
-        Ok(mut paths) => {
-            let verdict = check_files(alloc, job, files, &mut paths);
-            print_verdict(out, &verdict, &paths)
-        }
-        Err(_) => print_line(out, Status::OutOfMemory, &[OUT_OF_MEMORY]),
-    }
+    let mut paths = Paths::new(alloc);
+    let verdict = check_files(alloc, job, files, &mut paths);
+    print_verdict(out, &verdict, &paths)
 }
 
-/// Runs a signature file, and prints the verdict, or that there is no memory for the table of paths.
+/// Runs a signature file, and prints the verdict.
 fn load<L: Library, W: Sink>(alloc: Global, file: &Text, files: &mut L, out: &mut W) -> Status
     requires { L.open_files files.old ≡ [] }
     ensures exact { EndsAs (L.told files.old) result (Some (Request.Load file.now)) (W.written out.old) (W.written out.new) }
@@ -122,28 +117,19 @@ fn load<L: Library, W: Sink>(alloc: Global, file: &Text, files: &mut L, out: &mu
     ensures usage { result ≢ Status.Usage }
     ensures absent { AbsentHasCause (L.told files.old) (W.written out.old) (W.written out.new) (L.faults files.old) (L.faults files.new) }
 {
-    match Paths::new(alloc) {
-        Ok(mut paths) => {
-            let verdict = load_files(alloc, file, files, &mut paths);
-            print_verdict(out, &verdict, &paths)
-        }
-        Err(_) => print_line(out, Status::OutOfMemory, &[OUT_OF_MEMORY]),
-    }
+    let mut paths = Paths::new(alloc);
+    let verdict = load_files(alloc, file, files, &mut paths);
+    print_verdict(out, &verdict, &paths)
 }
 
-/// Runs the bench with so many hops, and prints its line, or that there is no memory for the table
-/// of paths.
+/// Runs the bench with so many hops, and prints its line.
 fn run_bench<W: Sink>(alloc: Global, n: u32, out: &mut W) -> Status
     ensures exact { Ends result (bench_due n) (W.written out.old) (W.written out.new) }
     ensures no_read_fault { result ≢ Status.ReadFault }
     ensures cause { result ≡ Status.WriteFault → Rose (W.faults out.old) (W.faults out.new) }
     ensures usage { result ≢ Status.Usage }
 {
-    match Paths::new(alloc) {
-        Ok(mut paths) => {
-            let end = bench(alloc, n, &mut paths);
-            print_bench(out, n, &end, &paths)
-        }
-        Err(_) => print_line(out, Status::OutOfMemory, &[OUT_OF_MEMORY]),
-    }
+    let mut paths = Paths::new(alloc);
+    let end = bench(alloc, n, &mut paths);
+    print_bench(out, n, &end, &paths)
 }

@@ -63,14 +63,14 @@ impl Model for Locals {
 }
 
 impl Locals {
-    /// No names. `Err` is want of memory.
-    pub fn new(alloc: Global) -> Result<Locals, AllocError>
-        ensures { IfOk result (λ l. l ≡ []) }
+    /// No names. It takes no memory yet.
+    pub fn new(alloc: Global) -> Locals
+        ensures { result ≡ [] }
     {
-        Ok(Locals {
+        Locals {
             alloc,
             names: Vec::new(alloc),
-        })
+        }
     }
 
     /// Adds a name for a term, before all others. Where `list` is set, the term stands for a list

@@ -112,7 +112,7 @@ impl Reference {
         ensures grows { GrowsUnder sig.now table.old table.new }
     {
         sig.laws();
-        let none = Locals::new(self.alloc)?;
+        let none = Locals::new(self.alloc);
         let mut names = Names::new(self.alloc);
         let formula = reference_term(self.alloc, s, &none, sig, table, true, &mut names)?;
         Ok(RefNext::Assert { formula, names })

@@ -416,7 +416,7 @@ pub(crate) fn first_run(alloc: Global, job: &CheckJob) -> Result<Run, AllocError
 fn first_included(alloc: Global, job: &CheckJob) -> Result<Paths, AllocError>
     ensures { IfOk result (λ paths. paths ≡ (first_progress job.now).included) }
 {
-    let mut included = Paths::new(alloc)?;
+    let mut included = Paths::new(alloc);
     if let Some(include) = &job.include {
         add_folded(alloc, &mut included, include.as_bytes())?;
     }
@@ -428,7 +428,7 @@ fn first_included(alloc: Global, job: &CheckJob) -> Result<Paths, AllocError>
 fn first_load(alloc: Global, file: &Text) -> Result<Run, AllocError>
     ensures { IfOk result (λ r. Begins r (load_progress file.now)) }
 {
-    let mut included = Paths::new(alloc)?;
+    let mut included = Paths::new(alloc);
     add_folded(alloc, &mut included, file.as_bytes())?;
     let session = Session::new(alloc, false)?;
     Ok(Run { session, included })

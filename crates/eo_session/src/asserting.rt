@@ -42,7 +42,7 @@ impl Held {
         ensures below { BindingsBelow (length self.new.table.trees) names.new }
         ensures keeps { Keeps self.old self.new }
     {
-        let locals = Locals::new(self.alloc)?;
+        let locals = Locals::new(self.alloc);
         let id = reference_term(
             self.alloc,
             s,

@@ -204,7 +204,7 @@ impl Held {
         ensures gives { GivesTerm self.new result (meaning (context (state_of self.old)) [] s.now) }
         ensures keeps { Keeps self.old self.new }
     {
-        let locals = Locals::new(self.alloc)?;
+        let locals = Locals::new(self.alloc);
         let id = term(self.alloc, s, &locals, &self.signature, &mut self.table)?;
         Ok(id)
     }

@@ -195,7 +195,7 @@ fn number_paths(paths: &mut Paths) -> Result<([usize; 3], [Option<usize>; 2]), A
 }
 
 fn told_of_paths(alloc: Global) -> Result<([usize; 3], [Option<usize>; 2]), AllocError> {
-    let mut paths = Paths::new(alloc)?;
+    let mut paths = Paths::new(alloc);
     number_paths(&mut paths)
 }
 

@@ -317,7 +317,7 @@ fn parameters(alloc: Global, table: &mut Table) -> Result<Locals, AllocError>
     ensures below { IfOk result (AreBelow (length table.new.trees)) }
     ensures grows { Grows table.old table.new }
 {
-    let mut locals = Locals::new(alloc)?;
+    let mut locals = Locals::new(alloc);
     add_parameters(table, &mut locals)?;
     Ok(locals)
 }

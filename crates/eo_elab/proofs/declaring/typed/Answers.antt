@@ -12,16 +12,16 @@ use Rattle.eo_elab.proofs.Giving.{none_ready}
 use Rattle.eo_elab.proofs.declaring.typed.Goals as goal
 
 pub term_at-requires : goal.term_at-requires
-term_at-requires c = record { ready = none_ready c.args.sig.now _ _ c.in_ok-none.ensures c.requires }
+term_at-requires c = record { ready = none_ready c.args.sig.now _ _ c.new-none.ensures c.requires }
 
 pub attribute_meant-requires : goal.attribute_meant-requires
-attribute_meant-requires c = record { ready = (c.names_law.ensures.stays c.args.sig.now _ c.args.table.now c.term_at.new.table (none_ready c.args.sig.now _ _ c.in_ok-none.ensures c.requires) c.in_ok-ty.ensures.grows).ready }
+attribute_meant-requires c = record { ready = (c.names_law.ensures.stays c.args.sig.now _ c.args.table.now c.term_at.new.table (none_ready c.args.sig.now _ _ c.new-none.ensures c.requires) c.in_ok-ty.ensures.grows).ready }
 
 pub returns-in_err-ty-clause-gives : goal.returns-in_err-ty-clause-gives
 returns-in_err-ty-clause-gives c =
     let x = context_at c.args.table.now c.args.sig.now c.args.setting in
-    let ready = none_ready c.args.sig.now _ _ c.in_ok-none.ensures c.requires in
-    let alone : world_in c.args.table.now c.args.sig.now c.in_ok-none.none c.args.setting ≡ record { names = x; locals = [] } = ap (λ ls. world_in c.args.table.now c.args.sig.now ls c.args.setting) c.in_ok-none.ensures in
+    let ready = none_ready c.args.sig.now _ _ c.new-none.ensures c.requires in
+    let alone : world_in c.args.table.now c.args.sig.now c.new-none.result c.args.setting ≡ record { names = x; locals = [] } = ap (λ ls. world_in c.args.table.now c.args.sig.now ls c.args.setting) c.new-none.ensures in
     fails _ _ _ _ _ _ _ c.from_residual-in_err-ty.ensures.1
     (λ f e. typed-no-type x [] c.args.ty.now (shapes.read_attribute c.args.attribute.now) f (ap (λ (u : World). meaning_in u c.args.ty.now) (sym alone) ∙ e)) c.in_err-ty.ensures.gives
 
@@ -29,9 +29,9 @@ pub returns-in_err-attribute-clause-gives : goal.returns-in_err-attribute-clause
 returns-in_err-attribute-clause-gives c =
     let k = c.args.sig.now in
     let x = context_at c.args.table.now k c.args.setting in
-    let ready = none_ready k _ _ c.in_ok-none.ensures c.requires in
-    let alone : world_in c.args.table.now k c.in_ok-none.none c.args.setting ≡ record { names = x; locals = [] } = ap (λ ls. world_in c.args.table.now k ls c.args.setting) c.in_ok-none.ensures in
-    let same = ap (in_setting (read_setting c.args.setting)) (c.names_law.ensures.stays k c.in_ok-none.none c.args.table.now c.term_at.new.table ready c.in_ok-ty.ensures.grows).world in
+    let ready = none_ready k _ _ c.new-none.ensures c.requires in
+    let alone : world_in c.args.table.now k c.new-none.result c.args.setting ≡ record { names = x; locals = [] } = ap (λ ls. world_in c.args.table.now k ls c.args.setting) c.new-none.ensures in
+    let same = ap (in_setting (read_setting c.args.setting)) (c.names_law.ensures.stays k c.new-none.result c.args.table.now c.term_at.new.table ready c.in_ok-ty.ensures.grows).world in
     fails _ _ _ _ _ _ _ c.from_residual-in_err-attribute.ensures.1
     (λ f e. typed-no-attribute x [] c.args.ty.now (shapes.read_attribute c.args.attribute.now) (tree_in c.term_at.new.table c.in_ok-ty.ty) f (ap (λ (u : World). meaning_in u c.args.ty.now) (sym alone) ∙ c.in_ok-ty.ensures.gives.is)
     (ap (λ (u : World). attribute_in u c.args.attribute.now) (sym (same ∙ alone)) ∙ e)) c.in_err-attribute.ensures.gives
@@ -40,9 +40,9 @@ pub returns-clause-gives : goal.returns-clause-gives
 returns-clause-gives c =
     let k = c.args.sig.now in
     let x = context_at c.args.table.now k c.args.setting in
-    let ready = none_ready k _ _ c.in_ok-none.ensures c.requires in
-    let alone : world_in c.args.table.now k c.in_ok-none.none c.args.setting ≡ record { names = x; locals = [] } = ap (λ ls. world_in c.args.table.now k ls c.args.setting) c.in_ok-none.ensures in
-    let same = ap (in_setting (read_setting c.args.setting)) (c.names_law.ensures.stays k c.in_ok-none.none c.args.table.now c.term_at.new.table ready c.in_ok-ty.ensures.grows).world in
+    let ready = none_ready k _ _ c.new-none.ensures c.requires in
+    let alone : world_in c.args.table.now k c.new-none.result c.args.setting ≡ record { names = x; locals = [] } = ap (λ ls. world_in c.args.table.now k ls c.args.setting) c.new-none.ensures in
+    let same = ap (in_setting (read_setting c.args.setting)) (c.names_law.ensures.stays k c.new-none.result c.args.table.now c.term_at.new.table ready c.in_ok-ty.ensures.grows).world in
     let last = c.attribute_meant.new.table in
     let type = c.in_ok-attribute.ensures.grows.now.tree c.in_ok-ty.ty c.in_ok-ty.ensures.gives.live in
     record {

@@ -1,26 +1,19 @@
-use Rattle.std.proofs.Common.{arith}
-use Rattle.eo_main.proofs.EndLemmas.{load_ends, memory_ends, end_has_cause, no_usage}
-use Rattle.eo_main.proofs.AbsentLemmas.{absent_by_answer, absent_by_letter}
+use Rattle.eo_main.proofs.EndLemmas.{load_ends, end_has_cause, no_usage}
+use Rattle.eo_main.proofs.AbsentLemmas.{absent_by_answer}
 use Rattle.eo_main.proofs.InRange.{load_in_range}
 use Rattle.eo_main.proofs.program.load.Goals as goal
 
 pub print_verdict-requires : goal.print_verdict-requires
 print_verdict-requires g c = load_in_range _ _ c.load_files-verdict.ensures.kind
 
-pub returns-in-Ok-clause-exact : goal.returns-in-Ok-clause-exact
-returns-in-Ok-clause-exact g c = load_ends _ _ _ _ _ _ c.args.file.now c.load_files-verdict.ensures.verdict c.print_verdict.ensures.due
+pub returns-clause-exact : goal.returns-clause-exact
+returns-clause-exact g c = load_ends _ _ _ _ _ _ c.args.file.now c.load_files-verdict.ensures.verdict c.print_verdict.ensures.due
 
-pub returns-in-Ok-clause-cause : goal.returns-in-Ok-clause-cause
-returns-in-Ok-clause-cause g c = end_has_cause _ _ _ _ _ _ _ _ _ _ c.print_verdict.ensures.due c.load_files-verdict.ensures.cause c.print_verdict.ensures.cause
+pub returns-clause-cause : goal.returns-clause-cause
+returns-clause-cause g c = end_has_cause _ _ _ _ _ _ _ _ _ _ c.print_verdict.ensures.due c.load_files-verdict.ensures.cause c.print_verdict.ensures.cause
 
-pub returns-in-Ok-clause-usage : goal.returns-in-Ok-clause-usage
-returns-in-Ok-clause-usage g c = no_usage _ _ _ _ _ c.print_verdict.ensures.due
+pub returns-clause-usage : goal.returns-clause-usage
+returns-clause-usage g c = no_usage _ _ _ _ _ c.print_verdict.ensures.due
 
-pub returns-in-Ok-clause-absent : goal.returns-in-Ok-clause-absent
-returns-in-Ok-clause-absent g c = absent_by_answer _ _ _ _ _ _ _ _ c.print_verdict.ensures.due c.load_files-verdict.ensures.cause
-
-pub returns-in-Err-clause-exact : goal.returns-in-Err-clause-exact
-returns-in-Err-clause-exact g c = memory_ends _ _ _ _ _ c.print_line.ensures.due
-
-pub returns-in-Err-clause-absent : goal.returns-in-Err-clause-absent
-returns-in-Err-clause-absent g c = absent_by_letter _ 111 _ _ _ _ _ _ _ (omega arith) c.print_line.ensures.due
+pub returns-clause-absent : goal.returns-clause-absent
+returns-clause-absent g c = absent_by_answer _ _ _ _ _ _ _ _ c.print_verdict.ensures.due c.load_files-verdict.ensures.cause

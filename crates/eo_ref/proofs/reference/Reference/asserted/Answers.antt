@@ -23,7 +23,7 @@ pub reference_term-requires : goal.reference_term-requires
 reference_term-requires c =
     let n = length c.args.table.now.trees in
     record {
-      ready = record { below = c.requires.ready; names = subst (AreBelow n) (sym c.in_ok-none.ensures) (All-nil (λ (l : LocalName). l.id < n)) };
+      ready = record { below = c.requires.ready; names = subst (AreBelow n) (sym c.new-none.ensures) (All-nil (λ (l : LocalName). l.id < n)) };
       names = subst (BindingsBelow n) (sym c.new-names.ensures) (All-nil (λ (b : Binding). b.1 < n));
     }
 
@@ -33,7 +33,7 @@ returns-in_err-formula-clause-gives c =
     let k = c.args.sig.now in
     let s = c.args.s.now in
     let x = names_in (signature t.trees k) (macros t.trees k) InAssert in
-    let alone : means x [] s [] ≡ means x (read_locals t.trees c.in_ok-none.none) s (labels_in t c.new-names.result) = (λ i. means x (read_locals t.trees (sym c.in_ok-none.ensures i)) s (labels_in t (sym c.new-names.ensures i))) in
+    let alone : means x [] s [] ≡ means x (read_locals t.trees c.new-none.result) s (labels_in t c.new-names.result) = (λ i. means x (read_locals t.trees (sym c.new-none.ensures i)) s (labels_in t (sym c.new-names.ensures i))) in
     fails _ _ _ _ _ _ _ c.from_residual-in_err-formula.ensures.1 (λ f e. bind_fails (means x [] s []) asserts f (alone ∙ e)) c.in_err-formula.ensures.gives
 
 pub returns-clause-gives : goal.returns-clause-gives
@@ -43,7 +43,7 @@ returns-clause-gives c =
     let k = c.args.sig.now in
     let s = c.args.s.now in
     let x = names_in (signature t.trees k) (macros t.trees k) InAssert in
-    let alone : means x [] s [] ≡ means x (read_locals t.trees c.in_ok-none.none) s (labels_in t c.new-names.result) = (λ i. means x (read_locals t.trees (sym c.in_ok-none.ensures i)) s (labels_in t (sym c.new-names.ensures i))) in
+    let alone : means x [] s [] ≡ means x (read_locals t.trees c.new-none.result) s (labels_in t c.new-names.result) = (λ i. means x (read_locals t.trees (sym c.new-none.ensures i)) s (labels_in t (sym c.new-names.ensures i))) in
     record {
       live = record { formula = c.in_ok-formula.ensures.gives.live; names = c.in_ok-formula.ensures.names.below };
       is = bind_step (means x [] s []) asserts (tree_in new c.in_ok-formula.formula, labels_in new c.reference_term.new.names) (alone ∙ c.in_ok-formula.ensures.gives.is);
