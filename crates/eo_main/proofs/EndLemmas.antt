@@ -255,11 +255,6 @@ no_usage paths a status.ReadFault w x h = λ e. cc
 no_usage paths a status.WriteFault w x h = λ e. cc
 no_usage paths a status.Usage w x h = λ _. no_usage_due paths a (sym h.0)
 
--- there is no memory, whatever was read of the words
-pub memory_ends : (told : Option Files) (s : Status) (w x : Option (List ℕ)) (reading : Option Request) → WritesDue s out_of_memory_due w x → EndsAs told s reading w x
-memory_ends None s w x reading h = tt
-memory_ends (Some files) s w x reading h = out_of_memory_ends s (due files reading) w x h
-
 -- the words have this reading
 pub reading_ends : (told : Option Files) (s : Status) (w x : Option (List ℕ)) (reading other : Option Request) → reading ≡ other
     → EndsAs told s reading w x → EndsAs told s other w x

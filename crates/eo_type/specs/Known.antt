@@ -6,6 +6,7 @@ use Rattle.eo_term.specs.Terms.{Terms, Since, tree_at}
 use Rattle.eo_sig.specs.Reading.{Kept, IsBelow, signature}
 use Rattle.eo_sig.specs.Signature.{Signature, literal_type}
 use Rattle.eo_lit.specs.declared.LiteralClass.{LiteralClass}
+use Rattle.eo_type.specs.declared.refused.Stop.{Stop}
 use Rattle.eo_type.specs.declared.refused.TypeRefused.{TypeRefused}
 use Rattle.eo_type.specs.Types.{TypeOutcome, Typed, type_of}
 
@@ -40,6 +41,11 @@ Keeps old new = (i u : ℕ) → kept_type old i ≡ Some u → kept_type new i �
 -- more types are kept than before of terms below n alone
 abbrev pub FindsBelow : ℕ → List (ℕ × ℕ) → List (ℕ × ℕ) → Type 0
 FindsBelow n old new = (i : ℕ) → n ≤ i → kept_type new i ≡ kept_type old i
+
+-- What is kept where a walk goes over a term: what was kept, and the type that it finds.
+pub record Finds (old : List (ℕ × ℕ)) (i : ℕ) (result : Result ℕ Stop) (new : List (ℕ × ℕ)) : Type 0 where
+  pub keeps : Keeps old new
+  pub found : IfOk result (λ u. kept_type new i ≡ Some u)
 
 -- What is kept where the type of a term is asked for: what was kept, and a type that is answered.
 pub record Remembers (old : List (ℕ × ℕ)) (i : ℕ) (result : Result (Option ℕ) TypeRefused) (new : List (ℕ × ℕ)) : Type 0 where

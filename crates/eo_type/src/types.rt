@@ -9,7 +9,7 @@ ghost use Rattle.eo_type.specs.Types.{declared, literal_type_at};
 ghost use Rattle.eo_type.specs.Outcomes.{Answers, Gives, GivesBoth};
 ghost use Rattle.eo_type.specs.Parts.{variable_type};
 ghost use Rattle.eo_sig.specs.Growth.{GrowsUnder};
-ghost use Rattle.eo_type.specs.Known.{Fits, Fit, Lasts, Remembers, Keeps, FindsBelow, FitsCut, kept_type, is_before};
+ghost use Rattle.eo_type.specs.Known.{Fits, Fit, Lasts, Finds, Remembers, Keeps, FindsBelow, FitsCut, kept_type, is_before};
 ghost use Rattle.eo_type.specs.Known.{class_type, type_at, type_in};
 
 use crate::TypeRefused;
@@ -159,8 +159,7 @@ impl Types {
         requires fits { Fit sig.now table.old self.old }
         requires new { kept_type self.old id ≡ None }
         ensures gives { Gives table.new result (type_at sig.now table.old id) }
-        ensures kept { IfOk result (λ u. kept_type self.new id ≡ Some u) }
-        ensures keeps { Keeps self.old self.new }
+        ensures kept { Finds self.old id result self.new }
         ensures older { FindsBelow (id + 1) self.old self.new }
         ensures fits { Fit sig.now table.new self.new }
         ensures grows { GrowsUnder sig.now table.old table.new }

@@ -29,12 +29,10 @@ pub find_new-returns-clause-kept : goal.find_new-returns-clause-kept
 find_new-returns-clause-kept t c =
     let entries : c.keep.new.self ≡ c.derive.new.self ++ (c.args.id, c.in_ok-ty.ty) ∷ [] = c.in_ok-keep.ensures.kept ∙ ap (λ known. known ++ (c.args.id, c.in_ok-ty.ty) ∷ []) c.self.view_is in
     let none : kept_type c.derive.new.self c.args.id ≡ None = c.derive.ensures.older c.args.id (omega arith) ∙ c.requires.new in
-    subst (λ known. kept_type known c.args.id ≡ Some c.in_ok-ty.ty) (sym entries) (kept_new c.derive.new.self c.args.id c.in_ok-ty.ty none)
-
-pub find_new-returns-clause-keeps : goal.find_new-returns-clause-keeps
-find_new-returns-clause-keeps t c = λ i u h.
-    let entries : c.keep.new.self ≡ c.derive.new.self ++ (c.args.id, c.in_ok-ty.ty) ∷ [] = c.in_ok-keep.ensures.kept ∙ ap (λ known. known ++ (c.args.id, c.in_ok-ty.ty) ∷ []) c.self.view_is in
-    subst (λ known. kept_type known i ≡ Some u) (sym entries) (keeps_more c.derive.new.self (c.args.id, c.in_ok-ty.ty) i u (c.derive.ensures.keeps i u h))
+    record {
+      keeps = λ i u h. subst (λ known. kept_type known i ≡ Some u) (sym entries) (keeps_more c.derive.new.self (c.args.id, c.in_ok-ty.ty) i u (c.derive.ensures.keeps i u h));
+      found = subst (λ known. kept_type known c.args.id ≡ Some c.in_ok-ty.ty) (sym entries) (kept_new c.derive.new.self c.args.id c.in_ok-ty.ty none);
+    }
 
 pub find_new-returns-clause-older : goal.find_new-returns-clause-older
 find_new-returns-clause-older t c = λ i l.

@@ -12,7 +12,7 @@ pub returns-in-Err-clause-kept : goal.returns-in-Err-clause-kept
 returns-in-Err-clause-kept c =
     let ts = c.args.table.now.trees in
     let before : (i u : ℕ) → kept_type c.args.self.now i ≡ Some u → is_before c.mark-mark.result.0 (i, u) ≡ true = subst (λ (m : ℕ × ℕ). (i u : ℕ) → kept_type c.args.self.now i ≡ Some u → is_before m.0 (i, u) ≡ true) (sym c.mark-mark.ensures.mark) (fit_before (signature ts c.args.sig.now) ts c.args.self.now c.requires.fits.types) in
-    record { keeps = subst (Keeps c.args.self.now) (sym c.forget.ensures.left) (keeps_before c.mark-mark.result.0 c.args.self.now c.find_new.new.self before c.find_new.ensures.keeps); answer = tt }
+    record { keeps = subst (Keeps c.args.self.now) (sym c.forget.ensures.left) (keeps_before c.mark-mark.result.0 c.args.self.now c.find_new.new.self before c.find_new.ensures.kept.keeps); answer = tt }
 
 pub returns-in-Err-clause-fits : goal.returns-in-Err-clause-fits
 returns-in-Err-clause-fits c =
