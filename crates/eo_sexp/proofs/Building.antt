@@ -13,7 +13,7 @@ use Rattle.eo_sexp.specs.declared.lent.Node.TheVariants as node
 use Rattle.eo_sexp.specs.declared.buffer.Open.{Open}
 use Rattle.eo_sexp.specs.declared.count.Count.{Count}
 use Rattle.eo_sexp.specs.Counts.{count_of}
-use Rattle.eo_sexp.specs.Nodes.{trees, token_text, AreLinked, HasText, Holds, IsSexp, first_tree, first_of}
+use Rattle.eo_sexp.specs.Nodes.{trees, token_text, AreLinked, HasText, Holds, first_of}
 use Rattle.eo_sexp.specs.Built.{OpenList, Built, with_child, closed, parts_in, parts_of}
 use Rattle.eo_sexp.specs.Buffers.{open_lists, outside, built, AreOpen, counted}
 use Rattle.eo_sexp.specs.Sizes.{size_of_all}
@@ -239,8 +239,8 @@ text-begins bytes false from to h = (h.0, omega (arith, h.0, h.1))
 
 -- ---- what is whole
 
-pub whole-first : (bytes : List ℕ) (ns : List Node) (os : List Open) → AreOpen bytes ns os → open_lists bytes ns os ≡ [] → 0 < length (outside bytes ns os) → IsSexp bytes ns × (first_tree bytes ns ≡ first_of (outside bytes ns os))
-whole-first bytes ns [] h e s = (record { some = some_node bytes ns s; linked = h }, refl)
+pub whole-first : (bytes : List ℕ) (ns : List Node) (os : List Open) → AreOpen bytes ns os → open_lists bytes ns os ≡ [] → 0 < length (outside bytes ns os) → ((0 < length ns) × AreLinked bytes ns) × (first_of (trees bytes ns) ≡ first_of (outside bytes ns os))
+whole-first bytes ns [] h e s = ((some_node bytes ns s, h), refl)
 whole-first bytes ns (o ∷ os) h e s = cc
 
 -- ---- one atom alone

@@ -1,5 +1,5 @@
 -- What a buffer of a command that is begun stands for.
-use Rattle.std.specs.Prelude.{◌≡◌, ℕ, ◌+◌, ◌<◌, ◌≤◌, List, [], ◌∷◌, length, take, drop}
+use Rattle.std.specs.Prelude.{◌≡◌, ℕ, ◌+◌, ◌^◌, ◌<◌, ◌≤◌, List, [], ◌∷◌, length, take, drop}
 use Rattle.eo_sexp.specs.Sexp.{Sexp}
 use Rattle.eo_sexp.specs.declared.lent.Node.{Node}
 use Rattle.eo_sexp.specs.declared.buffer.Open.{Open}
@@ -35,8 +35,9 @@ abbrev pub counted : List Open → List Open
 counted [] = []
 counted (o ∷ os) = record o { children = o.children + 1 } ∷ os
 
--- There is room for the one node of a command that is an atom. Each node begins at a byte of its own, the last one maybe at the next byte.
+-- There is room for the one node of a command that is an atom. Each node begins at a byte of its own, the last one maybe at the next byte. A place among them is a number of 32 bits.
 pub record IsBuffer (bytes : List ℕ) (ns : List Node) (capacity : ℕ) (os : List Open) : Type 0 where
   pub open_lists : AreOpen bytes ns os
   pub room : 0 < capacity
   pub few : length ns ≤ length bytes + 1
+  pub short : length ns < 2 ^ 32

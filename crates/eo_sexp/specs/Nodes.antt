@@ -1,11 +1,12 @@
 -- The s-expressions that a flat list of nodes stands for.
-use Rattle.std.specs.Prelude.{◌≡◌, ℕ, ◌+◌, ◌-◌, ◌<◌, ◌≤◌, Bool, true, false, List, [], ◌∷◌, length, take, drop}
+use Rattle.std.specs.Prelude.{◌≡◌, ℕ, ◌+◌, ◌-◌, ◌^◌, ◌<◌, ◌≤◌, Bool, true, false, List, [], ◌∷◌, length, take, drop}
 use Rattle.std.specs.List.{slice_range}
 use Rattle.eo_sexp.specs.Sexp.{Sexp, Atom, Listed, NoSexp}
 use Rattle.eo_sexp.specs.Sexp.{sexps_of}
 use Rattle.eo_sexp.specs.declared.token.AtomKind.{AtomKind}
 use Rattle.eo_sexp.specs.declared.lent.Node.{Node}
 use Rattle.eo_sexp.specs.declared.lent.Node.TheVariants as node
+use Rattle.eo_sexp.specs.declared.lent.Parts.{Parts}
 use Rattle.eo_sexp.specs.Counts.{count_of}
 use Rattle.eo_sexp.specs.Token.{kind_meant}
 
@@ -25,13 +26,10 @@ trees bytes (node.Atom k delimited from to ∷ ns) = Atom (kind_meant k) (token_
 trees bytes (node.List children inside from to ∷ ns) =
     Listed (sexps_of (take (count_of children) (trees bytes ns))) (record { from = from; to = to }) ∷ drop (count_of children) (trees bytes ns)
 
+-- the first of them
 abbrev pub first_of : List Sexp → Sexp
 first_of [] = Listed NoSexp (record { from = 0; to = 0 })
 first_of (s ∷ ss) = s
-
--- the first of them
-abbrev pub first_tree : List ℕ → List Node → Sexp
-first_tree bytes ns = first_of (trees bytes ns)
 
 -- the text of a token lies in the bytes
 abbrev pub HasText : List ℕ → (delimited : Bool) → (from to : ℕ) → Type 0
@@ -53,12 +51,18 @@ abbrev pub AreLinked : List ℕ → List Node → Type 0
 AreLinked bytes [] = Unit {0}
 AreLinked bytes (n ∷ ns) = Fits bytes n ns × AreLinked bytes ns
 
--- the first node begins an s-expression
-pub record IsSexp (bytes : List ℕ) (ns : List Node) : Type 0 where
-  pub some : 0 < length ns
-  pub linked : AreLinked bytes ns
+-- the s-expressions from the part at this place on
+abbrev pub trees_at : Parts → ℕ → List Sexp
+trees_at p at = trees p.bytes.items (drop at p.nodes.items)
 
--- the nodes begin with so many s-expressions
-pub record AreSexps (bytes : List ℕ) (ns : List Node) (count : ℕ) : Type 0 where
-  pub linked : AreLinked bytes ns
-  pub many : count ≤ length (trees bytes ns)
+-- the part at this place begins an s-expression
+pub record IsSexp (p : Parts) (at : ℕ) : Type 0 where
+  pub few : length p.nodes.items < 2 ^ 32
+  pub some : at < length p.nodes.items
+  pub linked : AreLinked p.bytes.items (drop at p.nodes.items)
+
+-- at this place begin so many s-expressions
+pub record AreSexps (p : Parts) (at count : ℕ) : Type 0 where
+  pub few : length p.nodes.items < 2 ^ 32
+  pub linked : AreLinked p.bytes.items (drop at p.nodes.items)
+  pub many : count ≤ length (trees_at p at)

@@ -6,7 +6,7 @@ ghost use Rattle.eo_sexp.specs.Parts.{IsPart};
 ghost use Rattle.eo_sexp.specs.Built.{nothing, with_child, closed, opened, width_of, parts_of};
 
 use crate::count::Count;
-use crate::lent::{Node, Sexp, first};
+use crate::lent::{Node, Parts, Sexp, first};
 use crate::token::AtomKind;
 use std::alloc::{AllocError, Global};
 use std::marker::Model;
@@ -28,8 +28,7 @@ pub(crate) struct Open {
 /// The bytes of a command that is begun, and its parts so far.
 #[derive(Drop)]
 pub(crate) struct Buffer {
-    bytes: Vec<u8>,
-    nodes: Vec<Node>,
+    parts: Parts,
     // the innermost last
     lists: Vec<Open>,
 }
@@ -46,9 +45,9 @@ impl Model for Buffer {
 
     ghost use Rattle.eo_sexp.specs.Buffers.{built, IsBuffer};
 
-    ghost view = { λ a. built a.bytes.items a.nodes.items (reverse a.lists.items) };
+    ghost view = { λ a. built a.parts.bytes.items a.parts.nodes.items (reverse a.lists.items) };
 
-    ghost invariant = { λ a. IsBuffer a.bytes.items a.nodes.items (vec_capacity a.nodes) (reverse a.lists.items) };
+    ghost invariant = { λ a. IsBuffer a.parts.bytes.items a.parts.nodes.items (vec_capacity a.parts.nodes) (reverse a.lists.items) };
 }
 
 impl Buffer {
@@ -59,8 +58,10 @@ impl Buffer {
         let mut nodes = Vec::new(alloc);
         nodes.reserve(1)?;
         Ok(Buffer {
-            bytes: Vec::new(alloc),
-            nodes,
+            parts: Parts {
+                bytes: Vec::new(alloc),
+                nodes,
+            },
             lists: Vec::new(alloc),
         })
     }
@@ -69,8 +70,8 @@ impl Buffer {
     pub(crate) fn clear(&mut self)
         ensures { self.new ≡ nothing }
     {
-        self.bytes.clear();
-        self.nodes.clear();
+        self.parts.bytes.clear();
+        self.parts.nodes.clear();
         self.lists.clear();
     }
 
@@ -78,7 +79,7 @@ impl Buffer {
     pub(crate) fn bytes(&self) -> &[u8]
         ensures { result.now ≡ self.now.bytes }
     {
-        self.bytes.as_slice()
+        self.parts.bytes.as_slice()
     }
 
     /// How many lists are open.
@@ -102,7 +103,7 @@ impl Buffer {
     pub(crate) fn push(&mut self, x: u8) -> Result<(), AllocError>
         ensures { OnOk result (self.new ≡ record self.old { bytes = self.old.bytes ++ x ∷ [] }) }
     {
-        self.bytes.push(x)?;
+        self.parts.bytes.push(x)?;
         Ok(())
     }
 
@@ -112,7 +113,7 @@ impl Buffer {
         requires { n ≤ length more.now }
         ensures { OnOk result (self.new ≡ record self.old { bytes = self.old.bytes ++ take n more.now }) }
     {
-        append(&mut self.bytes, more, n)?;
+        append(&mut self.parts.bytes, more, n)?;
         Ok(())
     }
 
@@ -129,13 +130,13 @@ impl Buffer {
         requires own { parts_of self.old ≤ from }
         ensures { OnOk result (self.new ≡ with_child self.old (token_atom self.old.bytes kind delimited from to)) }
     {
-        self.nodes.push(Node::Atom {
+        self.parts.nodes.push(Node::Atom {
             kind,
             delimited,
             from: from as u32,
             to: to as u32,
         })?;
-        count_child(&mut self.lists, self.nodes.len());
+        count_child(&mut self.lists, self.parts.nodes.len());
         Ok(())
     }
 
@@ -147,8 +148,8 @@ impl Buffer {
         requires outside { self.old.open_lists ≡ [] }
         ensures { self.new ≡ with_child self.old (token_atom self.old.bytes kind delimited from to) }
     {
-        self.nodes.clear();
-        self.nodes.push_reserved(Node::Atom {
+        self.parts.nodes.clear();
+        self.parts.nodes.push_reserved(Node::Atom {
             kind,
             delimited,
             from: from as u32,
@@ -163,7 +164,7 @@ impl Buffer {
         requires own { parts_of self.old ≤ at }
         ensures { OnOk result (self.new ≡ opened self.old at) }
     {
-        let node = self.nodes.len();
+        let node = self.parts.nodes.len();
         self.lists.push(Open {
             at: at as u32,
             node,
@@ -175,8 +176,8 @@ impl Buffer {
             from: at as u32,
             to: at as u32,
         };
-        if let Err(e) = self.nodes.push(list) {
-            self.nodes.clear();
+        if let Err(e) = self.parts.nodes.push(list) {
+            self.parts.nodes.clear();
             self.lists.clear();
             return Err(e.into());
         }
@@ -192,14 +193,14 @@ impl Buffer {
         ensures { self.new ≡ closed self.old to }
     {
         let Open { at, node, children } = self.lists.pop().unwrap();
-        let inside = self.nodes.len() - node - 1;
-        self.nodes[node] = Node::List {
+        let inside = self.parts.nodes.len() - node - 1;
+        self.parts.nodes[node] = Node::List {
             children: Count::new(children as usize),
             inside: inside as u32,
             from: at,
             to: to as u32,
         };
-        count_child(&mut self.lists, self.nodes.len());
+        count_child(&mut self.lists, self.parts.nodes.len());
     }
 
     /// The first s-expression that is whole. It takes no memory.
@@ -208,7 +209,7 @@ impl Buffer {
         requires whole { self.now.open_lists ≡ [] }
         ensures { result ≡ first_of self.now.done }
     {
-        first(self.bytes.as_slice(), self.nodes.as_slice())
+        first(&self.parts)
     }
 
     /// A law: what is whole is made of parts of the bytes.
@@ -216,6 +217,6 @@ impl Buffer {
         requires { self.now.open_lists ≡ [] }
         ensures { IsPart self.now.bytes (first_of self.now.done) }
     {
-        let _count = self.nodes.len();
+        let _count = self.parts.nodes.len();
     }
 }

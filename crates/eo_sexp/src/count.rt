@@ -24,9 +24,9 @@ impl Count {
     }
 
     /// The number.
-    pub(crate) fn get(self) -> usize
+    pub(crate) fn get(self) -> u32
         ensures { result ≡ count_of self }
     {
-        (usize::from(self.high) * 256 + usize::from(self.middle)) * 256 + usize::from(self.low)
+        (u32::from(self.high) * 256 + u32::from(self.middle)) * 256 + u32::from(self.low)
     }
 }

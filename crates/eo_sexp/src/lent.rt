@@ -1,10 +1,10 @@
 //! S-expressions that borrow from the bytes of a command and a flat list of its parts.
-ghost use Rattle.std.specs.Prelude.{◌≡◌, ◌<◌, ◌≤◌, ◌∷◌, [], ℕ, length, drop, take};
+ghost use Rattle.std.specs.Prelude.{◌≡◌, ◌<◌, ◌≤◌, ◌+◌, ◌∷◌, [], ℕ, length, drop, take};
 ghost use Rattle.eo_sexp.specs.Sexp.{sexp_text, sexp_children, sexp_span};
 ghost use Rattle.eo_sexp.specs.Kinds.{sexp_kind};
 ghost use Rattle.eo_sexp.specs.Pairs.{list_of};
 ghost use Rattle.eo_sexp.specs.Pairs.{pair_of_span, only_one, first_one, first_two, only_two, only_three, first_three};
-ghost use Rattle.eo_sexp.specs.Nodes.{IsSexp, first_tree, AreLinked, trees};
+ghost use Rattle.eo_sexp.specs.Nodes.{IsSexp, first_of, trees_at, AreLinked};
 
 use crate::Kind;
 use crate::count::Count;
@@ -36,12 +36,19 @@ pub(crate) enum Node {
     },
 }
 
-/// A command, or a part of one. It borrows from what reads the file.
+/// The bytes of a command, and its parts.
+#[derive(Debug, Drop)]
+pub(crate) struct Parts {
+    pub(crate) bytes: Vec<u8>,
+    pub(crate) nodes: Vec<Node>,
+}
+
+/// A command, or a part of one. It borrows from what reads the file, and takes 16 bytes.
 #[derive(Debug, Drop)]
 pub struct Sexp<'b> {
-    bytes: &'b [u8],
-    // this one first
-    nodes: &'b [Node],
+    parts: &'b Parts,
+    // the place of its node
+    at: u32,
 }
 
 impl<'b> Model for Sexp<'b> {
@@ -52,20 +59,20 @@ impl<'b> Model for Sexp<'b> {
 
     ghost coded = { sexp_coded };
 
-    ghost use Rattle.eo_sexp.specs.Nodes.{first_tree, IsSexp};
+    ghost use Rattle.eo_sexp.specs.Nodes.{first_of, trees_at, IsSexp};
 
-    ghost view = { λ a. first_tree a.bytes.now a.nodes.now };
+    ghost view = { λ a. first_of (trees_at a.parts.now a.at) };
 
-    ghost invariant = { λ a. IsSexp a.bytes.now a.nodes.now };
+    ghost invariant = { λ a. IsSexp a.parts.now a.at };
 }
 
-/// The parts of a list, in order.
+/// The parts of a list, in order. They take 16 bytes.
 #[derive(Debug, Drop)]
 pub struct Children<'b> {
-    bytes: &'b [u8],
-    // the next part first
-    nodes: &'b [Node],
-    left: usize,
+    parts: &'b Parts,
+    // the place of the next one's node
+    at: u32,
+    left: u32,
 }
 
 impl<'b> Model for Children<'b> {
@@ -78,19 +85,41 @@ impl<'b> Model for Children<'b> {
 
     ghost coded = { coded_list sexp_coded };
 
-    ghost use Rattle.eo_sexp.specs.Nodes.{trees, AreSexps};
+    ghost use Rattle.eo_sexp.specs.Nodes.{trees_at, AreSexps};
 
-    ghost view = { λ a. take a.left (trees a.bytes.now a.nodes.now) };
+    ghost view = { λ a. take a.left (trees_at a.parts.now a.at) };
 
-    ghost invariant = { λ a. AreSexps a.bytes.now a.nodes.now a.left };
+    ghost invariant = { λ a. AreSexps a.parts.now a.at a.left };
 }
 
-/// The first s-expression of these nodes.
-pub(crate) fn first<'b>(bytes: &'b [u8], nodes: &'b [Node]) -> Sexp<'b>
-    requires { IsSexp bytes.now nodes.now }
-    ensures { result ≡ first_tree bytes.now nodes.now }
+/// The first s-expression of these parts.
+pub(crate) fn first<'b>(parts: &'b Parts) -> Sexp<'b>
+    requires { IsSexp parts.now 0 }
+    ensures { result ≡ first_of (trees_at parts.now 0) }
 {
-    Sexp { bytes, nodes }
+    Sexp { parts, at: 0 }
+}
+
+// The node at this place.
+#[inline(always)]
+fn node_at(parts: &Parts, at: u32) -> Node
+    requires { at < length parts.now.nodes.items }
+    ensures { drop at parts.now.nodes.items ≡ result ∷ drop (at + 1) parts.now.nodes.items }
+{
+    parts.nodes[at as usize]
+}
+
+// The place behind the s-expression at this one.
+#[inline(always)]
+fn behind(parts: &Parts, at: u32) -> u32
+    requires { IsSexp parts.now at }
+    ensures trees { trees_at parts.now result ≡ drop 1 (trees_at parts.now at) }
+    ensures linked { AreLinked parts.now.bytes.items (drop result parts.now.nodes.items) }
+{
+    match node_at(parts, at) {
+        Node::Atom { .. } => at + 1,
+        Node::List { inside, .. } => at + 1 + inside,
+    }
 }
 
 impl<'b> Sexp<'b> {
@@ -98,9 +127,9 @@ impl<'b> Sexp<'b> {
     pub fn kind(&self) -> Kind
         ensures { result ≡ sexp_kind self.now }
     {
-        match self.nodes {
-            [Node::Atom { kind, .. }, ..] => kind.told(),
-            _ => Kind::List,
+        match node_at(self.parts, self.at) {
+            Node::Atom { kind, .. } => kind.told(),
+            Node::List { .. } => Kind::List,
         }
     }
 
@@ -108,18 +137,16 @@ impl<'b> Sexp<'b> {
     pub fn text(&self) -> &'b [u8]
         ensures { result.now ≡ sexp_text self.now }
     {
-        match self.nodes {
-            [
-                Node::Atom {
-                    delimited: true,
-                    from,
-                    to,
-                    ..
-                },
+        let parts = self.parts;
+        match node_at(parts, self.at) {
+            Node::Atom {
+                delimited: true,
+                from,
+                to,
                 ..
-            ] => &self.bytes[*from as usize + 1..*to as usize - 1],
-            [Node::Atom { from, to, .. }, ..] => &self.bytes[*from as usize..*to as usize],
-            _ => &[],
+            } => &parts.bytes[from as usize + 1..to as usize - 1],
+            Node::Atom { from, to, .. } => &parts.bytes[from as usize..to as usize],
+            Node::List { .. } => &[],
         }
     }
 
@@ -128,10 +155,9 @@ impl<'b> Sexp<'b> {
     pub fn span(&self) -> (usize, usize)
         ensures { result ≡ pair_of_span (sexp_span self.now) }
     {
-        match self.nodes {
-            [Node::Atom { from, to, .. }, ..] => (*from as usize, *to as usize),
-            [Node::List { from, to, .. }, ..] => (*from as usize, *to as usize),
-            [] => (0, 0),
+        match node_at(self.parts, self.at) {
+            Node::Atom { from, to, .. } => (from as usize, to as usize),
+            Node::List { from, to, .. } => (from as usize, to as usize),
         }
     }
 
@@ -140,14 +166,15 @@ impl<'b> Sexp<'b> {
     pub fn list(&self) -> Option<Children<'b>>
         ensures { result ≡ list_of self.now }
     {
-        let bytes = self.bytes;
-        match self.nodes.split_first() {
-            Some((Node::List { children, .. }, nodes)) => Some(Children {
-                bytes,
-                nodes,
+        let parts = self.parts;
+        let at = self.at;
+        match node_at(parts, at) {
+            Node::Atom { .. } => None,
+            Node::List { children, .. } => Some(Children {
+                parts,
+                at: at + 1,
                 left: children.get(),
             }),
-            _ => None,
         }
     }
 
@@ -156,45 +183,15 @@ impl<'b> Sexp<'b> {
     pub fn children(&self) -> Children<'b>
         ensures { result ≡ sexp_children self.now }
     {
-        let bytes = self.bytes;
-        match self.nodes.split_first() {
-            Some((Node::List { children, .. }, nodes)) => Children {
-                bytes,
-                nodes,
+        let parts = self.parts;
+        let at = self.at;
+        match node_at(parts, at) {
+            Node::Atom { .. } => Children { parts, at, left: 0 },
+            Node::List { children, .. } => Children {
+                parts,
+                at: at + 1,
                 left: children.get(),
             },
-            _ => Children {
-                bytes,
-                nodes: &[],
-                left: 0,
-            },
-        }
-    }
-}
-
-// The nodes behind the first s-expression of these.
-fn behind_first<'b>(bytes: &[u8], nodes: &'b [Node]) -> &'b [Node]
-    requires { IsSexp bytes.now nodes.now }
-    ensures trees { trees bytes.now result.now ≡ drop 1 (trees bytes.now nodes.now) }
-    ensures linked { AreLinked bytes.now result.now }
-{
-    let _ = bytes;
-    match nodes.split_first() {
-        Some((Node::List { inside, .. }, rest)) => &rest[*inside as usize..],
-        Some((_, rest)) => rest,
-        None => nodes,
-    }
-}
-
-impl<'b> Children<'b> {
-    /// No part, as of an empty list.
-    pub fn empty() -> Children<'b>
-        ensures { result ≡ [] }
-    {
-        Children {
-            bytes: &[],
-            nodes: &[],
-            left: 0,
         }
     }
 }
@@ -212,21 +209,21 @@ impl<'b> Iterator for Children<'b> {
         if self.left == 0 {
             return None;
         }
-        let bytes = self.bytes;
-        let nodes = self.nodes;
+        let parts = self.parts;
+        let at = self.at;
         self.left -= 1;
-        self.nodes = behind_first(bytes, nodes);
-        Some(Sexp { bytes, nodes })
+        self.at = behind(parts, at);
+        Some(Sexp { parts, at })
     }
 
     fn size_hint(&self) -> (usize, Option<usize>) {
-        (self.left, Some(self.left))
+        (self.left as usize, Some(self.left as usize))
     }
 }
 
 impl<'b> ExactSizeIterator for Children<'b> {
     fn len(&self) -> usize {
-        self.left
+        self.left as usize
     }
 }
 
@@ -236,9 +233,20 @@ impl<'b> Children<'b> {
         ensures { result ≡ self.now }
     {
         Children {
-            bytes: self.bytes,
-            nodes: self.nodes,
+            parts: self.parts,
+            at: self.at,
             left: self.left,
+        }
+    }
+
+    /// No part, as of an empty list.
+    pub fn none(&self) -> Children<'b>
+        ensures { result ≡ [] }
+    {
+        Children {
+            parts: self.parts,
+            at: self.at,
+            left: 0,
         }
     }
 }

@@ -76,10 +76,10 @@ fn terms_behind<'b>(word: &[u8], parts: &Children<'b>) -> Option<(Children<'b>, 
     ensures { result ≡ shapes.optional_list list_of word.now parts.now }
 {
     let Some((keyword, list, rest)) = parts.split_two() else {
-        return Some((Children::empty(), parts.again()));
+        return Some((parts.none(), parts.again()));
     };
     if !is_keyword(&keyword, word) {
-        return Some((Children::empty(), parts.again()));
+        return Some((parts.none(), parts.again()));
     }
     Some((list.list()?, rest))
 }
@@ -89,10 +89,10 @@ fn pairs_behind<'b>(word: &[u8], parts: &Children<'b>) -> Option<(PairShapes<'b>
     ensures { result ≡ shapes.optional_list shapes.pairs_of word.now parts.now }
 {
     let Some((keyword, list, rest)) = parts.split_two() else {
-        return Some((no_pairs(), parts.again()));
+        return Some((no_pairs(parts), parts.again()));
     };
     if !is_keyword(&keyword, word) {
-        return Some((no_pairs(), parts.again()));
+        return Some((no_pairs(parts), parts.again()));
     }
     Some((pairs(&list)?, rest))
 }
@@ -103,7 +103,7 @@ fn premises<'b>(parts: &Children<'b>) -> Option<(PremisesShape<'b>, Children<'b>
     ensures { option_map read_premises_and result ≡ shapes.premises_of parts.now }
 {
     let Some((keyword, patterns, joiner, rest)) = parts.split_three() else {
-        return Some((PremisesShape::Each(Children::empty()), parts.again()));
+        return Some((PremisesShape::Each(parts.none()), parts.again()));
     };
     if is_keyword(&keyword, b":premise-list") {
         return Some((
@@ -118,7 +118,7 @@ fn premises<'b>(parts: &Children<'b>) -> Option<(PremisesShape<'b>, Children<'b>
         let (_, _, rest) = parts.split_two()?;
         return Some((PremisesShape::Each(patterns.list()?), rest));
     }
-    Some((PremisesShape::Each(Children::empty()), parts.again()))
+    Some((PremisesShape::Each(parts.none()), parts.again()))
 }
 
 /// The term behind `:conclusion`, and whether `:sorry` follows.

@@ -71,12 +71,12 @@ pub(crate) fn symbols_in<'b>(s: &Sexp<'b>) -> Option<Symbols<'b>>
     Some(Symbols { items })
 }
 
-/// No symbols.
-pub(crate) fn no_symbols<'b>() -> Symbols<'b>
+/// No symbols, of the command that has these parts.
+pub(crate) fn no_symbols<'b>(parts: &Children<'b>) -> Symbols<'b>
     ensures { result ≡ [] }
 {
     Symbols {
-        items: Children::empty(),
+        items: parts.none(),
     }
 }
 
@@ -152,12 +152,12 @@ pub(crate) fn pairs<'b>(s: &Sexp<'b>) -> Option<PairShapes<'b>>
     Some(PairShapes { items })
 }
 
-/// No pairs.
-pub(crate) fn no_pairs<'b>() -> PairShapes<'b>
+/// No pairs, of the command that has these parts.
+pub(crate) fn no_pairs<'b>(parts: &Children<'b>) -> PairShapes<'b>
     ensures { result ≡ [] }
 {
     PairShapes {
-        items: Children::empty(),
+        items: parts.none(),
     }
 }
 

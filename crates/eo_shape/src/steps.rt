@@ -85,10 +85,10 @@ fn premises<'b>(parts: &Children<'b>) -> Option<(Symbols<'b>, Children<'b>)>
     ensures { result ≡ shapes.premise_names parts.now }
 {
     let Some((keyword, list, rest)) = parts.split_two() else {
-        return Some((no_symbols(), parts.again()));
+        return Some((no_symbols(parts), parts.again()));
     };
     if !is_keyword(&keyword, b":premises") {
-        return Some((no_symbols(), parts.again()));
+        return Some((no_symbols(parts), parts.again()));
     }
     Some((symbols_in(&list)?, rest))
 }
@@ -98,7 +98,7 @@ fn arguments<'b>(parts: &Children<'b>) -> Option<Children<'b>>
     ensures { result ≡ shapes.last_arguments parts.now }
 {
     if parts.len() == 0 {
-        return Some(Children::empty());
+        return Some(parts.none());
     }
     let (keyword, list) = parts.only_two()?;
     if !is_keyword(&keyword, b":args") {

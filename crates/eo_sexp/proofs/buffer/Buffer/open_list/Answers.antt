@@ -10,8 +10,8 @@ use Rattle.eo_sexp.proofs.buffer.Buffer.open_list.Goals as goal
 
 pub invariant_of-self-in_default : goal.invariant_of-self-in_default
 invariant_of-self-in_default c =
-    let bytes = c.self.inside.bytes.items in
-    let ns = c.self.inside.nodes.items in
+    let bytes = c.self.inside.parts.bytes.items in
+    let ns = c.self.inside.parts.nodes.items in
     let os = reverse c.self.inside.lists.items in
     let n : Node = node.List c.new.result 0 c.args.at c.args.at in
     let parts = node-parts bytes ns os c.args.self.now c.self.invariant.open_lists c.self.view_is in
@@ -24,5 +24,6 @@ invariant_of-self-in_default c =
       open_lists = subst (AreOpen bytes c.push-2.new.self.items) (sym lists)
           (subst (λ (ms : List Node). AreOpen bytes ms (list ∷ os)) (sym c.in_default.ensures.items) (list-opened-open bytes ns n os c.args.at c.self.invariant.open_lists));
       room = omega (arith, c.self.invariant.room, c.in_default.ensures.capacity);
+      short = omega (arith, parts, c.requires.own, c.requires.short, ap length c.in_default.ensures.items, length-append ns (n ∷ []));
       few = omega (arith, parts, room, c.requires.own, c.requires.within, ap length c.in_default.ensures.items, length-append ns (n ∷ []));
     }

@@ -6,14 +6,15 @@ use Rattle.eo_sexp.proofs.buffer.Buffer.push.Goals as goal
 
 pub invariant_of-self-2 : goal.invariant_of-self-2
 invariant_of-self-2 c = record {
-  open_lists = subst (λ (bytes : List ℕ). AreOpen bytes c.self.inside.nodes.items (reverse c.self.inside.lists.items)) (sym c.in_ok-push.ensures.items)
-      (open-bytes c.self.inside.bytes.items (c.args.x ∷ []) c.self.inside.nodes.items (reverse c.self.inside.lists.items) c.self.invariant.open_lists);
+  open_lists = subst (λ (bytes : List ℕ). AreOpen bytes c.self.inside.parts.nodes.items (reverse c.self.inside.lists.items)) (sym c.in_ok-push.ensures.items)
+      (open-bytes c.self.inside.parts.bytes.items (c.args.x ∷ []) c.self.inside.parts.nodes.items (reverse c.self.inside.lists.items) c.self.invariant.open_lists);
   room = c.self.invariant.room;
-  few = omega (arith, c.self.invariant.few, ap length c.in_ok-push.ensures.items, length-append c.self.inside.bytes.items (c.args.x ∷ []));
+  short = c.self.invariant.short;
+  few = omega (arith, c.self.invariant.few, ap length c.in_ok-push.ensures.items, length-append c.self.inside.parts.bytes.items (c.args.x ∷ []));
 }
 
 pub returns : goal.returns
 returns c =
-    ap (λ (bytes : List ℕ). built bytes c.self.inside.nodes.items (reverse c.self.inside.lists.items)) c.in_ok-push.ensures.items
-    ∙ built-bytes c.self.inside.bytes.items (c.args.x ∷ []) c.self.inside.nodes.items (reverse c.self.inside.lists.items) c.self.invariant.open_lists
+    ap (λ (bytes : List ℕ). built bytes c.self.inside.parts.nodes.items (reverse c.self.inside.lists.items)) c.in_ok-push.ensures.items
+    ∙ built-bytes c.self.inside.parts.bytes.items (c.args.x ∷ []) c.self.inside.parts.nodes.items (reverse c.self.inside.lists.items) c.self.invariant.open_lists
     ∙ ap (λ (b : Built). record b { bytes = b.bytes ++ c.args.x ∷ [] }) c.self.view_is
