@@ -35,7 +35,8 @@ abbrev pub counted : List Open → List Open
 counted [] = []
 counted (o ∷ os) = record o { children = o.children + 1 } ∷ os
 
--- There is room for the one node of a command that is an atom. Each node begins at a byte of its own, the last one maybe at the next byte. A place among them is a number of 32 bits.
+-- There is room for the one node of a command that is an atom. Each node begins at a byte of its own, the last one maybe at the next byte.
+-- A place among them is a number of 32 bits.
 pub record IsBuffer (bytes : List ℕ) (ns : List Node) (capacity : ℕ) (os : List Open) : Type 0 where
   pub open_lists : AreOpen bytes ns os
   pub room : 0 < capacity

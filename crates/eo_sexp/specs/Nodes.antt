@@ -55,7 +55,7 @@ AreLinked bytes (n ∷ ns) = Fits bytes n ns × AreLinked bytes ns
 abbrev pub trees_at : Parts → ℕ → List Sexp
 trees_at p at = trees p.bytes.items (drop at p.nodes.items)
 
--- the part at this place begins an s-expression
+-- the part at this place, a number of 32 bits, begins an s-expression
 pub record IsSexp (p : Parts) (at : ℕ) : Type 0 where
   pub few : length p.nodes.items < 2 ^ 32
   pub some : at < length p.nodes.items

@@ -43,7 +43,8 @@ pub(crate) struct Parts {
     pub(crate) nodes: Vec<Node>,
 }
 
-/// A command, or a part of one. It borrows from what reads the file, and takes 16 bytes.
+/// A command, or a part of one. It borrows from what reads the file, and takes 16 bytes, so that the
+/// shape of a command, which holds several, is cheap to move.
 #[derive(Debug, Drop)]
 pub struct Sexp<'b> {
     parts: &'b Parts,
@@ -66,7 +67,7 @@ impl<'b> Model for Sexp<'b> {
     ghost invariant = { λ a. IsSexp a.parts.now a.at };
 }
 
-/// The parts of a list, in order. They take 16 bytes.
+/// The parts of a list, in order. They take 16 bytes, however many they are.
 #[derive(Debug, Drop)]
 pub struct Children<'b> {
     parts: &'b Parts,
@@ -110,7 +111,6 @@ fn node_at(parts: &Parts, at: u32) -> Node
 }
 
 // The place behind the s-expression at this one.
-#[inline(always)]
 fn behind(parts: &Parts, at: u32) -> u32
     requires { IsSexp parts.now at }
     ensures trees { trees_at parts.now result ≡ drop 1 (trees_at parts.now at) }
