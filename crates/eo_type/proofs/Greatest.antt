@@ -1,11 +1,12 @@
 -- Numbers beside the entries that are kept, where one is added and where only older ones stay.
-use Rattle.std.proofs.Common.{◌≡◌, ◌≢◌, ℕ, zero, suc, ◌+◌, ◌-◌, ◌<◌, ◌≤◌, ◌⊎◌, ⊎_elim, cond, true, List, [], ◌∷◌, ◌++◌, length, length-append, length-set, take, drop, filter, replicate, set, get_or, get_or-set_same, get_or-set_other, All, refl, sym, ap, ◌∙◌, subst, subst₂, arith, Bool, nat_lt, ltb-true, lt-ltb, take-take, length-take-le, get_or-take}
+use Rattle.std.proofs.Common.{◌≡◌, ◌≢◌, ℕ, zero, suc, ◌+◌, ◌-◌, ◌<◌, ◌≤◌, ⊎_elim, cond, true, List, [], ◌∷◌, ◌++◌, length, length-append, length-set, take, drop, filter, replicate, set, get_or, get_or-set_same, get_or-set_other, All, refl, sym, ap, ◌∙◌, subst, subst₂, arith, Bool, nat_lt, ltb-true, lt-ltb, take-take, length-take-le, get_or-take}
 use Rattle.std.proofs.Math.Seq.{take-length}
-use Rattle.std.specs.Prelude.{slice_index_or, swap}
+use Rattle.std.specs.Prelude.{slice_get, slice_index_or, Some, swap}
 use Rattle.std.specs.List.{SwappedAt}
 use Rattle.std.proofs.lemmas.List.Edits.{swap_is}
 use Rattle.std.proofs.lemmas.List.{get_or_append_left, get_or_push, get_or-append_right, get_or-replicate, length-replicate, length_push, take_all, take-append-le}
 use Rattle.std.proofs.lemmas.List.Elements.{All-take, All-weaker, All-head, All-tail, filter_passes}
+use Rattle.std.proofs.lemmas.Option.{get_or_from_slice_get, slice_get_within}
 use Rattle.std.proofs.lemmas.Bool.{cases_lt, cases_eq, and_parts, and_from}
 use Rattle.eo_type.specs.Known.{is_before}
 use Rattle.eo_type.specs.Greatest.{IsUpTo, AreGreatest}
@@ -100,3 +101,16 @@ greatest_before ns es fs n start g within h same from = record {
 pub nothing_forgotten : (n start : ℕ) (es : List (ℕ × ℕ)) → start ≡ length es → All (λ e. is_before n e ≡ true) (take start es) → es ≡ filter (is_before n) es
 nothing_forgotten n start es long before =
     sym (filter_all (is_before n) es (subst (All (λ e. is_before n e ≡ true)) (ap (λ k. take k es) long ∙ take-length es) before))
+
+-- where what is beside the last entry is before a mark, none is forgotten
+pub all_kept : (n m : ℕ) (ns : List ℕ) (es : List (ℕ × ℕ)) → AreGreatest ns es → slice_get ns (length ns - 1) ≡ Some m → m < n → es ≡ filter (is_before n) es
+all_kept n m ns es g e l = sym (filter_all (is_before n) es (All-weaker (IsUpTo m) (λ e. is_before n e ≡ true) before es upto))
+  where
+    within : length ns - 1 < length ns
+    within = slice_get_within ns (length ns - 1) m e
+
+    upto : All (IsUpTo m) es
+    upto = subst₂ (λ k xs. All (IsUpTo k) xs) (get_or_from_slice_get ns (length ns - 1) m 0 e) (take_all (length ns - 1 + 1) es (omega (arith, within, g.long))) (g.upto (length ns - 1) (omega (arith, within, g.long)))
+
+    before : (e : ℕ × ℕ) → IsUpTo m e → is_before n e ≡ true
+    before e h = and_from (nat_lt e.0 n) (nat_lt e.1 n) (lt-ltb e.0 n (omega (arith, h.term, l))) (lt-ltb e.1 n (omega (arith, h.type, l)))

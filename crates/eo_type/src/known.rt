@@ -62,9 +62,20 @@ impl Known {
     }
 
     /// Keeps the entries alone whose terms are both among the first so many terms. It costs no more
-    /// than was found since there were no more terms than that.
-    #[tactic(auto, using(crate::proofs::Greatest::nothing_forgotten))]
+    /// than was found since there were no more terms than that, and next to nothing where all are kept.
+    #[inline]
     pub(crate) fn forget(&mut self, terms: usize)
+        ensures { self.new ≡ filter (is_before terms) self.old }
+    {
+        if self.are_older(terms) {
+            return;
+        }
+        self.forget_newer(terms);
+    }
+
+    // The same, where what stands beside the last entry does not tell that all are kept.
+    #[tactic(auto, using(crate::proofs::Greatest::nothing_forgotten))]
+    fn forget_newer(&mut self, terms: usize)
         ensures { self.new ≡ filter (is_before terms) self.old }
     {
         let start = self.older(terms);
@@ -91,6 +102,17 @@ impl Known {
     {
         let last = self.greatest.last().copied().unwrap_or(0);
         last.max(id.place()).max(ty.place())
+    }
+
+    // Whether all entries name no others than the first so many terms, by what stands beside the last.
+    #[inline]
+    fn are_older(&self, terms: usize) -> bool
+        ensures { result ≡ true → self.now ≡ filter (is_before terms) self.now }
+    {
+        match self.greatest.last() {
+            Some(greatest) => *greatest < terms,
+            None => true,
+        }
     }
 
     // How many entries at the front name no others than the first so many terms, by what stands beside

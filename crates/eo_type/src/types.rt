@@ -97,6 +97,7 @@ impl Types {
 
     /// Drops each entry that names a term which was made after the mark. It takes no memory, and it
     /// costs no more than was found since the table was last marked so, or before.
+    #[inline]
     pub fn forget(&mut self, mark: Mark)
         ensures left { self.new ≡ filter (is_before mark.0) self.old }
         ensures fits { FitsCut mark.0 self.old self.new }
