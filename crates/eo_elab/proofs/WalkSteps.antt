@@ -20,7 +20,7 @@ use Rattle.eo_names.specs.Binders.{list_of, pair_local, variable}
 use Rattle.eo_shape.specs.Words.{symbol_of}
 use Rattle.eo_names.specs.Contexts.{Context, Local, is_list}
 use Rattle.eo_names.specs.Readers.{Label, Reader, ◌>>=◌, give, go_on, unless, with_labels}
-use Rattle.eo_elab.specs.Meaning.{ListForm, ALet, AnAnnotation, ABitString, AnApplication, ATermFirst, Wrong, counted_form, atom, means, means_list, means_all, in_let, in_binder, annotated, label, labels_of, pair_list, pairs_after}
+use Rattle.eo_elab.specs.Meaning.{ListForm, ALet, AnAnnotation, ABitString, AnApplication, ATermFirst, Wrong, counted_form, atom, meaning, means, means_list, means_all, in_let, in_binder, annotated, label, labels_of, pair_list, pairs_after, without_labels}
 use Rattle.eo_names.specs.Names.{Binding, binding_local, read_locals, read_pairs}
 use Rattle.eo_names.specs.declared.scope.Scope.{Scope}
 use Rattle.eo_names.specs.Scopes.{bound_in, setting_in}
@@ -224,3 +224,12 @@ of_no_list w (Atom kind.Keyword text span) labels e = of_atom w.names w.locals l
 of_no_list w (Atom kind.Literal text span) labels e = of_atom w.names w.locals labels kind.Literal text span
 of_no_list w (Atom kind.String text span) labels e = of_atom w.names w.locals labels kind.String text span
 of_no_list w (Listed ss span) labels e = cc
+
+left_out : (o : Checked Tree) → without_labels (with_labels [] o) ≡ o
+left_out (Ok t) = refl
+left_out (Err fault) = refl
+
+-- what an atom means outside of an assertion
+pub meaning_of_atom : (w : World) (s : Sexp) → None ≡ parts_in s → meaning w.names w.locals s ≡ atom_told w (sexp_kind s) (sexp_text s)
+unfolding meaning
+meaning_of_atom w s e = ap without_labels (of_no_list w s [] e) ∙ left_out (atom_told w (sexp_kind s) (sexp_text s))

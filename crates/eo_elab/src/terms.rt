@@ -5,14 +5,15 @@ ghost use Rattle.eo_names.specs.Gives.{GivesTree};
 ghost use Rattle.eo_names.specs.Ready.{IsReady, Keeps};
 ghost use Rattle.eo_names.specs.Worlds.{world_of};
 ghost use Rattle.eo_names.specs.Names.{BindingsBelow};
-ghost use Rattle.eo_elab.specs.Gives.{GivesTrees, GivesTerm, NamesGrow};
+ghost use Rattle.eo_elab.specs.Gives.{GivesTrees, GivesTerm, NamesGrow, atom_told};
 ghost use Rattle.eo_names.specs.Scopes.{read_setting};
 ghost use Rattle.eo_elab.specs.Worlds.{meaning_in, meanings_in, world_in, meant_at, reference_setting, reference_meaning};
 
+use crate::atoms::atom;
 use crate::walk::mean;
 use crate::{ElabRefused, Locals, Names, Setting};
 use eo_names::{Scope, names_law};
-use eo_sexp::{Children, Sexp};
+use eo_sexp::{Children, Kind, Sexp};
 use eo_sig::{Signature, SignatureView};
 use eo_term::{Id, Ids, Table};
 use std::alloc::Global;
@@ -144,6 +145,7 @@ fn mean_at(
 }
 
 /// The meaning of a term in a file of this kind, outside of its assertions.
+#[inline]
 pub(crate) fn term_at(
     alloc: Global,
     s: &Sexp<'_>,
@@ -161,7 +163,55 @@ pub(crate) fn term_at(
 }
 
 /// The same where this is declared.
+#[inline]
 pub(crate) fn mean_term(
+    alloc: Global,
+    s: &Sexp<'_>,
+    locals: &Locals,
+    setting: Setting,
+    sig: &SignatureView<'_>,
+    table: &mut Table,
+) -> Result<Id, ElabRefused>
+    requires ready { IsReady (length table.old.trees) sig.now locals.now }
+    ensures gives { GivesTree table.new result (meaning_in (world_in table.old sig.now locals.now setting) s.now) }
+    ensures grows { Grows table.old table.new }
+    ensures keeps { Keeps sig.now locals.now table.old.trees table.new.trees }
+{
+    match s.list() {
+        None => mean_atom(alloc, s.kind(), s.text(), locals, setting, sig, table),
+        Some(_) => mean_unlabelled(alloc, s, locals, setting, sig, table),
+    }
+}
+
+// The meaning of an atom in a file of this kind.
+#[inline]
+fn mean_atom(
+    alloc: Global,
+    kind: Kind,
+    text: &[u8],
+    locals: &Locals,
+    setting: Setting,
+    sig: &SignatureView<'_>,
+    table: &mut Table,
+) -> Result<Id, ElabRefused>
+    requires ready { IsReady (length table.old.trees) sig.now locals.now }
+    ensures gives { GivesTree table.new result (atom_told (world_in table.old sig.now locals.now setting) kind text.now) }
+    ensures grows { Grows table.old table.new }
+    ensures keeps { Keeps sig.now locals.now table.old.trees table.new.trees }
+{
+    names_law();
+    atom(
+        alloc,
+        kind,
+        text,
+        &Scope::Outer(locals, setting),
+        sig,
+        table,
+    )
+}
+
+// The meaning of any term in a file of this kind, without the names that it gives itself.
+fn mean_unlabelled(
     alloc: Global,
     s: &Sexp<'_>,
     locals: &Locals,

@@ -1,17 +1,13 @@
-use Rattle.std.proofs.Common.{length, ap, sym, subst, ◌<◌}
-use Rattle.std.proofs.lemmas.List.Elements.{All-nil}
-use Rattle.eo_names.specs.Names.{Binding, BindingsBelow, read_locals}
-use Rattle.eo_elab.specs.Meaning.{means, meaning, without_labels}
-use Rattle.eo_elab.specs.Worlds.{context_at, labels_in}
-use Rattle.eo_elab.proofs.Giving.{unlabelled}
+use Rattle.std.proofs.Common.{◌≡◌, sym, subst, ◌∙◌}
+use Rattle.eo_names.specs.Gives.{GivesTree}
+use Rattle.eo_elab.specs.Gives.{atom_told}
+use Rattle.eo_elab.specs.Worlds.{meaning_in, world_in}
+use Rattle.eo_elab.proofs.WalkSteps.{meaning_of_atom}
 use Rattle.eo_elab.proofs.terms.mean_term.Goals as goal
 
-pub mean_at-requires-clause-labels : goal.mean_at-requires-clause-labels
-mean_at-requires-clause-labels c = subst (BindingsBelow (length c.args.table.now.trees)) (sym c.new-labels.ensures) (All-nil (λ (b : Binding). b.1 < length c.args.table.now.trees))
-
-pub returns-clause-gives : goal.returns-clause-gives
-unfolding meaning
-returns-clause-gives c =
-    let t = c.args.table.now in
-    unlabelled c.mean_at.new.table c.mean_at.new.labels c.mean_at.result _ _
-    (ap (λ bs. without_labels (means (context_at t c.args.sig.now c.args.setting) (read_locals t.trees c.args.locals.now) c.args.s.now (labels_in t bs))) (sym c.new-labels.ensures)) c.mean_at.ensures.gives
+pub returns-in-None-clause-gives : goal.returns-in-None-clause-gives
+returns-in-None-clause-gives c =
+    let w = world_in c.args.table.now c.args.sig.now c.args.locals.now c.args.setting in
+    let step : meaning_in w c.args.s.now ≡ atom_told w c.kind.result c.text.result.now =
+    meaning_of_atom w c.args.s.now c.in-None.ensures ∙ (λ i. atom_told w (sym c.kind.ensures i) (sym c.text.ensures i)) in
+    subst (GivesTree c.mean_atom.new.table c.mean_atom.result) (sym step) c.mean_atom.ensures.gives
