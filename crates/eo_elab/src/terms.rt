@@ -33,6 +33,7 @@ use std::alloc::Global;
 ///
 /// The terms that the signature and the names hold are terms of the table. All of these stay; a
 /// refused call leaves the table as it was.
+#[inline]
 pub fn term(
     alloc: Global,
     s: &Sexp<'_>,

@@ -199,6 +199,7 @@ impl Held {
     }
 
     // What a term means.
+    #[inline]
     fn meant(&mut self, s: &Sexp<'_>) -> Result<Id, Refused>
         requires { IsWhole self.old }
         ensures gives { GivesTerm self.new result (meaning (context (state_of self.old)) [] s.now) }
