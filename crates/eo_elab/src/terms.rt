@@ -211,7 +211,7 @@ fn mean_atom(
     )
 }
 
-// The meaning of any term in a file of this kind, without the names that it gives itself.
+// The meaning of any term in a file of this kind. The names that it gives itself are let go.
 fn mean_unlabelled(
     alloc: Global,
     s: &Sexp<'_>,
