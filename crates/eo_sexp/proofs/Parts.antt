@@ -1,5 +1,5 @@
 -- The parts of the s-expressions that nodes stand for.
-use Rattle.std.proofs.Common.{◌≡◌, refl, ℕ, zero, suc, ◌<◌, ◌≤◌, List, [], ◌∷◌, drop, length, ap, arith}
+use Rattle.std.proofs.Common.{◌≡◌, refl, ℕ, zero, suc, ◌<◌, List, [], ◌∷◌, drop, length, ap, arith}
 use Rattle.eo_sexp.specs.Sexp.{Sexp, children_of}
 use Rattle.eo_sexp.specs.Sexp.{sexps_of}
 use Rattle.eo_sexp.specs.declared.lent.Node.{Node}
@@ -19,10 +19,3 @@ linked_behind bytes (n ∷ ns) (suc k) h = linked_behind bytes ns k h.1
 pub some_node : (bytes : List ℕ) (ns : List Node) → 0 < length (trees bytes ns) → 0 < length ns
 some_node bytes [] h = absurd (omega (arith, h))
 some_node bytes (n ∷ ns) h = omega arith
-
--- and what is behind a place where they are linked
-pub linked_from : (bytes : List ℕ) (ns : List Node) (i j : ℕ) → i ≤ j → AreLinked bytes (drop i ns) → AreLinked bytes (drop j ns)
-linked_from bytes ns zero j l h = linked_behind bytes ns j h
-linked_from bytes ns (suc i) zero l h = absurd (omega (arith, l))
-linked_from bytes [] (suc i) (suc j) l h = h
-linked_from bytes (n ∷ ns) (suc i) (suc j) l h = linked_from bytes ns i j (omega (arith, l)) h

@@ -1,6 +1,11 @@
-use Rattle.std.proofs.Common.{◌+◌, arith}
-use Rattle.eo_sexp.proofs.Parts.{linked_from}
+use Rattle.std.proofs.Common.{◌+◌, drop, drop-drop, subst}
+use Rattle.eo_sexp.specs.Nodes.{AreLinked}
+use Rattle.eo_sexp.proofs.Parts.{linked_behind}
 use Rattle.eo_sexp.proofs.lent.behind.Goals as goal
 
 pub returns-in-List-clause-linked : goal.returns-in-List-clause-linked
-returns-in-List-clause-linked c = linked_from c.args.parts.now.bytes.items c.args.parts.now.nodes.items c.args.at (c.args.at + 1 + c.in-List.inside) (omega arith) c.requires.linked
+returns-in-List-clause-linked c =
+    let ns = c.args.parts.now.nodes.items in
+    let linked = rw c.node_at.ensures at c.requires.linked in
+    subst (AreLinked c.args.parts.now.bytes.items) (drop-drop c.in-List.inside (c.args.at + 1) ns)
+    (linked_behind c.args.parts.now.bytes.items (drop (c.args.at + 1) ns) c.in-List.inside linked.1)
