@@ -31,6 +31,7 @@ use std::alloc::{AllocError, Global};
 /// reference file, `!`. `UnknownSymbol`: any other symbol
 /// that stands for nothing, and a keyword.
 #[tactic(auto, unfolding(crate::specs::Meaning::atom))]
+#[inline(always)]
 pub(crate) fn atom(
     alloc: Global,
     kind: Kind,

@@ -185,7 +185,6 @@ pub(crate) fn mean_term(
 }
 
 // The meaning of an atom in a file of this kind.
-#[inline]
 fn mean_atom(
     alloc: Global,
     kind: Kind,
@@ -212,6 +211,7 @@ fn mean_atom(
 }
 
 // The meaning of any term in a file of this kind. The names that it gives itself are let go.
+#[inline(never)]
 fn mean_unlabelled(
     alloc: Global,
     s: &Sexp<'_>,

@@ -75,6 +75,7 @@ impl Known {
 
     // The same, where what stands beside the last entry does not tell that all are kept.
     #[tactic(auto, using(crate::proofs::Greatest::nothing_forgotten))]
+    #[inline(never)]
     fn forget_newer(&mut self, terms: usize)
         ensures { self.new ≡ filter (is_before terms) self.old }
     {
