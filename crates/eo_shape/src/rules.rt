@@ -129,7 +129,15 @@ fn conclusion<'b>(parts: &Children<'b>) -> Option<(Sexp<'b>, bool)>
     if !is_keyword(&keyword, b":conclusion") {
         return None;
     }
-    Some((term, sorry(&rest)?))
+    with_sorry(term, &rest)
+}
+
+/// The term, and whether these parts are `:sorry`.
+fn with_sorry<'b>(term: Sexp<'b>, parts: &Children<'_>) -> Option<(Sexp<'b>, bool)>
+    ensures { result ≡ option_map (λ sorry. (term.entry, sorry)) (shapes.sorry_of parts.now) }
+{
+    let sorry = sorry(parts)?;
+    Some((term, sorry))
 }
 
 /// Whether these parts are `:sorry`, or else nothing.
