@@ -18,7 +18,7 @@ pub returns-in_err-types-clause-gives : goal.returns-in_err-types-clause-gives
 returns-in_err-types-clause-gives c =
     let x = context_at c.args.table.now c.args.sig.now c.args.setting in
     let alone : world_in c.args.table.now c.args.sig.now c.new-none.result c.args.setting ≡ record { names = x; locals = [] } = ap (λ ls. world_in c.args.table.now c.args.sig.now ls c.args.setting) c.new-none.ensures in
-    fails _ _ _ _ _ _ _ c.from_residual-in_err-types.ensures.1
+    fails _ _ _ _ _ _ _ c.from_residual.ensures.1
     (λ f e. function-no-inputs x c.args.inputs.now c.args.output.now f (ap (λ (u : World). meanings_in u c.args.inputs.now) (sym alone) ∙ e)) c.in_err-types.ensures.gives
 
 pub function_to-requires-clause-ready : goal.function_to-requires-clause-ready

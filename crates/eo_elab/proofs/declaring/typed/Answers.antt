@@ -22,7 +22,7 @@ returns-in_err-ty-clause-gives c =
     let x = context_at c.args.table.now c.args.sig.now c.args.setting in
     let ready = none_ready c.args.sig.now _ _ c.new-none.ensures c.requires in
     let alone : world_in c.args.table.now c.args.sig.now c.new-none.result c.args.setting ≡ record { names = x; locals = [] } = ap (λ ls. world_in c.args.table.now c.args.sig.now ls c.args.setting) c.new-none.ensures in
-    fails _ _ _ _ _ _ _ c.from_residual-in_err-ty.ensures.1
+    fails _ _ _ _ _ _ _ c.from_residual.ensures.1
     (λ f e. typed-no-type x [] c.args.ty.now (shapes.read_attribute c.args.attribute.now) f (ap (λ (u : World). meaning_in u c.args.ty.now) (sym alone) ∙ e)) c.in_err-ty.ensures.gives
 
 pub returns-in_err-attribute-clause-gives : goal.returns-in_err-attribute-clause-gives
