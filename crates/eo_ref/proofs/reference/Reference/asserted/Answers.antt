@@ -34,7 +34,7 @@ returns-in_err-formula-clause-gives c =
     let s = c.args.s.now in
     let x = names_in (signature t.trees k) (macros t.trees k) InAssert in
     let alone : means x [] s [] ≡ means x (read_locals t.trees c.new-none.result) s (labels_in t c.new-names.result) = (λ i. means x (read_locals t.trees (sym c.new-none.ensures i)) s (labels_in t (sym c.new-names.ensures i))) in
-    fails _ _ _ _ _ _ _ c.from_residual-in_err-formula.ensures.1 (λ f e. bind_fails (means x [] s []) asserts f (alone ∙ e)) c.in_err-formula.ensures.gives
+    fails _ _ _ _ _ _ _ c.from_residual.ensures.1 (λ f e. bind_fails (means x [] s []) asserts f (alone ∙ e)) c.in_err-formula.ensures.gives
 
 pub returns-clause-gives : goal.returns-clause-gives
 returns-clause-gives c =

@@ -15,7 +15,7 @@ returns-in_err-id-clause-gives c =
     let st = state_of h in
     let s = c.args.s.now in
     let x = c.in_err-id.field-0.0 in
-    at_exit (λ (r : Result ℕ Refused). GivesTerm (record h { table = c.term.new.table }) r (meaning (context st) [] s)) c.from_residual-in_err-id.result (of_elab x) c.from_residual-in_err-id.ensures.1
+    at_exit (λ (r : Result ℕ Refused). GivesTerm (record h { table = c.term.new.table }) r (meaning (context st) [] s)) c.from_residual.result (of_elab x) c.from_residual.ensures.1
     (refuses_on _ _ (of_elab x) (refuses_elab _ x c.in_err-id.ensures.gives) (λ name e. no_locals st s h.table.trees c.new-locals.result c.new-locals.ensures _ e))
 
 pub returns-in_err-id-clause-keeps : goal.returns-in_err-id-clause-keeps
