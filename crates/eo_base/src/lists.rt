@@ -121,28 +121,3 @@ impl<T: Drop> List<T> {
         self.items.as_slice()
     }
 }
-
-#[cfg(test)]
-mod tests {
-    use super::*;
-    use std::test::Fail;
-
-    #[test]
-    fn lists_hold_what_they_were_given(rt: HostRuntime) -> Result<(), Fail> {
-        let text = Text::new(rt.alloc(), "p.eo")?;
-        assert_eq!(rt; text.as_str(), "p.eo");
-        assert_eq!(rt; text.as_bytes(), b"p.eo".as_slice());
-        let characters = Chars::new(rt.alloc(), &[97, 0x2_ffff])?;
-        assert_eq!(rt; characters.as_slice(), [97, 0x2_ffff].as_slice());
-        Ok(())
-    }
-
-    #[test]
-    fn a_list_holds_what_is_pushed(rt: HostRuntime) -> Result<(), Fail> {
-        let mut list = List::new(rt.alloc());
-        list.push(3_u64)?;
-        list.push(1)?;
-        assert_eq!(rt; list.as_slice(), [3, 1].as_slice());
-        Ok(())
-    }
-}

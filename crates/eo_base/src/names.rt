@@ -130,37 +130,3 @@ impl<'a> Equivalent<Name> for NameRef<'a> {
         self.0 == key.as_bytes()
     }
 }
-
-#[cfg(test)]
-mod tests {
-    use super::*;
-    use indexmap::IndexMap;
-    use std::hash::{BuildHasherDefault, DefaultHasher};
-    use std::test::Fail;
-
-    #[test]
-    fn a_name_holds_its_bytes(rt: HostRuntime) -> Result<(), Fail> {
-        let name = Name::new(rt.alloc(), &[0, 255])?;
-        assert_eq!(rt; name.as_bytes(), [0, 255].as_slice());
-        let long = Name::new(rt.alloc(), b"a name of more bytes")?;
-        assert_eq!(rt; long.as_bytes(), b"a name of more bytes".as_slice());
-        Ok(())
-    }
-
-    #[test]
-    fn a_name_is_found_by_its_bytes(rt: HostRuntime) -> Result<(), Fail> {
-        let hasher = BuildHasherDefault::<DefaultHasher>::new();
-        let mut names = IndexMap::with_hasher(rt.alloc(), hasher);
-        let short = Name::new(rt.alloc(), b"@p1")?;
-        let long = Name::new(rt.alloc(), b"a name of more bytes")?;
-        names.insert(short, 1u64)?;
-        names.insert(long, 2)?;
-        assert_eq!(rt; names.get(NameRef(b"@p1")).copied(), Some(1));
-        assert_eq!(rt;
-            names.get(NameRef(b"a name of more bytes")).copied(),
-            Some(2)
-        );
-        assert_eq!(rt; names.get(NameRef(b"@p")).copied(), None);
-        Ok(())
-    }
-}

@@ -13,8 +13,6 @@ mod conversions;
 mod kinds;
 mod logic;
 mod parts;
-#[cfg(test)]
-mod tests;
 mod texts;
 
 use eo_base::Chars;

@@ -1,7 +1,7 @@
 use Rattle.std.proofs.Common.{◌≡◌, ◌≤◌, [], ◌∷◌, ◌++◌, arith}
 use Rattle.std.proofs.lemmas.List.Elements.{All-push}
 use Rattle.eo_base.specs.Characters.{greatest_character}
-use Rattle.eo_ops.proofs.tests.characters.Goals as goal
+use Rattle.ops_tests.proofs.tests.characters.Goals as goal
 
 pub loop-byte-preserved : goal.loop-byte-preserved
 loop-byte-preserved c =

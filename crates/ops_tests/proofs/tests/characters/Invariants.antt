@@ -1,5 +1,5 @@
 use Rattle.eo_base.specs.Characters.{AreCharacters}
-use Rattle.eo_ops.proofs.tests.characters.Given as goal
+use Rattle.ops_tests.proofs.tests.characters.Given as goal
 
 abbrev pub invariant-loop-byte : goal.invariant-loop-byte
 invariant-loop-byte l = AreCharacters l.characters.items
