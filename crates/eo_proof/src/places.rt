@@ -1,6 +1,6 @@
 //! Where the names of a list stand in it.
 ghost use Rattle.std.specs.Prelude.{◌≡◌, ◌≢◌, ◌<◌, ◌≤◌, ◌+◌, ◌*◌, ◌^◌, ℕ, ◌∷◌, ◌++◌, [], List};
-ghost use Rattle.std.specs.Prelude.{Some, None, false, take, IsTrue, OnOk, OnErr, option_and_then, slice_get};
+ghost use Rattle.std.specs.Prelude.{◌↔◌, Some, None, take, IsTrue, IsFalse, OnOk, OnErr, option_and_then, slice_get};
 ghost use Rattle.std.specs.Map.{lookup};
 ghost use Rattle.std.specs.Str.{bytes_eq};
 ghost use Rattle.eo_proof.specs.Places.{Entry, next_number, number_from, number_in, at_place, place_in, AreFound, IsFree, LeadsTo};
@@ -62,14 +62,14 @@ fn at_place(names: &Texts, name: &[u8], place: usize) -> Option<usize>
 
 /// Whether a number may lead to this place: the table of numbers has at most eight for each name.
 fn may_lead(number: usize, place: usize) -> bool
-    ensures { IsTrue result → (place < 4294967295) × (number ≤ 8 * place + 64) }
+    ensures { IsTrue result ↔ ((place < 4294967295) × (number ≤ 8 * place + 64)) }
 {
     place < NOWHERE as usize && number <= 8 * place + 64
 }
 
 /// Whether the name at the place, if there is one, ends in the number.
 fn ends_in(names: &Texts, place: usize, number: usize) -> bool
-    ensures { result ≡ false → (name : List ℕ) → slice_get names.now place ≡ Some name → number_in name ≢ number }
+    ensures { IsFalse result ↔ ((name : List ℕ) → slice_get names.now place ≡ Some name → number_in name ≢ number) }
 {
     match names.get(place) {
         Some(name) => number_in(name) == number,
@@ -147,7 +147,7 @@ impl Places {
 
     // Whether the number leads to no name that ends in it.
     fn is_free(&self, names: &Texts, number: usize) -> bool
-        ensures { IsTrue result → IsFree names.now self.now.numbered.items number }
+        ensures { IsTrue result ↔ IsFree names.now self.now.numbered.items number }
     {
         match self.numbered.get(number) {
             None => true,
@@ -181,13 +181,13 @@ impl Places {
         self.others.truncate(kept);
     }
 
-    // Whether the place of another name, by its number among them, is not below the bound.
+    // Whether another name, by its number among them, has no place below the bound.
     fn is_behind(&self, i: usize, n: usize) -> bool
-        ensures { IsTrue result → (e : Entry) → slice_get self.now.others.entries i ≡ Some e → n ≤ e.1 }
+        ensures { IsTrue result ↔ ((e : Entry) → slice_get self.now.others.entries i ≡ Some e → n ≤ e.1) }
     {
         match self.others.get_index(i) {
             Some((_, place)) => *place >= n,
-            None => false,
+            None => true,
         }
     }
 }

@@ -13,8 +13,8 @@ returns-then-is_free-clause-added c =
     let others = c.args.self.now.others.entries in
     let number : c.args.number ≡ number_in name = c.requires.number in
     let long : c.len-place.result ≡ length names = c.len-place.ensures in
-    let free : IsFree names numbered (number_in name) = subst (IsFree names numbered) number (c.is_free.ensures c.if-is_free.true) in
-    let short : length names < 4294967295 = subst (λ n. n < 4294967295) long (c.may_lead.ensures c.if-may_lead.true).0 in
+    let free : IsFree names numbered (number_in name) = subst (IsFree names numbered) number (c.is_free.ensures.0 c.if-is_free.true) in
+    let short : length names < 4294967295 = subst (λ n. n < 4294967295) long (c.may_lead.ensures.0 c.if-may_lead.true).0 in
     let leads : LeadsTo numbered (number_in name) (length names) c.lead.new.self.numbered.items =
     subst (λ k. LeadsTo numbered k (length names) c.lead.new.self.numbered.items) number
     (subst (λ n. LeadsTo numbered c.args.number n c.lead.new.self.numbered.items) long c.in_ok-lead.ensures.leads) in
