@@ -144,13 +144,6 @@ module _ (ts : List Tree) where
   pub live_is_named : (k : Kept) (name : List ℕ) → is_live (scopes ts k) name ≡ is_some (lookup (bytes_eq name) k.facts)
   live_is_named k name = ap is_some (fact_is k name) ∙ is_some_map (tree_at ts) (lookup (bytes_eq name) k.facts)
 
-  pub absent_name : (k : Kept) (name : List ℕ) → is_live (scopes ts k) name ≡ false → lookup (bytes_eq name) k.facts ≡ None
-  absent_name k name h = by (lookup (bytes_eq name) k.facts) (sym (live_is_named k name) ∙ h)
-    where
-      by : (o : Option ℕ) → is_some o ≡ false → o ≡ None
-      by None h = refl
-      by (Some i) h = absurd (true≢false h)
-
   pub depth_is : (k : Kept) → depth (scopes ts k) ≡ length k.begun
   unfolding scopes
   depth_is k = by k.facts k.begun

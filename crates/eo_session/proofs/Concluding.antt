@@ -56,10 +56,6 @@ module _ (st : State) (name : List ℕ) (k : Concluded) where
   abbrev by_name : Bool → Checked State
   by_name b = require b Redeclared >>= λ _. Ok (with_conclusion st name k)
 
-  pub concluding-taken : is_free_fact st name ≡ false → added_conclusion st name k ≡ Err Redeclared
-  unfolding ◌>>=◌ require
-  concluding-taken e = ap by_name e
-
   pub concluding-free : is_free_fact st name ≡ true → added_conclusion st name k ≡ Ok (with_conclusion st name k)
   unfolding ◌>>=◌ require
   concluding-free e = ap by_name e
