@@ -16,5 +16,7 @@ fn tell<T, F: FnOnce(&mut World) -> Result<T, Fail>>(alloc: Global, f: F) -> Res
     requires { F.IsAlwaysCallable f }
 {
     let mut world = World::new(alloc)?;
-    f(&mut world)
+    let told = f(&mut world);
+    drop(world);
+    told
 }

@@ -9,7 +9,7 @@
 ghost use Rattle.std.specs.Prelude.{◌≡◌, ◌<◌, length, All, IsTrue, IfSome};
 ghost use Rattle.eo_term.specs.Terms.{HasArity, PartsBelow, TextsBelow, IsPlain, IsProper};
 ghost use Rattle.eo_sig.specs.Growth.{GrowsUnder};
-ghost use Rattle.eo_sig.specs.Reading.{IsBelow, ProgramBelow};
+ghost use Rattle.eo_sig.specs.Reading.{CaseBelow, IsBelow, ProgramBelow};
 
 use eo_base::Name;
 use eo_eval::{Evaluator, Outcome};
@@ -99,16 +99,18 @@ impl World {
             return None;
         }
         let mut evaluator = Evaluator::new(self.alloc);
-        self.outcome_by(&mut evaluator, id)
+        let outcome = self.outcome_by(&mut evaluator, id);
+        drop(evaluator);
+        outcome
     }
 
     fn outcome_by(&mut self, evaluator: &mut Evaluator, id: Id) -> Option<Outcome>
         requires { id < self.old }
     {
         let mut types = Types::new(self.alloc);
-        evaluator
-            .evaluate(&self.sig, &mut self.table, &mut types, id)
-            .ok()
+        let outcome = evaluator.evaluate(&self.sig, &mut self.table, &mut types, id);
+        drop(types);
+        outcome.ok()
     }
 }
 
@@ -175,40 +177,58 @@ fn program(
 ) -> Option<ProgramDecl>
     ensures { IfSome result (ProgramBelow (length table.now.trees)) }
 {
-    let case = Case {
-        patterns: terms_of(alloc, table, patterns)?,
-        body: live(table, body)?,
-    };
-    let mut cases = Cases::new(alloc);
-    cases.push(case).ok()?;
+    let output = live(table, BOOL)?;
+    let cases = cases_of(alloc, table, patterns, body)?;
+    let name = Name::new(alloc, name).ok()?;
     Some(ProgramDecl {
-        name: Name::new(alloc, name).ok()?,
+        name,
         params: Params::new(alloc),
         inputs: Ids::new(alloc),
-        output: live(table, BOOL)?,
+        output,
         cases,
     })
+}
+
+// One case.
+fn cases_of(alloc: Global, table: &Table, patterns: &[Id], body: Id) -> Option<Cases>
+    ensures { IfSome result (All (CaseBelow (length table.now.trees))) }
+{
+    let body = live(table, body)?;
+    let patterns = terms_of(alloc, table, patterns)?;
+    let mut cases = Cases::new(alloc);
+    cases.push(Case { patterns, body }).ok()?;
+    Some(cases)
 }
 
 /// The programs `c` and `w`, with the numbers 0 and 1.
 fn declare(w: &mut World) -> Option<()> {
     let a = w.par(0)?;
     let b = w.par(1)?;
-    let one = w.num(1)?;
-    let two = w.num(2)?;
-    let next = w.op(OpName::Add, &[a, one])?;
-    let are_next = w.op(OpName::IsEq, &[next, b])?;
-    let sum = w.op(OpName::Add, &[a, b])?;
-    let middle = w.op(OpName::Zdiv, &[sum, two])?;
-    let lower = w.call(0, &[a, middle])?;
-    let upper = w.call(0, &[middle, b])?;
-    let both = w.op(OpName::And, &[lower, upper])?;
-    let body = w.op(OpName::Ite, &[are_next, TRUE, both])?;
+    let body = calls_on(w, a, b)?;
     w.program(b"c", &[a, b], body)?;
     let zero = w.num(0)?;
     let whole = w.call(0, &[zero, a])?;
     w.program(b"w", &[a], whole)?;
     Some(())
+}
+
+// The body of `c` on a and b.
+fn calls_on(w: &mut World, a: Id, b: Id) -> Option<Id> {
+    let one = w.num(1)?;
+    let next = w.op(OpName::Add, &[a, one])?;
+    let are_next = w.op(OpName::IsEq, &[next, b])?;
+    let both = calls_on_halves(w, a, b)?;
+    w.op(OpName::Ite, &[are_next, TRUE, both])
+}
+
+// `c` on both halves between a and b.
+fn calls_on_halves(w: &mut World, a: Id, b: Id) -> Option<Id> {
+    let two = w.num(2)?;
+    let sum = w.op(OpName::Add, &[a, b])?;
+    let middle = w.op(OpName::Zdiv, &[sum, two])?;
+    let lower = w.call(0, &[a, middle])?;
+    let upper = w.call(0, &[middle, b])?;
+    w.op(OpName::And, &[lower, upper])
 }
 
 /// `w` on n, that and a call that was begun in it, and that and one that was not.
@@ -268,5 +288,7 @@ fn main(rt: HostRuntime) -> io::Result<()> {
     let Some(mut w) = World::new(rt.alloc()) else {
         return Ok(());
     };
-    time_all(&rt, &mut w, asked.unwrap_or(500), asked.is_some())
+    let printed = time_all(&rt, &mut w, asked.unwrap_or(500), asked.is_some());
+    drop(w);
+    printed
 }

@@ -1,4 +1,4 @@
-ghost use Rattle.std.specs.Prelude.{◌≡◌, [], ◌∷◌, IfOk};
+ghost use Rattle.std.specs.Prelude.{◌≡◌, [], ◌∷◌, IfOk, OnOk};
 ghost use Rattle.eo_io.specs.Library.{Rest};
 
 use eo_io::*;
@@ -78,10 +78,16 @@ fn library_of_two(alloc: Global) -> Result<HonestLibrary, AllocError>
     ensures { IfOk result (λ library. library.unread ≡ []) }
 {
     let mut library = HonestLibrary::new(alloc)?;
+    add_two(&mut library)?;
+    Ok(library)
+}
+
+fn add_two(library: &mut HonestLibrary) -> Result<(), AllocError>
+    ensures { OnOk result (library.new.unread ≡ library.old.unread) }
+{
     library.add(b"a", b"first")?;
     library.add(b"b", b"")?;
-    library.add(b"a", b"the second one")?;
-    Ok(library)
+    library.add(b"a", b"the second one")
 }
 
 // Whether both files of that library are read, and a third is absent.
@@ -205,23 +211,19 @@ fn paths(rt: HostRuntime) -> Result<(), Fail> {
     Ok(())
 }
 
-/// A path in a file, and its folding, if it has one.
-#[derive(Clone, Copy)]
-struct Folding<'a> {
-    from: &'a [u8],
-    name: &'a [u8],
-    path: Option<&'a str>,
-}
+/// What folds a path: the file that it stands in, its name there, and its folding, if it has one.
+type Folding<'a> = (&'a [u8], &'a [u8], Option<&'a str>);
 
-fn row<'a>(from: &'a [u8], name: &'a [u8], path: Option<&'a str>) -> Folding<'a> {
-    Folding { from, name, path }
-}
-
-/// Whether the path is folded so.
-fn is_folded_so(alloc: Global, row: &Folding<'_>) -> Result<bool, AllocError> {
-    match fold_path(alloc, row.from, row.name) {
-        Ok(path) => Ok(row.path == Some(path.as_str())),
-        Err(PathRefused::Bad) => Ok(row.path.is_none()),
+/// Whether the path in a file is folded so.
+fn is_folded_so(
+    alloc: Global,
+    from: &[u8],
+    name: &[u8],
+    want: Option<&str>,
+) -> Result<bool, AllocError> {
+    match fold_path(alloc, from, name) {
+        Ok(path) => Ok(want == Some(path.as_str())),
+        Err(PathRefused::Bad) => Ok(want.is_none()),
         Err(PathRefused::Memory(e)) => Err(e),
     }
 }
@@ -229,58 +231,72 @@ fn is_folded_so(alloc: Global, row: &Folding<'_>) -> Result<bool, AllocError> {
 /// The first name that is not folded so.
 fn wrong_folding<'a>(alloc: Global, rows: &[Folding<'a>]) -> Result<Option<&'a [u8]>, AllocError> {
     for row in rows {
-        if !is_folded_so(alloc, row)? {
-            return Ok(Some(row.name));
+        let (from, name, want) = *row;
+        if !is_folded_so(alloc, from, name, want)? {
+            return Ok(Some(name));
         }
     }
     Ok(None)
 }
 
+const FOLDINGS: &[Folding<'static>] = &[
+    (b"", b"p.eo", Some("p.eo")),
+    (b"a.eo", b"b.eo", Some("b.eo")),
+    (b"lib/a.eo", b"b.eo", Some("lib/b.eo")),
+    (b"/lib/a.eo", b"b.eo", Some("/lib/b.eo")),
+    (b"lib/a.eo", b"/b.eo", Some("/b.eo")),
+    (b"c.eo", b"x/../d.eo", Some("d.eo")),
+    (b"lib/a.eo", b"./x//b.eo/", Some("lib/x/b.eo")),
+    (b"lib/a.eo", b"../../b.eo", Some("../b.eo")),
+    (b"", b"../..", Some("../..")),
+    (b"../a.eo", b"../b.eo", Some("../../b.eo")),
+    (b"lib/a.eo", b"/../b//./c", Some("/b/c")),
+    (b"x/p.eo", b"", Some("x")),
+    (b"", b"...", Some("...")),
+    (b"", b"\xc3\xa9.eo", Some("é.eo")),
+    (b"p.eo", b"", None),
+    (b"lib/a.eo", b"..", None),
+    (b"", b"/", None),
+    (b"/a.eo", b"x/../../..", None),
+    (b"", b"./.", None),
+    (b"", b"\xff", None),
+    (b"\xff/a.eo", b"b.eo", None),
+    (b"\xff/a.eo", b"../b.eo", None),
+    (b"\xff/a.eo", b"/b.eo", Some("/b.eo")),
+];
+
 #[test]
 fn folded_paths(rt: HostRuntime) -> Result<(), Fail> {
-    let rows = [
-        row(b"", b"p.eo", Some("p.eo")),
-        row(b"a.eo", b"b.eo", Some("b.eo")),
-        row(b"lib/a.eo", b"b.eo", Some("lib/b.eo")),
-        row(b"/lib/a.eo", b"b.eo", Some("/lib/b.eo")),
-        row(b"lib/a.eo", b"/b.eo", Some("/b.eo")),
-        row(b"c.eo", b"x/../d.eo", Some("d.eo")),
-        row(b"lib/a.eo", b"./x//b.eo/", Some("lib/x/b.eo")),
-        row(b"lib/a.eo", b"../../b.eo", Some("../b.eo")),
-        row(b"", b"../..", Some("../..")),
-        row(b"../a.eo", b"../b.eo", Some("../../b.eo")),
-        row(b"lib/a.eo", b"/../b//./c", Some("/b/c")),
-        row(b"x/p.eo", b"", Some("x")),
-        row(b"", b"...", Some("...")),
-        row(b"", b"\xc3\xa9.eo", Some("é.eo")),
-        row(b"p.eo", b"", None),
-        row(b"lib/a.eo", b"..", None),
-        row(b"", b"/", None),
-        row(b"/a.eo", b"x/../../..", None),
-        row(b"", b"./.", None),
-        row(b"", b"\xff", None),
-        row(b"\xff/a.eo", b"b.eo", None),
-        row(b"\xff/a.eo", b"../b.eo", None),
-        row(b"\xff/a.eo", b"/b.eo", Some("/b.eo")),
-    ];
-    assert_eq!(rt; wrong_folding(rt.alloc(), &rows)?, None);
+    assert_eq!(rt; wrong_folding(rt.alloc(), FOLDINGS)?, None);
     Ok(())
 }
 
 #[test]
 fn folded_paths_have_a_limit(rt: HostRuntime) -> Result<(), Fail> {
     let name = "a".repeat(rt.alloc(), 4_097)?;
-    let longest = &name[1..];
     let slashes = "/".repeat(rt.alloc(), 4_096)?;
-    let padded = format!(in rt.alloc(); "./{longest}{slashes}")?;
-    let rows = [
-        row(b"", longest.as_bytes(), Some(longest)),
-        row(b"", padded.as_bytes(), Some(longest)),
-        row(b"", name.as_bytes(), None),
-        row(b"/a", longest.as_bytes(), None),
-    ];
-    assert_eq!(rt; wrong_folding(rt.alloc(), &rows)?, None);
+    let answer = limit_holds(rt.alloc(), &name, &name[1..], &slashes);
+    drop(name);
+    drop(slashes);
+    assert_eq!(rt; answer, Ok(true));
     Ok(())
+}
+
+// Whether a folding may be as long as the second name and no longer, also where slashes behind a name
+// play no part.
+fn limit_holds(
+    alloc: Global,
+    name: &str,
+    longest: &str,
+    slashes: &str,
+) -> Result<bool, AllocError> {
+    let padded = format!(in alloc; "./{longest}{slashes}")?;
+    Ok(
+        is_folded_so(alloc, b"", longest.as_bytes(), Some(longest))?
+            && is_folded_so(alloc, b"", padded.as_bytes(), Some(longest))?
+            && is_folded_so(alloc, b"", name.as_bytes(), None)?
+            && is_folded_so(alloc, b"/a", longest.as_bytes(), None)?,
+    )
 }
 
 // Whether a file of the folder is read so.

@@ -70,7 +70,9 @@ pub(super) fn tell<T, F: FnOnce(&mut Run) -> Result<T, Fail>>(
     requires { F.IsAlwaysCallable f }
 {
     let mut run = Run::new(alloc)?;
-    f(&mut run)
+    let told = f(&mut run);
+    drop(run);
+    told
 }
 
 // What a session answers to the command of a text.
