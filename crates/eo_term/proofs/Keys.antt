@@ -33,7 +33,8 @@ uses_weaker P Q R S f g (key.Var s t) h = tt
 uses_weaker P Q R S f g (key.App a b) h = tt
 uses_weaker P Q R S f g (key.Arr a b) h = tt
 uses_weaker P Q R S f g (key.Qar i a b) h = tt
-uses_weaker P Q R S f g (key.Builtin o n l) h = g l h
+uses_weaker P Q R S f g (key.Pair o is) h = tt
+uses_weaker P Q R S f g (key.Builtin o n l) h = (h.0, g l h.1)
 uses_weaker P Q R S f g (key.Prog n p l) h = g l h
 
 -- a key stands for the same root where its literal and its arguments are the same
@@ -47,7 +48,8 @@ root_same ls ms as' bs (key.Var s t) h = refl
 root_same ls ms as' bs (key.App a b) h = refl
 root_same ls ms as' bs (key.Arr a b) h = refl
 root_same ls ms as' bs (key.Qar i a b) h = refl
-root_same ls ms as' bs (key.Builtin o n l) h = λ i. record { node = node.Op (OpCode.Builtin o) n; args = h i }
+root_same ls ms as' bs (key.Pair o is) h = refl
+root_same ls ms as' bs (key.Builtin o n l) h = λ i. record { node = node.Op (OpCode.Builtin o) n; args = h.1 i }
 root_same ls ms as' bs (key.Prog n p l) h = λ i. record { node = node.Op (OpCode.Prog p) n; args = h i }
 
 literal_one : (a b : Literal) → literal_node a ≡ literal_node b → a ≡ b
@@ -109,8 +111,13 @@ module _ (ls : List Literal) (as' : List (List ℕ)) (la : AreApart ls) (aa : Ar
   same_key (key.Builtin o m a) (key.Builtin u n b) p q e f =
       let h : o ≡ u = cc in
       let g : m ≡ n = cc in
-      let l : a ≡ b = one_place as' [] aa a b p q f in
+      let l : a ≡ b = one_place as' [] aa a b p.1 q.1 f in
       λ i. key.Builtin (h i) (g i) (l i)
+  same_key (key.Pair o is) (key.Pair u js) p q e f =
+      let h : o ≡ u = cc in
+      λ i. key.Pair (h i) (f i)
+  same_key (key.Pair o is) (key.Builtin u n b) p q e f = absurd (q.0 cc)
+  same_key (key.Builtin o n a) (key.Pair u js) p q e f = absurd (p.0 cc)
   same_key (key.Prog o m a) (key.Prog u n b) p q e f =
       let h : o ≡ u = cc in
       let g : m ≡ n = cc in
@@ -125,6 +132,7 @@ module _ (ls : List Literal) (as' : List (List ℕ)) (la : AreApart ls) (aa : Ar
   same_key (key.Literal a) (key.App s b) p q e f = other a (node.App s b) e (λ x. x)
   same_key (key.Literal a) (key.Arr s b) p q e f = other a (node.Arr s b) e (λ x. x)
   same_key (key.Literal a) (key.Qar j s b) p q e f = other a (node.Qar j s b) e (λ x. x)
+  same_key (key.Literal a) (key.Pair o is) p q e f = other a (node.Op (OpCode.Builtin o) 2) e (λ x. x)
   same_key (key.Literal a) (key.Builtin o n b) p q e f = other a (node.Op (OpCode.Builtin o) n) e (λ x. x)
   same_key (key.Literal a) (key.Prog n o b) p q e f = other a (node.Op (OpCode.Prog o) n) e (λ x. x)
   same_key (key.Con b) (key.Literal a) p q e f = other a (node.Con b) (sym e) (λ x. x)
@@ -134,6 +142,7 @@ module _ (ls : List Literal) (as' : List (List ℕ)) (la : AreApart ls) (aa : Ar
   same_key (key.App s b) (key.Literal a) p q e f = other a (node.App s b) (sym e) (λ x. x)
   same_key (key.Arr s b) (key.Literal a) p q e f = other a (node.Arr s b) (sym e) (λ x. x)
   same_key (key.Qar j s b) (key.Literal a) p q e f = other a (node.Qar j s b) (sym e) (λ x. x)
+  same_key (key.Pair o is) (key.Literal a) p q e f = other a (node.Op (OpCode.Builtin o) 2) (sym e) (λ x. x)
   same_key (key.Builtin o n b) (key.Literal a) p q e f = other a (node.Op (OpCode.Builtin o) n) (sym e) (λ x. x)
   same_key (key.Prog n o b) (key.Literal a) p q e f = other a (node.Op (OpCode.Prog o) n) (sym e) (λ x. x)
   same_key k l p q e f = absurd cc

@@ -1,4 +1,4 @@
--- How a table keeps the roots of its terms: each under a small key, in which a literal and a list of arguments have numbers of their own.
+-- How a table keeps the roots of its terms: each under a small key, in which a literal that is not small and a list of arguments that the key does not hold have numbers of their own.
 use Rattle.std.specs.Prelude.{◌≡◌, ◌+◌, ℕ, suc, pos, Vec, ◌<◌, ◌≤◌, List, [], ◌∷◌, ◌++◌, ◌⊎◌, length, map, slice_get, slice_index_or, Some, All}
 use Rattle.std.specs.Map.{keys_of}
 use Rattle.std.specs.Global.{Global}
@@ -49,10 +49,16 @@ root_of ls as' (key.Var s t) = plain (node.Var s t)
 root_of ls as' (key.App f x) = plain (node.App f x)
 root_of ls as' (key.Arr a b) = plain (node.Arr a b)
 root_of ls as' (key.Qar i t b) = plain (node.Qar i t b)
+root_of ls as' (key.Pair o is) = record { node = node.Op (OpCode.Builtin o) 2; args = is }
 root_of ls as' (key.Builtin o n l) = record { node = node.Op (OpCode.Builtin o) n; args = list_at as' l }
 root_of ls as' (key.Prog n p l) = record { node = node.Op (OpCode.Prog p) n; args = list_at as' l }
 
--- a number that the key holds is small, P holds of the number of its literal, Q of that of its arguments
+-- an operator whose arguments no key holds itself: a program's, or not two
+abbrev pub IsListed : OpCode → ℕ → Type 0
+IsListed (OpCode.Builtin o) n = n ≡ 2 → ⊥
+IsListed (OpCode.Prog p) n = Unit {0}
+
+-- a number that the key holds is small, P holds of the number of its literal, Q of that of its arguments, where it may not hold these
 abbrev pub UsesOnly : (ℕ → Type 0) → (ℕ → Type 0) → Key → Type 0
 UsesOnly P Q (key.Con k) = Unit {0}
 UsesOnly P Q (key.Num z) = IsSmall z
@@ -63,7 +69,8 @@ UsesOnly P Q (key.Var s t) = Unit {0}
 UsesOnly P Q (key.App f x) = Unit {0}
 UsesOnly P Q (key.Arr a b) = Unit {0}
 UsesOnly P Q (key.Qar i t b) = Unit {0}
-UsesOnly P Q (key.Builtin o n l) = Q l
+UsesOnly P Q (key.Pair o is) = Unit {0}
+UsesOnly P Q (key.Builtin o n l) = IsListed (OpCode.Builtin o) n × Q l
 UsesOnly P Q (key.Prog n p l) = Q l
 
 -- a literal that no key holds itself
@@ -146,10 +153,10 @@ pub record IsKeyOf (n : Nodes) (d : Node) (is : List ℕ) (k : Key) : Type 0 whe
   pub root : root_of (literals_of n) (lists_of n) k ≡ record { node = d; args = is }
 
 -- what is to be numbered in the root
-abbrev pub IsShape : Node → Shape → Type 0
-IsShape d (shape.Known k) = UsesOnly (λ l. ⊥) (λ l. ⊥) k × ((ls : List Literal) (as' : List (List ℕ)) → root_of ls as' k ≡ plain d)
-IsShape d (shape.Literal l) = (d ≡ literal_node l) × IsWide l
-IsShape d (shape.Applied c n) = d ≡ node.Op c n
+abbrev pub IsShape : Node → List ℕ → Shape → Type 0
+IsShape d is (shape.Known k) = UsesOnly (λ l. ⊥) (λ l. ⊥) k × ((ls : List Literal) (as' : List (List ℕ)) → root_of ls as' k ≡ record { node = d; args = is })
+IsShape d is (shape.Literal l) = (d ≡ literal_node l) × IsWide l
+IsShape d is (shape.Applied c n) = (d ≡ node.Op c n) × IsListed c n
 
 -- the key of an operator whose arguments have the number l
 abbrev pub applied : OpCode → ℕ → ℕ → Key

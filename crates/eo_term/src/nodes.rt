@@ -22,9 +22,10 @@ type Literals = IndexMap<Literal, usize, BuildHasherDefault<DefaultHasher>>;
 
 /// The roots of terms and what is known of them, by their places. No root stands twice.
 ///
-/// A small number stands in the key of its term. Any other literal and a list of arguments stand once
-/// each, under numbers of their own, with how many terms there were when it came. So they are dropped
-/// from the end with the terms that use them.
+/// A small number stands in the key of its term, and so do two arguments of an operator of the
+/// language. Any other literal and list of arguments stand once each, under numbers of their own, with
+/// how many terms there were when it came. So they are dropped from the end with the terms that use
+/// them.
 #[derive(Drop)]
 pub(crate) struct Nodes {
     pub(crate) keys: IndexMap<Key, Info>,
@@ -108,7 +109,7 @@ impl Nodes {
         ensures key { IfOk result (λ k. IsKeyOf self.new node.now args.now k × IsKeyed self.new (length self.new.keys.entries) k) }
     {
         let terms = self.keys.len();
-        match shape_of(node) {
+        match shape_of(node, args) {
             Shape::Known(key) => Ok(key),
             Shape::Literal(literal) => {
                 let number = number_literal(&mut self.literals, literal, terms)?;
@@ -145,7 +146,7 @@ impl Nodes {
         ensures room { (n : ℕ) → HasRoom (n + 1) self.old → IsOk result × HasKeyRoom n self.new }
     {
         let terms = self.keys.len();
-        match shape_of(&node) {
+        match shape_of(&node, args.as_slice()) {
             Shape::Known(key) => Ok(key),
             Shape::Literal(literal) => {
                 let number = number_literal(&mut self.literals, literal, terms)?;
@@ -203,7 +204,7 @@ impl Nodes {
 
     // The root that a key stands for.
     #[inline(always)]
-    fn root(&self, key: &Key) -> (Node, &[Id])
+    fn root<'a>(&'a self, key: &'a Key) -> (Node, &'a [Id])
         requires { UsesOnly (λ l. l < length (literals_of self.now)) (λ l. l < length (lists_of self.now)) key.now }
         ensures { IsRoot (root_of (literals_of self.now) (lists_of self.now) key.now) result.0 result.1.now }
     {
@@ -217,6 +218,10 @@ impl Nodes {
             Key::App { fun, arg } => (Node::App { fun, arg }, &[]),
             Key::Arr { from, to } => (Node::Arr { from, to }, &[]),
             Key::Qar { par, ty, to } => (Node::Qar { par, ty, to }, &[]),
+            Key::Pair { name, ref args } => {
+                let code = OpCode::Builtin(name);
+                (Node::Op { code, count: 2 }, args.as_slice())
+            }
             Key::Builtin { name, count, args } => {
                 let code = OpCode::Builtin(name);
                 (Node::Op { code, count }, self.list(args))
@@ -263,8 +268,9 @@ enum Shape {
     Applied { code: OpCode, count: u8 },
 }
 
-fn shape_of(node: &Node) -> Shape
-    ensures { IsShape node.now result }
+fn shape_of(node: &Node, args: &[Id]) -> Shape
+    requires { HasArguments node.now args.now }
+    ensures { IsShape node.now args.now result }
 {
     match *node {
         Node::Con(k) => Shape::Known(Key::Con(k)),
@@ -276,12 +282,28 @@ fn shape_of(node: &Node) -> Shape
         Node::App { fun, arg } => Shape::Known(Key::App { fun, arg }),
         Node::Arr { from, to } => Shape::Known(Key::Arr { from, to }),
         Node::Qar { par, ty, to } => Shape::Known(Key::Qar { par, ty, to }),
-        Node::Op { code, count } => Shape::Applied { code, count },
+        Node::Op { code, count } => shape_of_operator(code, count, args),
+    }
+}
+
+fn shape_of_operator(code: OpCode, count: u8, args: &[Id]) -> Shape
+    requires { length args.now ≡ count }
+    ensures { IsShape (node.Op code count) args.now result }
+{
+    match code {
+        OpCode::Builtin(name) => match *args {
+            [first, second] => Shape::Known(Key::Pair {
+                name,
+                args: [first, second],
+            }),
+            _ => Shape::Applied { code, count },
+        },
+        OpCode::Prog(_) => Shape::Applied { code, count },
     }
 }
 
 fn shape_of_number(z: i128) -> Shape
-    ensures { IsShape (node.Num z) result }
+    ensures { IsShape (node.Num z) [] result }
 {
     match i64::try_from(z) {
         Ok(value) => Shape::Known(Key::Num(SmallNumber { value })),
