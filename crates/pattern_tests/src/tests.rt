@@ -11,7 +11,9 @@ fn tell<T, F: FnOnce(&mut World) -> Result<T, Fail>>(alloc: Global, f: F) -> Res
     requires { F.IsAlwaysCallable f }
 {
     let mut world = World::new(alloc)?;
-    f(&mut world)
+    let told = f(&mut world);
+    drop(world);
+    told
 }
 
 // Whether the parameter 0, as two patterns, matches equal terms, and what it then stands for.

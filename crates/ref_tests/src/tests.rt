@@ -12,7 +12,9 @@ fn tell<T, F: FnOnce(&mut World) -> Result<T, Fail>>(alloc: Global, f: F) -> Res
     requires { F.IsAlwaysCallable f }
 {
     let mut world = World::new(alloc)?;
-    f(&mut world)
+    let told = f(&mut world);
+    drop(world);
+    told
 }
 
 // The first command of a benchmark of which something else is told than what stands beside it.

@@ -172,7 +172,9 @@ pub(super) fn tell<T, F: FnOnce(&mut World) -> Result<T, Fail>>(
     requires { F.IsAlwaysCallable f }
 {
     let mut w = World::new(alloc)?;
-    f(&mut w)
+    let told = f(&mut w);
+    drop(w);
+    told
 }
 
 fn number_of(letter: u8) -> usize {

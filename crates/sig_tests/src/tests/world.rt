@@ -171,7 +171,9 @@ pub(super) fn holds<F: FnOnce(&mut World) -> Result<bool, Fail>>(
     requires { F.IsAlwaysCallable check }
 {
     let mut w = World::new(alloc)?;
-    check(&mut w)
+    let answer = check(&mut w);
+    drop(w);
+    answer
 }
 
 fn what_became(made: Result<usize, SigRefused>) -> Answer {

@@ -155,28 +155,36 @@ impl World {
     /// Whether each term has the type beside it, or none.
     pub(super) fn have_types(&mut self, rows: &[(Id, Option<Id>)]) -> Result<bool, Fail> {
         let mut types = Types::new(self.alloc);
-        have_types(&mut types, &self.sig, &mut self.table, rows)
+        let answer = have_types(&mut types, &self.sig, &mut self.table, rows);
+        drop(types);
+        answer
     }
 
     /// The type of a term, if it has one.
     pub(super) fn type_of(&mut self, id: Id) -> Result<Result<Option<Id>, TypeRefused>, Fail> {
         let id = live(&self.table, id)?;
         let mut types = Types::new(self.alloc);
-        Ok(types.type_of(&self.sig, &mut self.table, id))
+        let ty = types.type_of(&self.sig, &mut self.table, id);
+        drop(types);
+        Ok(ty)
     }
 
     /// Whether the type of a term is the same when it is asked for again, and nothing is made for it.
     pub(super) fn is_kept(&mut self, id: Id) -> Result<bool, Fail> {
         let id = live(&self.table, id)?;
         let mut types = Types::new(self.alloc);
-        is_kept(&mut types, &self.sig, &mut self.table, id)
+        let answer = is_kept(&mut types, &self.sig, &mut self.table, id);
+        drop(types);
+        answer
     }
 
     /// Whether a variable of type `Bool`, and then a function type that is made with its number once
     /// the variable is given back, have their types.
     pub(super) fn have_types_in_turn(&mut self) -> Result<bool, Fail> {
         let mut types = Types::new(self.alloc);
-        have_types_in_turn(&mut types, &self.sig, &mut self.table)
+        let answer = have_types_in_turn(&mut types, &self.sig, &mut self.table);
+        drop(types);
+        answer
     }
 
     /// The term to which a term is settled, if there is one.
@@ -195,7 +203,9 @@ pub(super) fn holds<F: FnOnce(&mut World) -> Result<bool, Fail>>(
     requires { F.IsAlwaysCallable check }
 {
     let mut w = World::new(alloc)?;
-    check(&mut w)
+    let answer = check(&mut w);
+    drop(w);
+    answer
 }
 
 // A table with no more than the first terms.
