@@ -1,13 +1,11 @@
 -- Attributes, one at a time, and the names that terms give themselves.
-use Rattle.std.proofs.Common.{◌≡◌, ◌<◌, ℕ, Bool, true, false, ◌&&◌, ◌||◌, List, [], ◌∷◌, ◌++◌, length, Option, None, Some, refl, sym, ap, ◌∙◌}
-use Rattle.std.specs.Prelude.{Err, not, option_map, is_some, bytes_eq, codes, if◌then◌else◌, take}
+use Rattle.std.proofs.Common.{◌≡◌, ◌<◌, ℕ, Bool, true, false, ◌&&◌, ◌||◌, List, [], ◌∷◌, ◌++◌, length, Option, refl, sym, ap, ◌∙◌}
+use Rattle.std.specs.Prelude.{Err, not, option_map, bytes_eq, if◌then◌else◌, take}
 use Rattle.std.specs.List.{list_any}
-use Rattle.std.proofs.lemmas.List.{map-append, append_assoc}
+use Rattle.std.proofs.lemmas.List.{map-append}
 use Rattle.std.proofs.lemmas.List.Elements.{All-append, All-cons, All-nil}
 use Rattle.eo_base.specs.Checks.{Checked}
 use Rattle.eo_base.specs.declared.FaultName.TheVariants.{Redeclared}
-use Rattle.eo_sexp.specs.Sexp.{Sexp, Sexps, Next}
-use Rattle.eo_shape.specs.Words.{symbol_of, keyword_of, is_some_word}
 use Rattle.eo_sig.specs.Signature.{is_free}
 use Rattle.eo_term.specs.Terms.{Terms, tree_at}
 use Rattle.eo_term.specs.Tree.{Tree}
@@ -15,7 +13,7 @@ use Rattle.eo_names.specs.Contexts.{Context}
 use Rattle.eo_names.specs.Names.{Binding, BindingsBelow, names_in}
 use Rattle.eo_names.specs.Readers.{Label}
 use Rattle.eo_elab.specs.Gives.{NamesGrow}
-use Rattle.eo_elab.specs.Meaning.{are_attributes, names_given, name_before, is_free_label, label}
+use Rattle.eo_elab.specs.Meaning.{is_free_label, label}
 use Rattle.eo_elab.specs.Worlds.{labels_in}
 
 -- ---- names

@@ -4,11 +4,11 @@ use Rattle.std.specs.Prelude.{Ok, Err}
 use Rattle.eo_base.specs.declared.FaultName.{FaultName}
 use Rattle.eo_base.specs.declared.FaultName.TheVariants.{Redeclared, Parameters, TermHeight}
 use Rattle.eo_base.specs.Checks.{Checked, ◌>>=◌}
-use Rattle.eo_base.specs.Limits.{parameters_limit, height_limit}
+use Rattle.eo_base.specs.Limits.{parameters_limit}
 use Rattle.eo_sexp.specs.Sexp.{Sexp}
 use Rattle.eo_shape.specs.Shapes.{ParameterShape, AttributeShape}
 use Rattle.eo_sig.specs.Signature.{Attribute, Plain, Constant, Macro}
-use Rattle.eo_term.specs.Tree.{Tree, Arr, height, is_tall}
+use Rattle.eo_term.specs.Tree.{Tree, Arr, is_tall}
 use Rattle.eo_elab.specs.Declarations.{Bound, bind, unbound, is_free_name, is_free_or_reference, not_tall, meanings, attribute, constant, macro, plain_constant, function_type, bound_type, declared_const, declared_fun, declared_parameterized, defined}
 use Rattle.eo_elab.specs.Declaring.{typed, typed_over, type_of_function, function_to}
 use Rattle.eo_names.specs.Contexts.{Context, Local}

@@ -3,8 +3,8 @@ use Rattle.std.proofs.Common.{◌≡◌, ℕ, ◌<◌, List, [], ◌∷◌, Some
 use Rattle.std.proofs.lemmas.Option.{same_Some}
 use Rattle.eo_sexp.proofs.Sizes.{sexps_of-children}
 use Rattle.eo_sexp.specs.Pairs.{list_of, first_one, only_two}
-use Rattle.eo_sexp.specs.Sexp.{Sexp, Atom, Listed, Sexps, NoSexp, Next, sexps_of, sexp_span, children_of}
-use Rattle.eo_sexp.specs.Sizes.{size, size_in, size_of_all}
+use Rattle.eo_sexp.specs.Sexp.{Sexp, Atom, Listed, NoSexp, Next, sexps_of, sexp_span, children_of}
+use Rattle.eo_sexp.specs.Sizes.{size}
 use Rattle.eo_elab.specs.Forms.{pair_of}
 
 -- what stands beside the name of a pair is smaller than the pair

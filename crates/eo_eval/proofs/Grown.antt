@@ -11,7 +11,7 @@ use Rattle.eo_eval.specs.declared.stack.Now as code_now
 use Rattle.eo_eval.specs.declared.stack.Now.TheVariants as next
 use Rattle.eo_eval.specs.Evaluation.{Value, Call, Begun, on_body, body_of, eval}
 use Rattle.eo_eval.specs.Machine.{Parts, Choice, Tested, Left, Right, Require, Required, Handed, Frame, OfNode, OfCall, Stacked, Family, Again, evals, calls, finish}
-use Rattle.eo_eval.specs.Reading.{waiting, read_call, begun, call_at, local_tree, IsFrame, IsKnown, IsLocal, Remembers, HasMore, NowBelow, Scoped, Waits, Given, told, current}
+use Rattle.eo_eval.specs.Reading.{waiting, read_call, begun, call_at, local_tree, IsFrame, IsKnown, IsLocal, Remembers, HasMore, NowBelow, Scoped, Waits, Given}
 use Rattle.eo_eval.specs.Scopes.{Bound, standing, entered, outer, assignment_here, IsValueSlot, IsScope}
 use Rattle.eo_eval.specs.declared.calls.LocalKey.{LocalKey}
 use Rattle.eo_pattern.specs.Matching.{put}

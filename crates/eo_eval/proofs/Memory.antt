@@ -1,5 +1,5 @@
 -- A call that was begun comes again: it leaves the calls begun as they are, and has one more inner depth than its body.
-use Rattle.std.specs.Prelude.{◌≡◌, ℕ, zero, suc, ◌≤◌, Bool, true, false, ◌||◌, nat_lt, if◌then◌else◌, [], ◌∷◌, ◌++◌, length, refl}
+use Rattle.std.specs.Prelude.{◌≡◌, ℕ, zero, suc, ◌≤◌, Bool, true, false, nat_lt, if◌then◌else◌, [], ◌∷◌, ◌++◌, length, refl}
 use Rattle.std.specs.List.{list_any}
 use Rattle.std.proofs.Common.{sym, ◌∙◌, ap, subst, arith, true≢false, eq-eqb}
 use Rattle.std.proofs.lemmas.List.Folds.{list_any-append}

@@ -1,5 +1,5 @@
 -- What an operator on literals gives is a value, and so is a type that has to be one.
-use Rattle.std.specs.Prelude.{◌≡◌, Bool, true, false, List, [], ◌∷◌, Option, Some, None, refl}
+use Rattle.std.specs.Prelude.{◌≡◌, true, false, List, [], ◌∷◌, Option, Some, None, refl}
 use Rattle.std.proofs.Common.{ap, subst}
 use Rattle.eo_term.proofs.Values.{truth_value}
 use Rattle.eo_base.proofs.Tests.{clash}

@@ -7,12 +7,12 @@ use Rattle.eo_base.specs.declared.Status.TheVariants as status
 use Rattle.eo_io.specs.Library.{Files}
 use Rattle.eo_run.specs.Check.{checked, ended, verdict}
 use Rattle.eo_run.specs.Printed.{verdict_due, verdict_status}
-use Rattle.eo_run.specs.Refutation.{Refutes, ClosedKeepsRules}
+use Rattle.eo_run.specs.Refutation.{Refutes}
 use Rattle.eo_run.specs.Run.{Ran, run_check}
 use Rattle.eo_session.specs.State.{end_fault}
 use Rattle.eo_run.specs.Verdict.{Correct}
 use Rattle.eo_main.specs.Ends.{Ends}
-use Rattle.eo_main.specs.Program.{due, EndsAs, OkRefutes, ClosedKeeps}
+use Rattle.eo_main.specs.Program.{due, EndsAs, OkRefutes}
 use Rattle.eo_main.specs.declared.Request.{Request}
 use Rattle.eo_main.specs.declared.Request.TheVariants.{Check}
 use Rattle.eo_run.specs.declared.CheckJob.{CheckJob}

@@ -1,5 +1,5 @@
 -- What is answered for a command of a reference file, over the terms of a table.
-use Rattle.std.specs.Prelude.{◌≡◌, ℕ, ◌<◌, List, length, Option, Some, Result}
+use Rattle.std.specs.Prelude.{ℕ, ◌<◌, List, length, Option, Some, Result}
 use Rattle.eo_base.specs.Answers.{Gives}
 use Rattle.eo_base.specs.Checks.{Checked}
 use Rattle.eo_base.specs.declared.FaultName.{FaultName}

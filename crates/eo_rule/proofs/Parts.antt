@@ -1,10 +1,9 @@
 -- What a chain of checks that passes says of its parts.
-use Rattle.std.specs.Prelude.{◌≡◌, ℕ, suc, Bool, true, false, not, List, [], ◌∷◌, Option, Some, None, option_map, option_to_list, Ok, refl}
+use Rattle.std.specs.Prelude.{◌≡◌, ℕ, suc, true, false, not, List, [], ◌∷◌, Option, Some, None, option_map, option_to_list, Ok, refl}
 use Rattle.std.proofs.Common.{◌∙◌, ap}
 use Rattle.eo_base.specs.declared.FaultName.TheVariants.{IllTyped, PremiseMismatch, TermHeight, NotBool, ConclusionDiffers, UnknownRule}
 use Rattle.eo_base.specs.Checks.{Passed, ◌>>=◌, require, value_or}
 use Rattle.eo_base.proofs.ChecksLemmas.{bind_ok, ok_injective, require_ok, value_or_ok, err_is_not_ok}
-use Rattle.eo_base.proofs.Tests.{clash}
 use Rattle.eo_term.specs.Tree.{Tree, Con, bool_tree, is_tall, tree_eq}
 use Rattle.eo_sig.specs.Signature.{Signature, Parameter, Rule, terminator, premise_patterns, rule_at}
 use Rattle.eo_pattern.specs.Matching.{Assignment, empty, put, matching}

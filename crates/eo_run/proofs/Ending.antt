@@ -1,6 +1,5 @@
 -- A session that goes on with what a collector answers.
-use Rattle.std.proofs.Common.{◌≡◌, ℕ, ◌+◌, ◌≤◌, ◌<◌, Bool, true, false, List, [], ◌++◌, length, take, drop, sym, ap, subst, ◌∙◌, arith, length-drop}
-use Rattle.std.proofs.Math.Seq.{take-length}
+use Rattle.std.proofs.Common.{◌≡◌, ℕ, ◌+◌, ◌≤◌, ◌<◌, Bool, true, false, List, [], ◌++◌, length, drop, sym, ap, subst, ◌∙◌, arith, length-drop}
 use Rattle.std.proofs.lemmas.List.{drop-drop}
 use Rattle.std.specs.Prelude.{◌≢◌, ◌-◌}
 use Rattle.eo_base.specs.declared.FaultName.{FaultName}
@@ -10,7 +9,7 @@ use Rattle.eo_sexp.specs.Spot.{Spot}
 use Rattle.eo_sexp.specs.declared.Fed.TheVariants as fed
 use Rattle.eo_sexp.specs.declared.Finished.TheVariants as finished
 use Rattle.eo_sexp.specs.Texts.{Phase, Then, Ends, Placed}
-use Rattle.eo_sexp.specs.Collecting.{Collecting, Within, AtCommand, Failed as FailedAt, NoMemory, IsLive, IsWithin, here_of, fed_with, finished_with, fed_answer, finish_answer}
+use Rattle.eo_sexp.specs.Collecting.{Collecting, AtCommand, IsLive, IsWithin, here_of, fed_with, finished_with, fed_answer, finish_answer}
 use Rattle.eo_sexp.specs.Cutting.{IsWaiting, rest_of, ReadsInPieces}
 use Rattle.eo_sexp.specs.Answering.{IsAnswer, IsLexical, AnswersAlone}
 use Rattle.eo_session.specs.State.{State}

@@ -1,7 +1,6 @@
 -- The exits of the functions that read a file.
 use Rattle.std.proofs.Common.{◌≡◌, ◌≤◌, ◌<◌, ◌+◌, sym, subst, Bool, true, false, List, [], ℕ, length, drop}
-use Rattle.std.specs.Prelude.{Result, Ok, Err}
-use Rattle.std.specs.Result.{IsErrAnd}
+use Rattle.std.specs.Prelude.{Ok, Err}
 use Rattle.eo_base.specs.declared.FaultName.{FaultName}
 use Rattle.eo_base.specs.Limits.{limits}
 use Rattle.eo_sexp.specs.Spot.{Spot}

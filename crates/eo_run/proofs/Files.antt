@@ -1,11 +1,10 @@
 -- The files that a job names, and the verdict.
-use Rattle.std.proofs.Common.{◌≡◌, refl, ℕ, ◌≤◌, Bool, true, false, not, List, [], sym, ap, ◌∙◌, arith}
+use Rattle.std.proofs.Common.{◌≡◌, refl, ℕ, Bool, true, false, not, List, [], sym, ap, ◌∙◌}
 use Rattle.std.specs.Prelude.{◌≢◌, Ok, Err, Option, Some, None, IfSome, if◌then◌else◌, option_and_then, unwrap_or}
 use Rattle.std.specs.Option.{option_map_or}
 use Rattle.eo_base.specs.declared.FaultName.{FaultName}
 use Rattle.eo_base.specs.declared.FaultName.TheVariants.{BadPath, FileAbsent, NoReference, NoRefutation, ScopeOpen}
 use Rattle.eo_base.specs.declared.Place.{Place}
-use Rattle.eo_base.specs.Causes.{Rose}
 use Rattle.eo_base.specs.Checks.{Checked}
 use Rattle.eo_io.specs.Library.{Files, file_at}
 use Rattle.eo_io.specs.Paths.{fold_path}

@@ -1,11 +1,11 @@
 -- Places of files by their numbers, and what opening a file tells.
-use Rattle.std.proofs.Common.{◌≡◌, refl, ℕ, zero, suc, Bool, true, false, List, [], ◌∷◌, ◌++◌, length, Option, Some, None, sym, ap, subst, ◌∙◌}
+use Rattle.std.proofs.Common.{◌≡◌, refl, ℕ, suc, Bool, true, false, List, Option, Some, None, sym, ap, subst, ◌∙◌}
 use Rattle.std.specs.Prelude.{◌≢◌, Result, Ok, Err, is_some, slice_get, if◌then◌else◌, IsSome}
 use Rattle.std.proofs.lemmas.Option.{none-some, same_Some}
 use Rattle.eo_base.specs.declared.FaultName.{FaultName}
 use Rattle.eo_base.specs.declared.FaultName.TheVariants.{FileAbsent, SecondReference}
 use Rattle.eo_base.proofs.ChecksLemmas.{err_is_not_ok}
-use Rattle.eo_io.specs.Library.{Files, Rest, file_at, Opens, OpenHasCause}
+use Rattle.eo_io.specs.Library.{Files, Rest, file_at, Opens}
 use Rattle.eo_io.specs.Paths.{Extends}
 use Rattle.eo_io.specs.declared.Opened.TheVariants as opened
 use Rattle.eo_sexp.specs.Spot.{Spot}
@@ -14,7 +14,7 @@ use Rattle.eo_run.specs.Run.{Progress, refusal_at, commands_of, open_file}
 use Rattle.eo_session.specs.Numbered.{origin_of, number_of}
 use Rattle.eo_run.specs.Answer.{Denotes}
 use Rattle.eo_run.specs.Opening as opening
-use Rattle.eo_run.specs.Opening.{opener_of, run_source, IsNumbered, Told, StaysOpen, Passes, RunsOpen, RefusesFile, RunsFile, place_in}
+use Rattle.eo_run.specs.Opening.{opener_of, run_source, IsNumbered, RunsOpen, RefusesFile, RunsFile, place_in}
 use Rattle.eo_session.specs.declared.Next.TheVariants as next
 use Rattle.eo_run.specs.declared.Verdict.{Verdict}
 use Rattle.eo_run.specs.Verdict.{Refusal}

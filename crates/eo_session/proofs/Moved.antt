@@ -1,12 +1,12 @@
 -- Declarations with other terms, which are the same over another table.
-use Rattle.std.proofs.Common.{◌≡◌, refl, sym, ap, subst, ◌∙◌, ℕ, zero, suc, ◌+◌, ◌<◌, ◌≤◌, List, [], ◌∷◌, ◌++◌, length, map, take, drop, get_or, All, Option, Some, None, arith}
+use Rattle.std.proofs.Common.{◌≡◌, refl, sym, ap, subst, ◌∙◌, ℕ, suc, ◌+◌, ◌<◌, ◌≤◌, List, [], ◌∷◌, ◌++◌, length, map, take, drop, get_or, All, Option, Some, None, arith}
 use Rattle.std.specs.Prelude.{flat_map, option_map, option_to_list}
 use Rattle.std.proofs.lemmas.List.{append-nil, append_assoc, map-append, length-map, length-append, take_at, drop_at, drop_more, take-append-drop, get_or_append_left, get_or-append-add}
 use Rattle.std.proofs.lemmas.List.Concat.{flat_map-append}
 use Rattle.std.proofs.lemmas.List.Elements.{All-nil, All-cons, All-append, All-map, All-head, All-tail}
 use Rattle.eo_base.specs.Limits.{parameters_limit}
 use Rattle.eo_term.specs.Terms.{tree_at}
-use Rattle.eo_term.specs.Tree.{Tree, Con}
+use Rattle.eo_term.specs.Tree.{Tree}
 use Rattle.eo_sig.specs.declared.records.Param.{Param}
 use Rattle.eo_sig.specs.declared.records.Attribute as code_attribute
 use Rattle.eo_sig.specs.declared.records.Attribute.TheVariants as attribute
@@ -18,7 +18,7 @@ use Rattle.eo_sig.specs.declared.records.PremiseShape as code_premises
 use Rattle.eo_sig.specs.declared.records.PremiseShape.TheVariants as premises
 use Rattle.eo_sig.specs.declared.records.RuleDecl.{RuleDecl}
 use Rattle.eo_sig.specs.Reading.{read_parameter, read_attribute, read_constant, read_macro, read_case, read_program, read_premises, read_pair, read_rule, AttributeBelow, ConstBelow, MacroBelow, CaseBelow, ProgramBelow, PremisesBelow, SomeBelow, RuleBelow}
-use Rattle.eo_sig.specs.Signature.{Parameter, Attribute, RightNil, LeftNil, Chain, Pairs, Binder, PremiseShape, Each, Joined, premise_patterns}
+use Rattle.eo_sig.specs.Signature.{Attribute, RightNil, LeftNil, Chain, Pairs, Binder, PremiseShape, Each, Joined, premise_patterns}
 use Rattle.eo_session.specs.Moving.{param_ids, attribute_ids, constant_ids, macro_ids, case_ids, program_ids, premise_ids, pair_ids, rule_ids, blank_param, blank_params, blank_attribute, blank_constant, blank_macro, blank_ids, blank_case, blank_program, blank_premises, blank_option, blank_pair, blank_rule, IsMoved}
 use Rattle.eo_session.specs.Roots.{types_of, terminators, constant_trees, macro_trees, case_trees, program_trees, pair_trees, rule_trees}
 

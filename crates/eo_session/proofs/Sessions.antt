@@ -1,9 +1,8 @@
 -- What each command does to a state.
 use Rattle.std.proofs.Common.{◌≡◌, refl, ℕ, ◌<◌, Bool, true, false, not, List, [], sym, ap, subst, ◌∙◌, true≢false, arith}
 use Rattle.std.specs.Prelude.{◌≢◌, Option, Some, None, Result, Ok, Err, nat_lt, if◌then◌else◌, ◌&&◌, ◌||◌}
-use Rattle.std.specs.Result.{IsErrAnd}
 use Rattle.eo_base.specs.declared.FaultName.{FaultName}
-use Rattle.eo_base.specs.declared.FaultName.TheVariants.{Redeclared, IllTyped, NotBool, NotAsserted, NoReference, NoRefutation, SecondReference, FileAbsent, InScope, ScopeOpen, ScopeDepth}
+use Rattle.eo_base.specs.declared.FaultName.TheVariants.{Redeclared, IllTyped, NotBool, NotAsserted, NoReference, NoRefutation, SecondReference, InScope, ScopeOpen, ScopeDepth}
 use Rattle.eo_base.specs.Answers.{Tells}
 use Rattle.eo_base.specs.Checks.{Checked, ◌>>=◌, require}
 use Rattle.eo_sexp.specs.Sexp.{Sexp}
@@ -23,9 +22,8 @@ use Rattle.eo_names.specs.Refused.{told as elab_told}
 use Rattle.eo_session.specs.declared.held.Held.{Held}
 use Rattle.eo_session.specs.declared.refused.Refused.{Refused}
 use Rattle.eo_session.specs.declared.refused.Refused.TheVariants as refused
-use Rattle.eo_session.specs.Stepping.{of_elab, of_fact, Refuses, GivesTerm, Does}
+use Rattle.eo_session.specs.Stepping.{of_elab, of_fact, Refuses, GivesTerm}
 use Rattle.std.proofs.lemmas.Bool.Decides.{nat_tests}
-use Rattle.eo_base.proofs.Answering.{at_exit}
 use Rattle.eo_base.proofs.ChecksLemmas.{bind_fails}
 use Rattle.eo_sig.specs.Signature.{is_reserved}
 use Rattle.eo_session.specs.Using.{added_fact, asserted_formula, NameFirst}

@@ -25,7 +25,7 @@ use Rattle.eo_session.specs.Step.{added_constant, type_value, typed_constant, ch
 use Rattle.eo_session.specs.Origin.{Origin}
 use Rattle.eo_sexp.specs.Sexp.{Sexp}
 use Rattle.eo_shape.specs.Shapes.{ParameterShape, AttributeShape, ProgramShape, RuleShape}
-use Rattle.eo_sig.specs.Signature.{Signature, SignatureEntry, IsConstant, IsProgram, IsRule, IsLiteralType, Attribute, Plain, RightNil, LeftNil, Right, Left, Chain, Pairs, Binder, Constant, Macro, Rule, rule_of, rules, rule_at, constant_at, terminator_of, may_fold, are_ordered, argument_types, implicit_occur, first_wrong, constant_may_hold, constant_fault, literal_type_fault, program_fault, rule_fault}
+use Rattle.eo_sig.specs.Signature.{Signature, SignatureEntry, IsConstant, IsProgram, IsRule, IsLiteralType, Attribute, Plain, RightNil, LeftNil, Right, Left, Chain, Pairs, Binder, Constant, Macro, Rule, rule_of, rules, rule_at, constant_at, terminator_of, may_fold, are_ordered, constant_fault, literal_type_fault, program_fault, rule_fault}
 use Rattle.eo_sig.specs.Usable.{IsUsable}
 use Rattle.eo_term.specs.Tree.{Tree, bool_tree, is_value}
 use Rattle.eo_type.specs.Types.{Typed, type_of}

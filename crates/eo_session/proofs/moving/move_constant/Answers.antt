@@ -1,7 +1,6 @@
-use Rattle.std.proofs.Common.{ℕ, [], ◌∷◌, ◌++◌, length, ap, ◌∙◌, arith}
+use Rattle.std.proofs.Common.{[], ◌∷◌, length, ap, arith}
 use Rattle.std.proofs.lemmas.List.{length-append}
-use Rattle.eo_sig.specs.declared.records.ConstDecl.{ConstDecl}
-use Rattle.eo_session.specs.Moving.{param_ids, attribute_ids, blank_constant}
+use Rattle.eo_session.specs.Moving.{param_ids, attribute_ids}
 use Rattle.eo_session.proofs.Moved.{params_count, take_two, taken_long}
 use Rattle.eo_session.proofs.moving.move_constant.Goals as goal
 

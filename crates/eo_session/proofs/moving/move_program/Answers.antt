@@ -1,4 +1,4 @@
-use Rattle.std.proofs.Common.{ℕ, [], ◌∷◌, ◌++◌, length, ap, ◌∙◌, arith}
+use Rattle.std.proofs.Common.{ℕ, [], ◌∷◌, ◌++◌, length, ap, arith}
 use Rattle.std.specs.Prelude.{flat_map}
 use Rattle.eo_session.specs.Moving.{param_ids, case_ids}
 use Rattle.eo_session.proofs.Moved.{params_count, same_length, program_long, take_two, taken_long}

@@ -1,6 +1,6 @@
-use Rattle.std.proofs.Common.{◌≡◌, ℕ, [], ◌∷◌, ◌++◌, length, ap, ◌∙◌, arith}
+use Rattle.std.proofs.Common.{ℕ, [], ◌∷◌, ◌++◌, length, ap, arith}
 use Rattle.std.specs.Prelude.{flat_map, option_to_list}
-use Rattle.eo_session.specs.Moving.{param_ids, premise_ids, pair_ids, blank_rule}
+use Rattle.eo_session.specs.Moving.{param_ids, premise_ids, pair_ids}
 use Rattle.eo_session.proofs.Moved.{params_count, option_count, premises_count, same_length, rule_long, take_two, taken_long}
 use Rattle.eo_session.proofs.moving.move_rule.Goals as goal
 

@@ -1,6 +1,6 @@
-use Rattle.std.proofs.Common.{◌≡◌, ◌<◌, ◌≤◌, List, length, get_or, map, take, sym, subst, ap, ◌∙◌, arith}
+use Rattle.std.proofs.Common.{◌≤◌, length, sym, subst, arith}
 use Rattle.std.specs.Prelude.{flat_map}
-use Rattle.eo_session.specs.Moving.{case_ids, blank_case}
+use Rattle.eo_session.specs.Moving.{case_ids}
 use Rattle.eo_session.proofs.Moved.{cases_left}
 use Rattle.eo_session.proofs.moving.moved_cases.Goals as goal
 

@@ -1,4 +1,4 @@
-use Rattle.std.proofs.Common.{length, ap, ◌∙◌, ◌≡◌, arith}
+use Rattle.std.proofs.Common.{length, ap, ◌≡◌, arith}
 use Rattle.eo_session.proofs.Moved.{zeros}
 use Rattle.eo_session.proofs.moving.moved_ids.Goals as goal
 

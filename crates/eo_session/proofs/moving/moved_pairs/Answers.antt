@@ -1,4 +1,4 @@
-use Rattle.std.proofs.Common.{length, ap, ◌∙◌, ◌≡◌, ◌<◌, arith}
+use Rattle.std.proofs.Common.{length, ap, ◌≡◌, ◌<◌, arith}
 use Rattle.eo_session.proofs.Moved.{pairs_left, zero_pairs}
 use Rattle.eo_session.proofs.moving.moved_pairs.Goals as goal
 

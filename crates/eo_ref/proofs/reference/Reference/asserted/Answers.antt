@@ -1,4 +1,4 @@
-use Rattle.std.proofs.Common.{◌≡◌, ◌<◌, List, [], length, All, ap, sym, subst, ◌∙◌}
+use Rattle.std.proofs.Common.{◌≡◌, ◌<◌, List, [], length, sym, subst, ◌∙◌}
 use Rattle.std.specs.Prelude.{Ok}
 use Rattle.std.proofs.lemmas.List.Elements.{All-nil}
 use Rattle.eo_base.proofs.Answering.{fails}
@@ -9,7 +9,7 @@ use Rattle.eo_names.specs.declared.locals.LocalName.{LocalName}
 use Rattle.eo_names.specs.Names.{Binding, BindingsBelow, AreBelow, read_locals}
 use Rattle.eo_names.specs.Readers.{Label}
 use Rattle.eo_elab.specs.Meaning.{means}
-use Rattle.eo_elab.specs.Worlds.{labels_in, reference_meaning}
+use Rattle.eo_elab.specs.Worlds.{labels_in}
 use Rattle.eo_term.specs.Growth.{tree_in}
 use Rattle.eo_term.specs.Tree.{Tree}
 use Rattle.eo_base.specs.Checks.{Checked}

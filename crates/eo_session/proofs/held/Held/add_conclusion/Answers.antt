@@ -1,4 +1,3 @@
-use Rattle.std.proofs.Common.{◌≡◌, ap, sym, ◌∙◌}
 use Rattle.std.specs.Prelude.{Result}
 use Rattle.eo_base.proofs.Answering.{at_exit}
 use Rattle.eo_session.specs.Held.{state_of}

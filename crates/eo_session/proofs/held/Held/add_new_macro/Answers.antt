@@ -1,10 +1,9 @@
-use Rattle.std.proofs.Common.{◌≡◌, true, ℕ, List, ◌∷◌, length, sym, subst, ap, ◌∙◌, Contains}
+use Rattle.std.proofs.Common.{ℕ, List, sym, subst, ap, ◌∙◌}
 use Rattle.std.specs.Prelude.{Ok}
-use Rattle.eo_sig.specs.Reading.{Kept, read_macro, IsFree}
+use Rattle.eo_sig.specs.Reading.{Kept, IsFree}
 use Rattle.eo_sig.specs.Signature.{Macro}
-use Rattle.eo_term.specs.Tree.{Tree}
 use Rattle.eo_elab.specs.Fitting.{macro_is_bound}
-use Rattle.eo_session.specs.Held.{HoldsOnly, next_constant}
+use Rattle.eo_session.specs.Held.{HoldsOnly}
 use Rattle.eo_session.specs.Roots.{macro_trees}
 use Rattle.eo_session.specs.State.{with_macro}
 use Rattle.eo_session.proofs.Adding.{does-same}

@@ -1,10 +1,9 @@
-use Rattle.std.proofs.Common.{◌≡◌, true, ℕ, List, ◌∷◌, length, sym, subst, ap, ◌∙◌, Contains}
-use Rattle.eo_sig.specs.Reading.{Kept, read_rule, IsFreeRule}
+use Rattle.std.proofs.Common.{ℕ, List, sym, subst, ap, ◌∙◌}
+use Rattle.eo_sig.specs.Reading.{Kept, IsFreeRule}
 use Rattle.eo_sig.specs.Signature.{Rule}
-use Rattle.eo_term.specs.Tree.{Tree}
-use Rattle.eo_session.specs.Held.{HoldsOnly, next_constant}
+use Rattle.eo_session.specs.Held.{HoldsOnly}
 use Rattle.eo_session.specs.Roots.{rule_trees}
-use Rattle.eo_session.specs.State.{State, is_in_scope}
+use Rattle.eo_session.specs.State.{is_in_scope}
 use Rattle.eo_session.specs.Step.{checked_rule}
 use Rattle.eo_session.proofs.Adding.{does-same}
 use Rattle.eo_session.proofs.held.Held.add_rule.Goals as goal

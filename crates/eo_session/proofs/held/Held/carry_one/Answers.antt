@@ -1,4 +1,4 @@
-use Rattle.std.proofs.Common.{◌<◌, ℕ, [], ◌∷◌, All, length}
+use Rattle.std.proofs.Common.{◌<◌, ℕ, [], length}
 use Rattle.std.proofs.lemmas.List.Elements.{All-nil, All-cons}
 use Rattle.eo_session.proofs.held.Held.carry_one.Goals as goal
 

@@ -1,4 +1,4 @@
-use Rattle.std.proofs.Common.{◌≡◌, refl, false, ℕ, List, length, sym, subst, ap, ◌∙◌}
+use Rattle.std.proofs.Common.{refl, false, ℕ, length, sym, subst, ap, ◌∙◌}
 use Rattle.std.specs.Prelude.{Ok, Result}
 use Rattle.eo_base.proofs.Answering.{at_exit}
 use Rattle.eo_term.specs.Growth.{tree_in}

@@ -1,6 +1,5 @@
-use Rattle.std.proofs.Common.{◌≡◌, ℕ, refl, length, sym, subst, ap, ◌∙◌, Contains}
+use Rattle.std.proofs.Common.{ℕ, length, sym, subst, ap, ◌∙◌}
 use Rattle.std.specs.Prelude.{Ok}
-use Rattle.eo_sig.specs.declared.records.ConstDecl.{ConstDecl}
 use Rattle.eo_sig.specs.declared.records.Declared.TheVariants as declared
 use Rattle.eo_sig.specs.Reading.{signature}
 use Rattle.eo_sig.specs.Signature.{IsLiteralType, literal_type_fault}

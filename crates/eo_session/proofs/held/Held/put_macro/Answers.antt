@@ -1,4 +1,4 @@
-use Rattle.std.proofs.Common.{◌≡◌, ℕ, length, sym, subst, ap, ◌∙◌}
+use Rattle.std.proofs.Common.{ℕ, length, sym, subst, ap}
 use Rattle.std.specs.Prelude.{Ok}
 use Rattle.eo_sig.specs.Reading.{read_macro}
 use Rattle.eo_term.specs.Terms.{IsMark}

@@ -1,15 +1,14 @@
-use Rattle.std.proofs.Common.{◌≡◌, ℕ, List, ◌∷◌, length, sym, subst, ap, ◌∙◌}
+use Rattle.std.proofs.Common.{◌≡◌, ℕ, ◌∷◌, length, sym, subst, ap, ◌∙◌}
 use Rattle.std.specs.Prelude.{Ok, Result}
 use Rattle.eo_term.specs.Terms.{IsMark, tree_at}
 use Rattle.eo_proof.specs.Kept.{scopes}
 use Rattle.eo_session.specs.Held.{state_of, IsWhole}
 use Rattle.eo_session.specs.State.{with_scope}
 use Rattle.eo_session.specs.Stepping.{of_fact, Does}
-use Rattle.eo_session.specs.declared.marks.ScopeMark.{ScopeMark}
 use Rattle.eo_session.specs.declared.refused.Refused.{Refused}
 use Rattle.eo_session.proofs.Alive.{own_mark}
 use Rattle.eo_base.proofs.Answering.{at_exit}
-use Rattle.eo_session.proofs.Holding.{whole_fact, whole_scope, whole_begun, state_begun}
+use Rattle.eo_session.proofs.Holding.{whole_scope, whole_begun, state_begun}
 use Rattle.eo_session.proofs.Reclaiming.{whole_put_scope}
 use Rattle.eo_session.proofs.Sessions.{refuses_pushed}
 use Rattle.eo_session.proofs.held.Held.put_scope.Goals as goal
