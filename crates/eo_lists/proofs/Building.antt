@@ -5,8 +5,7 @@ use Rattle.std.proofs.lemmas.List.Elements.{All-head, All-tail}
 use mathlib.Core.List.{reverse_aux}
 use Rattle.eo_base.proofs.Tests.{still_above}
 use Rattle.eo_base.specs.Limits.{height_limit}
-use Rattle.eo_term.specs.Growth.{Grows}
-use Rattle.eo_term.specs.Terms.{Terms, tree_at}
+use Rattle.eo_term.specs.Terms.{tree_at}
 use Rattle.eo_term.specs.Tree.{Tree, Con, height, is_tall}
 use Rattle.eo_lists.specs.Lists.{link, spell}
 use Rattle.eo_lists.specs.Parts.{onto}

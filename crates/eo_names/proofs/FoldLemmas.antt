@@ -1,9 +1,7 @@
 -- Folds over lists of trees, from a place on.
 use Rattle.std.proofs.Common.{◌≡◌, ℕ, zero, suc, ◌+◌, ◌<◌, ◌≤◌, true, Bool, List, [], ◌∷◌, map, drop, fold, length, get_or, false, refl, sym, ap, ◌∙◌, arith}
 use Rattle.std.proofs.lemmas.List.{at_drop_more}
-use Rattle.eo_base.proofs.Tests.{still_above}
-use Rattle.eo_base.specs.Limits.{height_limit}
-use Rattle.eo_term.specs.Tree.{Tree, Con, App, Arr, height, is_tall}
+use Rattle.eo_term.specs.Tree.{Tree, Con, App, Arr, is_tall}
 use Rattle.eo_term.specs.Terms.{tree_at}
 use Rattle.std.proofs.lemmas.List.Elements.{All-head, All-tail, All-weaker}
 use Rattle.std.proofs.lemmas.List.{length-map}

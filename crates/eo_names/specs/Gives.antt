@@ -1,5 +1,5 @@
 -- What calls answer, against the definitions: terms of a table, or the fault.
-use Rattle.std.specs.Prelude.{◌≡◌, ℕ, suc, ◌<◌, List, [], length, Result, Ok, Err, map, ◌++◌}
+use Rattle.std.specs.Prelude.{◌≡◌, ℕ, suc, ◌<◌, List, [], length, Result, Ok, Err, ◌++◌}
 use Rattle.std.specs.List.{list_any}
 use Rattle.eo_base.specs.Answers.{Gives, Tells}
 use Rattle.eo_base.specs.Checks.{Checked}
@@ -12,11 +12,9 @@ use Rattle.eo_term.specs.Tree.{Tree, is_tall}
 use Rattle.eo_names.specs.declared.folding.Turn.{Turn}
 use Rattle.eo_names.specs.declared.refused.ElabRefused.{ElabRefused}
 use Rattle.eo_names.specs.declared.scope.Scope.{Scope}
-use Rattle.eo_names.specs.Binders.{variable}
-use Rattle.eo_names.specs.Names.{Binding, BindingsBelow}
 use Rattle.eo_names.specs.Refused.{told}
 use Rattle.eo_names.specs.Turns.{after, TurnBelow, is_tall_turn}
-use Rattle.eo_names.specs.Worlds.{World, Read, turns_in, turned_in, grouped_in, joined_in, attributed_in, seen_in}
+use Rattle.eo_names.specs.Worlds.{World, Read, turns_in, turned_in, grouped_in, joined_in, attributed_in}
 
 -- ---- terms that may be too tall
 

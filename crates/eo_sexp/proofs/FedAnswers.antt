@@ -1,5 +1,5 @@
 -- What feeding a piece answers.
-use Rattle.std.proofs.Common.{◌≡◌, refl, ℕ, suc, ◌+◌, ◌-◌, ◌^◌, ◌≤◌, ◌<◌, false, List, [], ◌∷◌, ◌++◌, length, length-drop, length-take-le, get_or, take, drop, drop-cons, drop-drop, take_all, take-append-drop, sym, ap, ◌∙◌, subst, inl, inr, arith}
+use Rattle.std.proofs.Common.{◌≡◌, refl, ℕ, suc, ◌+◌, ◌-◌, ◌^◌, ◌≤◌, ◌<◌, false, List, [], ◌∷◌, ◌++◌, length, length-drop, length-take-le, get_or, take, drop, drop-cons, drop-drop, take-append-drop, sym, ap, ◌∙◌, subst, inl, inr, arith}
 use Rattle.std.specs.Prelude.{Some, None, ◌⊎◌}
 use Rattle.std.proofs.lemmas.List.{drop_all}
 use Rattle.eo_base.specs.Limits.{limits}

@@ -1,6 +1,6 @@
 -- The turns of a collector.
 use Rattle.std.proofs.Common.{◌≡◌, refl, ℕ, suc, ◌+◌, ◌≤◌, ◌<◌, Bool, true, false, List, [], ◌∷◌, ◌++◌, length, length-append, take, drop, sym, ap, ◌∙◌, append_assoc, append-nil, subst, inl, inr, arith}
-use Rattle.std.specs.Prelude.{Option, codes, bytes_eq, ◌&&◌, ◌⊎◌, if◌then◌else◌}
+use Rattle.std.specs.Prelude.{Option, codes, bytes_eq, ◌⊎◌, if◌then◌else◌}
 use Rattle.std.proofs.Math.Seq.{take-append_seam}
 use Rattle.std.proofs.lemmas.List.{take_all}
 use Rattle.eo_base.specs.declared.FaultName.{FaultName}

@@ -1,12 +1,12 @@
 -- Types that are kept, as the table grows and as they become more.
-use Rattle.std.proofs.Common.{◌≡◌, ℕ, ◌<◌, ◌≤◌, Bool, true, false, cond, eqb, nat_lt, lt-ltb, ltb-true, List, [], ◌∷◌, ◌++◌, length, length-take, length-take-le, take, take-take, take_all, get_or-take, not-suc-le-zero, filter, Option, Some, None, All, refl, sym, ap, ◌∙◌, subst, subst₂, arith}
+use Rattle.std.proofs.Common.{◌≡◌, ℕ, ◌<◌, ◌≤◌, Bool, true, false, cond, eqb, nat_lt, lt-ltb, ltb-true, List, [], ◌∷◌, ◌++◌, length, length-take, length-take-le, take, take-take, get_or-take, not-suc-le-zero, filter, Some, All, refl, sym, ap, ◌∙◌, subst, subst₂, arith}
 use Rattle.std.specs.Prelude.{IfSome}
 use Rattle.std.specs.Map.{lookup}
 use Rattle.std.proofs.lemmas.List.Elements.{All-head, All-tail, All-weaker, All-filter, filter_passes}
 use Rattle.std.proofs.lemmas.Bool.Decides.{Decides-eqb}
 use Rattle.std.proofs.lemmas.Bool.{and_parts, and_from}
 use Rattle.eo_term.proofs.Growing.{grows_refl}
-use Rattle.eo_term.specs.Terms.{Terms, Since, IsMark, HasTextsOf, tree_at}
+use Rattle.eo_term.specs.Terms.{Terms, Since, HasTextsOf, tree_at}
 use Rattle.eo_sig.specs.Signature.{Signature}
 use Rattle.eo_term.specs.Tree.{Tree, Con}
 use Rattle.eo_sig.specs.Reading.{Kept, Stays, IsBelow, signature}

@@ -1,6 +1,5 @@
 -- The type that is kept for a term, where one is added and where only those before a number of terms stay.
-use Rattle.std.proofs.Common.{◌≡◌, ℕ, suc, ◌+◌, ◌<◌, ◌≤◌, Bool, true, false, ◌&&◌, cond, nat_eq, nat_lt, eqb-true, eq-eqb, ne_eqb, lt-ltb, true≢false, List, [], ◌∷◌, ◌++◌, length, filter, Option, Some, None, is_some, unwrap_or, refl, sym, ap, ap₂, ◌∙◌, subst, arith}
-use Rattle.std.proofs.lemmas.Bool.{and_from}
+use Rattle.std.proofs.Common.{◌≡◌, ℕ, ◌+◌, Bool, true, false, ◌&&◌, cond, nat_eq, nat_lt, eqb-true, eq-eqb, ne_eqb, true≢false, List, [], ◌∷◌, ◌++◌, filter, Some, None, is_some, unwrap_or, refl, sym, ap, ap₂, ◌∙◌, arith}
 use Rattle.eo_type.specs.Known.{kept_type, is_before, Keeps, FindsBelow}
 
 -- what is kept is kept where one more is

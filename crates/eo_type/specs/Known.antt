@@ -1,5 +1,5 @@
 -- The types that are kept.
-use Rattle.std.specs.Prelude.{◌≡◌, ℕ, ◌<◌, ◌≤◌, Bool, ◌&&◌, nat_eq, nat_lt, List, ◌++◌, length, take, All, Option, Some, Result, Ok, IfOk, IfSome}
+use Rattle.std.specs.Prelude.{◌≡◌, ℕ, ◌<◌, ◌≤◌, Bool, ◌&&◌, nat_eq, nat_lt, List, ◌++◌, length, take, All, Option, Some, Result, IfOk, IfSome}
 use Rattle.std.specs.Map.{lookup}
 use Rattle.eo_term.specs.Tree.{Tree}
 use Rattle.eo_term.specs.Terms.{Terms, Since, tree_at}

@@ -1,13 +1,13 @@
 -- What the answers of a collector leave of the commands of a text.
-use Rattle.std.proofs.Common.{◌≡◌, refl, ℕ, zero, suc, ◌+◌, ◌≤◌, Bool, true, false, List, [], ◌++◌, length, take, drop, sym, ap, subst, ◌∙◌, arith, length-drop, length-take-le}
+use Rattle.std.proofs.Common.{◌≡◌, ℕ, zero, suc, ◌+◌, ◌≤◌, Bool, true, false, List, [], ◌++◌, length, take, drop, sym, ap, subst, ◌∙◌, arith, length-drop, length-take-le}
 use Rattle.std.proofs.lemmas.List.{take-append-drop, drop-append-le}
 use Rattle.eo_base.specs.declared.FaultName.{FaultName}
 use Rattle.eo_base.specs.Limits.{limits}
 use Rattle.eo_sexp.specs.Spot.{Spot}
 use Rattle.eo_sexp.specs.declared.Fed.TheVariants as fed
 use Rattle.eo_sexp.specs.declared.Finished.TheVariants as finished
-use Rattle.eo_sexp.specs.Texts.{Phase, Next, Command, End, Fault, Reads, Placed, read_next, reads_from, reads_all, reads, next_from, first_phase, first_spot, spot_after}
-use Rattle.eo_sexp.specs.Collecting.{Collecting, new_collector, Within, AtCommand, Failed, NoMemory, IsLive, IsWithin, here_of, used, fed_with, finished_with, fed_answer, finish_answer}
+use Rattle.eo_sexp.specs.Texts.{Phase, Next, Command, End, Fault, Reads, read_next, reads_from, reads_all, reads, next_from, first_phase, first_spot, spot_after}
+use Rattle.eo_sexp.specs.Collecting.{Collecting, new_collector, AtCommand, IsLive, IsWithin, here_of, fed_with, finished_with, fed_answer, finish_answer}
 use Rattle.eo_sexp.specs.Cutting.{IsWaiting, ReadsInPieces}
 use Rattle.eo_sexp.specs.Answering.{IsAnswer, AnswersAlone}
 use Rattle.eo_sexp.proofs.Callers.{live-within, at_more, at_command, at_fault, at_end, at_end_command, at_end_fault, here-used}

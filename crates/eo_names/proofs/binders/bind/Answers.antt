@@ -1,5 +1,5 @@
 use Rattle.std.proofs.Common.{◌≡◌, length, ap, subst, sym, ◌∙◌}
-use Rattle.eo_names.specs.Names.{Binding, BindingsBelow, read_pairs, with_terms}
+use Rattle.eo_names.specs.Names.{BindingsBelow, read_pairs, with_terms}
 use Rattle.eo_names.proofs.BinderLemmas.{all_terms, as_many, as_variables}
 use Rattle.eo_names.proofs.binders.bind.Goals as goal
 

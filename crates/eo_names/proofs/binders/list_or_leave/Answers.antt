@@ -1,4 +1,4 @@
-use Rattle.std.proofs.Common.{◌≡◌, ℕ, ◌<◌, ◌≤◌, length, ap, sym, subst, ◌∙◌, arith, All, []}
+use Rattle.std.proofs.Common.{◌≡◌, ◌<◌, ◌≤◌, length, ap, sym, subst, ◌∙◌, arith, All, []}
 use Rattle.eo_base.proofs.Answering.{gives_fault, ok_always}
 use Rattle.eo_base.proofs.Elements.{ids_more}
 use Rattle.eo_term.specs.Growth.{trees_in}

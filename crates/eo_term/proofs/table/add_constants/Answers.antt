@@ -1,4 +1,4 @@
-use Rattle.std.proofs.Common.{ℕ, List, [], ◌∷◌, ◌++◌, map, refl, sym, ap, ◌∙◌, subst}
+use Rattle.std.proofs.Common.{[], ◌∷◌, ◌++◌, refl, sym, ap, ◌∙◌, subst}
 use Rattle.eo_term.specs.declared.node.Node.TheVariants as node
 use Rattle.eo_term.specs.Held.{trees_of, IsSound}
 use Rattle.eo_term.proofs.First.{IsLeaf, IsConstant, first_entries, first_trees_of, first_sound, empty_apart, empty_characters}

@@ -1,6 +1,6 @@
 use Rattle.std.proofs.Common.{◌≡◌, ℕ, ◌<◌, length, take, refl, sym, ◌∙◌, subst, arith, rules, slice_index_or}
 use Rattle.std.proofs.lemmas.List.{get_or_default}
-use Rattle.std.proofs.lemmas.List.Filters.{FiltersInPlace, FiltersInPlace-more_swap, FiltersInPlace-more_no}
+use Rattle.std.proofs.lemmas.List.Filters.{FiltersInPlace-more_swap, FiltersInPlace-more_no}
 use Rattle.std.specs.List.{SwappedAt}
 use Rattle.eo_type.specs.Known.{is_before}
 use Rattle.eo_type.proofs.Greatest.{filter_all, swapped}

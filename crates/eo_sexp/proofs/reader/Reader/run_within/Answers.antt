@@ -1,4 +1,4 @@
-use Rattle.std.proofs.Common.{◌≡◌, ◌+◌, ◌-◌, ap, length, length-append, length-take-le, length-drop, take, drop, arith, subst}
+use Rattle.std.proofs.Common.{◌-◌, ap, length, length-append, length-take-le, length-drop, take, drop, arith, subst}
 use Rattle.eo_base.specs.Limits.{limits}
 use Rattle.eo_sexp.specs.declared.reader.ReaderTurn.TheVariants as turn
 use Rattle.eo_sexp.specs.Reader.{Runs}

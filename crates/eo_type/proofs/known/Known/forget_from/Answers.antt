@@ -1,4 +1,4 @@
-use Rattle.std.proofs.Common.{◌≡◌, ℕ, ◌-◌, ◌≤◌, ◌++◌, All, true, length, length-take-le, take, filter, replicate, refl, sym, ap, ◌∙◌, subst, subst₂, arith}
+use Rattle.std.proofs.Common.{◌≡◌, ◌-◌, ◌≤◌, ◌++◌, All, true, length, length-take-le, take, filter, replicate, sym, ap, ◌∙◌, subst, arith}
 use Rattle.eo_type.specs.Known.{is_before}
 use Rattle.eo_type.specs.Greatest.{AreGreatest}
 use Rattle.eo_type.proofs.Greatest.{greatest_before}

@@ -1,4 +1,4 @@
-use Rattle.std.proofs.Common.{◌≡◌, ℕ, Some, true, length, take, take-take, sym, ap, ◌∙◌, subst, arith}
+use Rattle.std.proofs.Common.{◌≡◌, ℕ, Some, true, take, take-take, sym, ap, ◌∙◌, subst, arith}
 use Rattle.eo_sig.specs.Reading.{signature, IsBelow}
 use Rattle.eo_type.specs.Known.{Keeps, kept_type, is_before}
 use Rattle.eo_type.proofs.Fitting.{cut_back, fit_before, grows_under_back}

@@ -1,4 +1,4 @@
-use Rattle.std.proofs.Common.{◌≡◌, ℕ, length, take, sym, ap, ◌∙◌, subst, arith, take-take}
+use Rattle.std.proofs.Common.{◌≡◌, ℕ, take, sym, ap, ◌∙◌, subst, arith, take-take}
 use Rattle.eo_sig.specs.Reading.{IsBelow}
 use Rattle.eo_type.proofs.types.Types.undo.Goals as goal
 
