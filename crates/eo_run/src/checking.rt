@@ -311,7 +311,9 @@ pub fn load_files<L: Library>(
     let Ok(mut run) = first_load(alloc, file) else {
         return Verdict::OutOfMemory;
     };
-    load_named(alloc, file.as_bytes(), files, &mut run, paths)
+    let verdict = load_named(alloc, file.as_bytes(), files, &mut run, paths);
+    drop(run);
+    verdict
 }
 
 /// The same from the beginning of its run.
