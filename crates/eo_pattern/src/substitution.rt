@@ -13,8 +13,7 @@ ghost use Rattle.eo_pattern.specs.Steps.{put_in, IsMade, IsOperator, IsStep, IsI
 use crate::Subst;
 use eo_base::limits::PARAMETERS;
 use eo_term::{
-    Id, Memo, Node, OpCode, ParamSet, Step, TYPE, Table, TermRefused, Walk, height_law, table_law,
-    walk_law,
+    Id, Memo, Node, OpCode, ParamSet, Step, TYPE, Table, TermRefused, Walk, height_law, walk_law,
 };
 
 /// The term in which each parameter that has a value is replaced by it. Nothing is renamed. A part
@@ -32,7 +31,6 @@ pub fn substitute(table: &mut Table, subst: &Subst, id: Id) -> Result<Id, TermRe
     ensures holds { Holds subst.now table.old.trees table.new.trees }
     ensures grows { Grows table.old table.new }
 {
-    table_law();
     let mark = table.mark();
     let made = put_from(table, subst, id);
     if made.is_err() {
