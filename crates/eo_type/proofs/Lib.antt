@@ -4,7 +4,9 @@ pub mod Longer
 pub mod Walk
 pub mod Heights
 pub mod SettleSteps
+mod SettleParts
 pub mod Assigned
 pub mod Fitting
 pub mod Greatest
 pub mod Keeping
+mod TypingSteps

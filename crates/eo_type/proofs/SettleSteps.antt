@@ -16,7 +16,7 @@ use Rattle.eo_base.proofs.Tests.{both, clash}
 use Rattle.eo_type.specs.declared.refused.TypeRefused.{TypeRefused}
 use Rattle.eo_type.specs.declared.refused.TypeRefused.TheVariants as refused
 use Rattle.eo_type.specs.declared.refused.Stop.{Stop}
-use Rattle.eo_type.specs.Types.{Typed, TypeTall, on_typed, op_in_type, settled_op, settle, settle_all, if_not_tall, settled}
+use Rattle.eo_type.specs.Types.{TypeOutcome, Typed, Untyped, TypeRange, TypeTall, on_typed, op_in_type, settled_op, settle, settle_all, if_not_tall, settled}
 use Rattle.eo_type.specs.Outcomes.{Answers, IsTall, IsTyped, Stops}
 use Rattle.eo_type.proofs.Walk.{stops_first}
 use Rattle.eo_type.proofs.Heights.{settle_low, settle_all_low, never_tall}
@@ -140,3 +140,12 @@ pub settled_typed : (t u : Tree) → is_tall t ≡ false → settle t ≡ Typed 
 settled_typed t u l e =
     let m = settle_low t u e l in
     (λ i. on_typed (if l i then TypeTall else Typed t) (λ v. on_typed (settle v) if_not_tall)) ∙ (λ i. on_typed (e i) if_not_tall) ∙ (λ i. if m i then TypeTall else Typed u)
+
+pub settled_settle : (t : Tree) → is_tall t ≡ false → settled t ≡ settle t
+settled_settle t l = (λ i. on_typed (if l i then TypeTall else Typed t) (λ v. on_typed (settle v) if_not_tall)) ∙ by (settle t) refl
+  where
+    by : (o : TypeOutcome Tree) → settle t ≡ o → on_typed o if_not_tall ≡ o
+    by (Typed u) e = let m = settle_low t u e l in λ i. if m i then TypeTall else Typed u
+    by Untyped e = refl
+    by TypeRange e = refl
+    by TypeTall e = refl

@@ -52,14 +52,14 @@ fn application_with(
             if !meets(table, subst, from, ty)? {
                 return Err(Stop::Untyped);
             }
-            Ok(settled(alloc, table, subst, to)?)
+            settled(alloc, table, subst, to)
         }
         Node::Qar { par, ty: from, to } => {
             if !meets(table, subst, from, ty)? {
                 return Err(Stop::Untyped);
             }
             assign(table, subst, par, arg)?;
-            Ok(settled(alloc, table, subst, to)?)
+            settled(alloc, table, subst, to)
         }
         Node::Con(_) => Err(Stop::Untyped),
         Node::Num(_) => Err(Stop::Untyped),
@@ -80,7 +80,7 @@ pub(crate) fn settled(alloc: Global, table: &mut Table, subst: &Subst, ty: Id) -
     ensures grows { Grows table.old table.new }
 {
     let made = substitute(table, subst, ty)?;
-    Ok(settle_term(alloc, table, made)?)
+    settle_term(alloc, table, made)
 }
 
 /// Lets a term stand for the parameter.

@@ -237,7 +237,7 @@ impl Types {
         if !table.is_value(kind) {
             return Err(Stop::Untyped);
         }
-        Ok(application_type(alloc, table, ty, kind, arg)?)
+        application_type(alloc, table, ty, kind, arg)
     }
 
     // The type of a function type: `Type`, if both parts are types.
