@@ -48,3 +48,9 @@ var_put σ t u v s e h = ap (Var s) h ∙ ap (put σ) e
 -- a term that is made, of what its tree is to be
 pub made_low : (σ : Assignment) (ts : List Tree) (k : ℕ) (new : List Tree) (v : ℕ) (u : Tree) → u ≡ put σ (tree_at ts k) → v < length new → tree_at new v ≡ u → (is_tall u ≡ true → ⊥) → IsMade σ ts k new v
 made_low σ ts k new v u e l t n = record { live = l; tree = t ∙ e; low = ap is_tall (sym e) ∙ false_from_ne_true _ n }
+
+-- a leaf that is no parameter stays what it is
+pub leaf_made : (σ : Assignment) (ts : List Tree) (k : ℕ) (u : Tree) → u ≡ tree_at ts k → put σ u ≡ u → k < length ts → is_tall (tree_at ts k) ≡ false → IsMade σ ts k ts k
+leaf_made σ ts k u e s l n =
+    let same : put σ (tree_at ts k) ≡ tree_at ts k = ap (put σ) (sym e) ∙ s ∙ e in
+    record { live = l; tree = sym same; low = ap is_tall same ∙ n }

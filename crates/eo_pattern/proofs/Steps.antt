@@ -9,7 +9,7 @@ use Rattle.eo_term.specs.declared.OpCode.{OpCode}
 use Rattle.eo_base.proofs.Elements.{holds_more}
 use Rattle.eo_base.proofs.Tests.{or_second, both, clash}
 use Rattle.eo_term.specs.ParamSet.{has}
-use Rattle.std.specs.Prelude.{IfSome, IfNone}
+use Rattle.std.specs.Prelude.{◌≢◌, IfSome, IfNone}
 use Rattle.eo_term.specs.Memo.{told, TellsOnly}
 use Rattle.eo_pattern.specs.Matching.{Assignment, empty, assign, value_or_par, put, put_all, Matches}
 use Rattle.eo_pattern.specs.Slots.{Slots, SlotBelow, AreBelow, Holds, Leads, Keeps, held, IsPut, IsAssigned}
@@ -19,6 +19,7 @@ use Rattle.eo_term.specs.Arguments.{count_of, argument_at}
 use Rattle.std.proofs.Common.{inl, inr, ◌⊎◌, arith, length, get_or, set, take, drop, slice_get, ◌+◌, ◌≤◌}
 use Rattle.std.proofs.Math.Seq.{drop-cons}
 use Rattle.std.proofs.Common.{All}
+use Rattle.std.proofs.lemmas.List.{get_or-set_same, get_or-set_other}
 use Rattle.std.proofs.lemmas.List.Elements.{All-head, All-tail, All-weaker}
 use Rattle.std.specs.Option.{option_flatten, option_map}
 use Rattle.eo_term.specs.Terms.{Terms, Since, SameTrees, tree_at, trees_at}
@@ -405,3 +406,13 @@ args_put σ us xs NoTree (suc n) e l h = absurd (omega arith)
 args_put σ us xs (More t ts) zero e l h = absurd (omega arith)
 args_put σ us [] (More t ts) (suc n) e l h = absurd (omega arith)
 args_put σ us (x ∷ xs) (More t ts) (suc n) e l h = λ i. More (h 0 (omega arith) i) (args_put σ us xs ts n (omega arith) (omega arith) (λ k m. h (suc k) (omega arith)) i)
+
+-- what holds of each place below i holds of each below i + 1, where it holds of what is put there
+pub set_below : (P : ℕ → ℕ → Type 0) (xs : List ℕ) (i v : ℕ) → i < length xs → ((k : ℕ) → k < i → P k (get_or xs k 0)) → P i v → (k : ℕ) → k < i + 1 → P k (get_or (set xs i v) k 0)
+set_below P xs i v l h p k m = by (nat_eq k i) refl
+  where
+    by : (b : Bool) → nat_eq k i ≡ b → P k (get_or (set xs i v) k 0)
+    by true q = subst (λ (j : ℕ). P j (get_or (set xs i v) j 0)) (sym ((Decides-eqb k i).0 q)) (subst (P i) (sym (get_or-set_same xs i v 0 l)) p)
+    by false q =
+        let other : k ≢ i = λ e. true≢false (sym ((Decides-eqb k i).1 e) ∙ q) in
+        subst (P k) (sym (get_or-set_other xs i k v 0 other)) (h k (omega (arith, m, other)))

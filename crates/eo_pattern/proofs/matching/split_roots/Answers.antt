@@ -1,9 +1,10 @@
-use Rattle.std.proofs.Common.{◌≡◌, [], ◌∷◌, sym, ap, ◌∙◌, subst, true≢false}
+use Rattle.std.proofs.Common.{◌≡◌, [], ◌∷◌, sym, ap, ◌∙◌, subst, true≢false, arith}
 use Rattle.eo_term.specs.declared.OpCode.{OpCode}
-use Rattle.eo_term.specs.Tree.{Tree, Trees, Op, to_list, occurs}
+use Rattle.eo_term.specs.Tree.{Tree, Trees, Qar, Op, to_list, occurs}
 use Rattle.eo_term.specs.Arguments.{arguments_of}
 use Rattle.eo_term.specs.Terms.{tree_at}
 use Rattle.eo_pattern.specs.Slots.{Leads}
+use Rattle.eo_pattern.proofs.Splitting.{var_split, var_differ, app_split, arr_split, qar_split}
 use Rattle.eo_pattern.proofs.Steps.{closed_equal, closed_differ, op_leads, op_same, args_occur}
 use Rattle.eo_pattern.proofs.matching.split_roots.Goals as goal
 use Rattle.eo_pattern.proofs.matching.split_roots.Goals.{else-eq-via-then-eq+else-count-n, else-eq-via-else-eq}
@@ -41,3 +42,24 @@ returns-else-eq c = λ σ τ m.
       | else-eq-via-then-eq+else-count-n w ↦ w.if-count-n.false (sym c.in-Op.ensures.count ∙ both.1 ∙ c.in-Op-node.ensures.count)
       | else-eq-via-else-eq w ↦ true≢false (sym (c.eq.ensures ∙ (c.codes_law.ensures c.in-Op.code c.in-Op-node.c).1 both.0) ∙ w.if-eq.false)
     ]
+
+pub returns-then-is_same_text : goal.returns-then-is_same_text
+returns-then-is_same_text c =
+    var_split _ _ _ _ _ _ _ c.in-Var.ensures.tree c.in-Var-node.ensures.tree (c.is_same_text.ensures.0 c.if-is_same_text.true) c.in-Var.ensures.parts (omega (arith, c.in-Var-node.ensures.parts, c.requires.term))
+
+pub returns-else-is_same_text : goal.returns-else-is_same_text
+returns-else-is_same_text c = λ σ τ m.
+    var_differ σ τ _ _ _ _ _ _ c.in-Var.ensures.tree c.in-Var-node.ensures.tree (λ e. true≢false (sym (c.is_same_text.ensures.1 e) ∙ c.if-is_same_text.false)) m
+
+pub returns-in-App-node : goal.returns-in-App-node
+returns-in-App-node c =
+    app_split _ _ _ _ _ _ _ c.in-App.ensures.tree c.in-App-node.ensures.tree c.in-App.ensures.parts (omega (arith, c.in-App-node.ensures.parts.0, c.requires.term)) (omega (arith, c.in-App-node.ensures.parts.1, c.requires.term))
+
+pub returns-in-Arr-node : goal.returns-in-Arr-node
+returns-in-Arr-node c =
+    arr_split _ _ _ _ _ _ _ c.in-Arr.ensures.tree c.in-Arr-node.ensures.tree c.in-Arr.ensures.parts (omega (arith, c.in-Arr-node.ensures.parts.0, c.requires.term)) (omega (arith, c.in-Arr-node.ensures.parts.1, c.requires.term))
+
+pub returns-then-par-i : goal.returns-then-par-i
+returns-then-par-i c =
+    let ts = c.args.table.now.trees in
+    qar_split c.in-Qar.par ts c.args.pattern c.args.term c.in-Qar.ty c.in-Qar.to c.in-Qar-node.a c.in-Qar-node.b c.in-Qar.ensures.tree (ap (λ k. Qar k (tree_at ts c.in-Qar-node.a) (tree_at ts c.in-Qar-node.b)) c.if-par-i.true ∙ c.in-Qar-node.ensures.tree) c.in-Qar.ensures.parts (omega (arith, c.in-Qar-node.ensures.parts.0, c.requires.term)) (omega (arith, c.in-Qar-node.ensures.parts.1, c.requires.term))

@@ -1,6 +1,7 @@
 use Rattle.std.proofs.Common.{refl}
 use Rattle.eo_term.specs.Tree.{App, Arr, Qar}
-use Rattle.eo_pattern.proofs.Making.{inside_first, inside_second, two_put, var_put, made_low, tall_exit}
+use Rattle.eo_term.proofs.Growing.{grows_refl}
+use Rattle.eo_pattern.proofs.Making.{inside_first, inside_second, two_put, var_put, made_low, leaf_made, tall_exit}
 use Rattle.eo_pattern.proofs.substitution.put_node.Goals as goal
 
 pub known_two-requires-clause-first : goal.known_two-requires-clause-first
@@ -53,3 +54,42 @@ returns-in_ok-made-in-Ok-known_two-2-clause-step c = made_low _ _ _ _ _ _ (two_p
 
 pub returns-in-Err-known_two-2-clause-step : goal.returns-in-Err-known_two-2-clause-step
 returns-in-Err-known_two-2-clause-step c = c.in-Err-known_two-2.ensures
+
+pub returns-in_default-clause-grows : goal.returns-in_default-clause-grows
+returns-in_default-clause-grows c = grows_refl c.args.table.now
+
+pub returns-in-Err-clause-grows : goal.returns-in-Err-clause-grows
+returns-in-Err-clause-grows c = grows_refl c.args.table.now
+
+pub returns-in-Err-known_two-clause-grows : goal.returns-in-Err-known_two-clause-grows
+returns-in-Err-known_two-clause-grows c = grows_refl c.args.table.now
+
+pub returns-in-Err-known_two-2-clause-grows : goal.returns-in-Err-known_two-2-clause-grows
+returns-in-Err-known_two-2-clause-grows c = grows_refl c.args.table.now
+
+pub returns-in-Par-clause-grows : goal.returns-in-Par-clause-grows
+returns-in-Par-clause-grows c = grows_refl c.args.table.now
+
+pub returns-in-Con-clause-grows : goal.returns-in-Con-clause-grows
+returns-in-Con-clause-grows c = grows_refl c.args.table.now
+
+pub returns-in-Num-clause-grows : goal.returns-in-Num-clause-grows
+returns-in-Num-clause-grows c = grows_refl c.args.table.now
+
+pub returns-in-Bits-clause-grows : goal.returns-in-Bits-clause-grows
+returns-in-Bits-clause-grows c = grows_refl c.args.table.now
+
+pub returns-in-Str-clause-grows : goal.returns-in-Str-clause-grows
+returns-in-Str-clause-grows c = grows_refl c.args.table.now
+
+pub returns-in-Con-clause-step : goal.returns-in-Con-clause-step
+returns-in-Con-clause-step c = leaf_made _ _ _ _ c.in-Con.ensures.tree refl c.requires.live (c.laws.ensures.low c.args.id c.requires.live)
+
+pub returns-in-Num-clause-step : goal.returns-in-Num-clause-step
+returns-in-Num-clause-step c = leaf_made _ _ _ _ c.in-Num.ensures.tree refl c.requires.live (c.laws.ensures.low c.args.id c.requires.live)
+
+pub returns-in-Bits-clause-step : goal.returns-in-Bits-clause-step
+returns-in-Bits-clause-step c = leaf_made _ _ _ _ c.in-Bits.ensures.tree refl c.requires.live (c.laws.ensures.low c.args.id c.requires.live)
+
+pub returns-in-Str-clause-step : goal.returns-in-Str-clause-step
+returns-in-Str-clause-step c = leaf_made _ _ _ _ c.in-Str.ensures.tree refl c.requires.live (c.laws.ensures.low c.args.id c.requires.live)

@@ -1,12 +1,13 @@
-use Rattle.std.proofs.Common.{rules, ◌≡◌, ◌<◌, length, take, sym, ap, ◌∙◌, subst, arith}
+use Rattle.std.proofs.Common.{rules, ◌≡◌, ◌<◌, length, length-set, take, sym, ap, ◌∙◌, subst, arith}
 use Rattle.std.proofs.lemmas.List.{length-take-le, get_or-take, get_or_default}
 use Rattle.std.proofs.lemmas.Result.{err_from_is_err_and}
 use Rattle.eo_term.specs.Tree.{Trees, Op, is_tall}
 use Rattle.eo_term.specs.Terms.{tree_at, trees_at}
-use Rattle.eo_term.specs.Arguments.{arguments_of, count_of}
+use Rattle.eo_term.specs.Arguments.{arguments_of, argument_at, count_of}
 use Rattle.eo_pattern.specs.Matching.{Assignment, put, put_all}
 use Rattle.eo_pattern.specs.Slots.{held}
-use Rattle.eo_pattern.proofs.Steps.{args_put, count_put, argument_put}
+use Rattle.eo_term.proofs.Growing.{grows_refl}
+use Rattle.eo_pattern.proofs.Steps.{args_put, count_put, argument_put, set_below}
 use Rattle.eo_pattern.proofs.substitution.put_op.Goals as goal
 use Rattle.std.proofs.lemmas.Bool.{false_from_ne_true}
 
@@ -52,3 +53,15 @@ returns-clause-step c =
       tree = c.in_ok-made.ensures.interned.tree ∙ whole;
       low = ap is_tall (sym whole) ∙ false_from_ne_true _ c.in_ok-made.ensures.tall.1;
     }
+
+pub loop-i-preserved : goal.loop-i-preserved
+loop-i-preserved c =
+    let us = c.args.table.now.trees in
+    let σ : Assignment = held us c.args.subst.now in
+    let ts : Trees = arguments_of (tree_at us c.args.id) in
+    let i = c.loop-i.invariant in
+    let done = set_below (λ k v. (v < length us) × (tree_at us v ≡ put σ (argument_at ts k))) c.loop-i.args c.loop-i.i c.in-Some.put (omega (arith, i.long, c.requires.operator.small)) i.done (c.in-Some.ensures.live, c.in-Some.ensures.tree ∙ ap (put σ) c.arg-arg.ensures.tree) in
+    record { long = length-set c.loop-i.args c.loop-i.i c.in-Some.put ∙ i.long; done = done }
+
+pub returns-in_default-clause-grows : goal.returns-in_default-clause-grows
+returns-in_default-clause-grows c = grows_refl c.args.table.now
