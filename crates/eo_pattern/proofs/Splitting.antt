@@ -1,5 +1,5 @@
 -- What is left to match of two terms with the same root.
-use Rattle.std.specs.Prelude.{◌≡◌, ℕ, ◌<◌, ◌||◌, true, false, List, [], ◌∷◌, length, is_some, refl}
+use Rattle.std.specs.Prelude.{◌≡◌, ℕ, ◌<◌, ◌||◌, false, List, [], ◌∷◌, length, is_some, refl}
 use Rattle.std.proofs.Common.{sym, ap, ap₂, ◌∙◌, subst}
 use Rattle.std.proofs.Math.Bool.{or_assoc}
 use Rattle.eo_base.proofs.Tests.{or_first, or_second}
@@ -7,7 +7,7 @@ use Rattle.eo_term.specs.Terms.{tree_at}
 use Rattle.eo_term.specs.Tree.{Tree, Var, App, Arr, Qar, occurs}
 use Rattle.eo_pattern.specs.Matching.{Assignment, put, Matches}
 use Rattle.eo_pattern.specs.Slots.{Leads}
-use Rattle.eo_pattern.specs.Split.{IsPartOf, IsOne, IsTwo}
+use Rattle.eo_pattern.specs.Split.{IsOne, IsTwo}
 
 -- variables of one name
 var_leads : (σ : Assignment) (s : List ℕ) (a b : Tree) → Leads σ (Var s a ∷ []) (Var s b ∷ []) σ (a ∷ []) (b ∷ [])

@@ -10,3 +10,4 @@ pub mod Fitting
 pub mod Greatest
 pub mod Keeping
 mod TypingSteps
+mod LiteralSteps
