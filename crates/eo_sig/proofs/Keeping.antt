@@ -1,6 +1,6 @@
 -- A signature stays one as it keeps one more.
 use Rattle.std.proofs.Common.{◌≡◌, ℕ, Bool, List, [], ◌∷◌, ◌++◌, length, map, position, Option, Some, None, is_some, refl, sym, ap, ◌∙◌, subst}
-use Rattle.std.specs.Prelude.{option_map, bytes_eq}
+use Rattle.std.specs.Prelude.{Result, Ok, IfOk, OnOk, option_map, bytes_eq}
 use Rattle.std.specs.Map.{lookup, keys_of}
 use Rattle.std.proofs.lemmas.List.{map-append}
 use Rattle.std.proofs.lemmas.Option.{none-some}
@@ -24,6 +24,14 @@ use Rattle.eo_sig.proofs.Readings.{constant_found, program_found, rule_found, ma
 none_of_map : {X Y : Type 0} (f : X → Y) (o : Option X) → option_map f o ≡ None → o ≡ None
 none_of_map f None e = refl
 none_of_map f (Some x) e = absurd (none-some (f x) (sym e))
+
+-- what holds of the value of a call
+pub at_ok : {A E : Type 0} (P : A → Type 0) (r : Result A E) (x : A) → r ≡ Ok x → IfOk r P → P x
+at_ok P r x e h = subst (λ s. IfOk s P) e h
+
+-- what holds where a call was not refused
+pub done : {A E : Type 0} (P : Type 0) (r : Result A E) (x : A) → r ≡ Ok x → OnOk r P → P
+done P r x e h = subst (λ s. OnOk s P) e h
 
 -- a key at no place is not looked up
 pub no_key : {X : Type 0} (test : List ℕ → Bool) (es : List (List ℕ × X)) → position test (keys_of es) ≡ None → lookup test es ≡ None

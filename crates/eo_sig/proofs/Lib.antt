@@ -10,3 +10,4 @@ pub mod Solving
 pub mod Usable
 pub mod Growing
 pub mod Views
+pub mod Telling

@@ -185,6 +185,9 @@ none_second : {X : Type 0} (o p : Option X) → is_none (option_or o p) ≡ true
 none_second None p e = e
 none_second (Some x) p e = absurd (true≢false (sym e))
 
+pub free_constant : (k : Kept) (w : List ℕ) → IsFree k w → sig.constant_named (signature [] k) w ≡ None
+free_constant k w h = none_of_map sig.NamesConstant (sig.constant_named (signature [] k) w) (none_first _ _ (and_parts _ _ h).1)
+
 pub free_macro : (k : Kept) (w : List ℕ) → IsFree k w → sig.macro_named (macros [] k) w ≡ None
 free_macro k w h =
     none_of_map sig.NamesMacro (sig.macro_named (macros [] k) w) (none_first _ _ (none_second (option_map sig.NamesConstant (sig.constant_named (signature [] k) w)) _ (and_parts _ _ h).1))

@@ -10,7 +10,7 @@ ghost use Rattle.eo_sig.specs.Reading.{with_entry, with_macro, IsFree, IsFreeRul
 ghost use Rattle.eo_sig.specs.Refused.{Tells};
 ghost use Rattle.eo_sig.specs.Usable.{AreOrdered, StaysUsable};
 
-use super::Signature;
+use super::{Signature, both};
 use crate::patterns::{cases_are_bound, cases_may_hold, rule_is_bound, rule_is_plain};
 use crate::types::{ends_at_right, implicit_occur, may_type};
 use crate::{ConstDecl, LiteralClass, MacroDecl, PremiseShape, ProgramDecl, RuleDecl, SigRefused};
@@ -34,12 +34,7 @@ impl Signature {
         ensures below { OnOk result ((m : ℕ) → IsBelow m self.old → ConstBelow m d → IsBelow m self.new) }
         ensures err { OnErr result (self.new ≡ self.old) }
     {
-        if !d.may_hold(table) {
-            return Err(SigRefused::BadPattern);
-        }
-        if !implicit_occur(table, d.ty, d.params.as_slice()) {
-            return Err(SigRefused::UnboundParam);
-        }
+        let ((), d) = both(check_constant(table, &d), d)?;
         match self.keep_constant(d) {
             Ok(n) => Ok(n),
             Err(e) => Err(SigRefused::Memory(e)),
@@ -79,12 +74,7 @@ impl Signature {
         ensures below { OnOk result ((m : ℕ) → IsBelow m self.old → ProgramBelow m d → IsBelow m self.new) }
         ensures err { OnErr result (self.new ≡ self.old) }
     {
-        if !cases_may_hold(table, d.cases.as_slice()) {
-            return Err(SigRefused::BadPattern);
-        }
-        if !cases_are_bound(table, d.cases.as_slice()) {
-            return Err(SigRefused::UnboundParam);
-        }
+        let ((), d) = both(check_program(table, &d), d)?;
         match self.keep_program(d) {
             Ok(n) => Ok(n),
             Err(e) => Err(SigRefused::Memory(e)),
@@ -110,15 +100,7 @@ impl Signature {
         ensures below { OnOk result ((m : ℕ) → IsBelow m self.old → RuleBelow m d → IsBelow m self.new) }
         ensures err { OnErr result (self.new ≡ self.old) }
     {
-        let holds = rule_is_plain(table, &d)
-            && may_type(table, d.params.as_slice())
-            && self.can_join(&d.premises);
-        if !holds {
-            return Err(SigRefused::BadPattern);
-        }
-        if !rule_is_bound(table, &d) {
-            return Err(SigRefused::UnboundParam);
-        }
+        let ((), d) = both(self.check_rule(table, &d), d)?;
         match self.keep_rule(d) {
             Ok(n) => Ok(n),
             Err(e) => Err(SigRefused::Memory(e)),
@@ -157,6 +139,23 @@ impl Signature {
         }
     }
 
+    // Refuses a rule that may not be added, whatever its name.
+    fn check_rule(&self, table: &Table, d: &RuleDecl) -> Result<(), SigRefused>
+        requires { RuleBelow (length table.now.trees) d.now }
+        ensures { Tells result (sig.rule_fault (signature table.now.trees self.now) (read_rule table.now.trees d.now)) }
+    {
+        let holds = rule_is_plain(table, d)
+            && may_type(table, d.params.as_slice())
+            && self.can_join(&d.premises);
+        if !holds {
+            return Err(SigRefused::BadPattern);
+        }
+        if !rule_is_bound(table, d) {
+            return Err(SigRefused::UnboundParam);
+        }
+        Ok(())
+    }
+
     // Whether premises may be matched so: what joins them is a constant with a terminator at the
     // right.
     fn can_join(&self, premises: &PremiseShape) -> bool
@@ -174,4 +173,32 @@ impl Signature {
     {
         n < self.constants.len() && ends_at_right(&self.constant(n).attribute)
     }
+}
+
+// Refuses a constant that may not be declared, whatever its name.
+fn check_constant(table: &Table, d: &ConstDecl) -> Result<(), SigRefused>
+    requires { ConstBelow (length table.now.trees) d.now }
+    ensures { Tells result (sig.constant_fault (read_constant table.now.trees d.now)) }
+{
+    if !d.may_hold(table) {
+        return Err(SigRefused::BadPattern);
+    }
+    if !implicit_occur(table, d.ty, d.params.as_slice()) {
+        return Err(SigRefused::UnboundParam);
+    }
+    Ok(())
+}
+
+// Refuses a program that may not be added, whatever its name.
+fn check_program(table: &Table, d: &ProgramDecl) -> Result<(), SigRefused>
+    requires { ProgramBelow (length table.now.trees) d.now }
+    ensures { Tells result (sig.program_fault (read_program table.now.trees d.now)) }
+{
+    if !cases_may_hold(table, d.cases.as_slice()) {
+        return Err(SigRefused::BadPattern);
+    }
+    if !cases_are_bound(table, d.cases.as_slice()) {
+        return Err(SigRefused::UnboundParam);
+    }
+    Ok(())
 }

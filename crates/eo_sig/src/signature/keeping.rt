@@ -1,10 +1,11 @@
 //! One more entry in the list, and beside it in the table of its kind.
-ghost use Rattle.std.specs.Prelude.{◌≡◌, [], length, None, IfOk, OnOk, OnErr};
+ghost use Rattle.std.specs.Prelude.{◌≡◌, [], ◌∷◌, ◌++◌, length, None, IfOk, OnOk, OnErr, bytes_eq};
+ghost use Rattle.indexmap.specs.IndexMap.{insert_entry};
 ghost use Rattle.eo_sig.specs.Signature as sig;
 ghost use Rattle.eo_sig.specs.declared.records.Declared.TheVariants as declared;
 ghost use Rattle.eo_sig.specs.Reading.{signature, macros, constants_of, programs_of, rules_of, with_entry, with_macro};
 
-use super::Signature;
+use super::{Named, Signature, both};
 use crate::{ConstDecl, Declared, LiteralClass, MacroDecl, ProgramDecl, RuleDecl};
 use eo_base::Name;
 use eo_term::Id;
@@ -19,11 +20,13 @@ impl Signature {
         ensures err { OnErr result (self.new ≡ self.old) }
     {
         let number = self.constants.len();
-        let place = self.entries.len();
-        let key = Name::new(self.alloc, d.name.as_bytes())?;
-        self.constants.reserve(1)?;
-        self.entries.push(Declared::Const(d))?;
-        self.constants.insert(key, place).unwrap();
+        let (key, d) = both(Name::new(self.alloc, d.name.as_bytes()), d)?;
+        append(
+            &mut self.entries,
+            &mut self.constants,
+            key,
+            Declared::Const(d),
+        )?;
         Ok(number)
     }
 
@@ -35,11 +38,13 @@ impl Signature {
         ensures err { OnErr result (self.new ≡ self.old) }
     {
         let number = self.programs.len();
-        let place = self.entries.len();
-        let key = Name::new(self.alloc, d.name.as_bytes())?;
-        self.programs.reserve(1)?;
-        self.entries.push(Declared::Program(d))?;
-        self.programs.insert(key, place).unwrap();
+        let (key, d) = both(Name::new(self.alloc, d.name.as_bytes()), d)?;
+        append(
+            &mut self.entries,
+            &mut self.programs,
+            key,
+            Declared::Program(d),
+        )?;
         Ok(number)
     }
 
@@ -51,11 +56,8 @@ impl Signature {
         ensures err { OnErr result (self.new ≡ self.old) }
     {
         let number = self.rules.len();
-        let place = self.entries.len();
-        let key = Name::new(self.alloc, d.name.as_bytes())?;
-        self.rules.reserve(1)?;
-        self.entries.push(Declared::Rule(d))?;
-        self.rules.insert(key, place).unwrap();
+        let (key, d) = both(Name::new(self.alloc, d.name.as_bytes()), d)?;
+        append(&mut self.entries, &mut self.rules, key, Declared::Rule(d))?;
         Ok(number)
     }
 
@@ -67,7 +69,7 @@ impl Signature {
         ensures err { OnErr result (self.new ≡ self.old) }
     {
         let number = self.macros.len();
-        let key = Name::new(self.alloc, d.name.as_bytes())?;
+        let (key, d) = both(Name::new(self.alloc, d.name.as_bytes()), d)?;
         self.macros.insert(key, d)?;
         Ok(number)
     }
@@ -86,4 +88,24 @@ impl Signature {
         }
         Ok(())
     }
+}
+
+// Appends an entry, and to the names of its kind this one, with the place of the entry. A refusal
+// leaves both as they were.
+fn append(
+    entries: &mut Vec<Declared>,
+    names: &mut Named<usize>,
+    name: Name,
+    entry: Declared,
+) -> Result<(), AllocError>
+    ensures entries { OnOk result (entries.new.items ≡ entries.old.items ++ entry ∷ []) }
+    ensures names { OnOk result (names.new.entries ≡ insert_entry (λ u v. bytes_eq u v) names.old.entries name (length entries.old.items)) }
+    ensures no_entry { OnErr result (entries.new.items ≡ entries.old.items) }
+    ensures no_name { OnErr result (names.new.entries ≡ names.old.entries) }
+{
+    let place = entries.len();
+    let ((), (name, entry)) = both(names.reserve(1), (name, entry))?;
+    let ((), name) = both(entries.push(entry), name)?;
+    names.insert(name, place).unwrap();
+    Ok(())
 }
