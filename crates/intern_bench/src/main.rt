@@ -134,14 +134,23 @@ fn time_all(rt: &HostRuntime, table: &mut Table, asked: Option<usize>) -> io::Re
     Ok(())
 }
 
-fn main(rt: HostRuntime) -> io::Result<()> {
-    let mut words = env::args(&rt)?;
-    let _program = words.next();
-    let asked = words
+/// How many terms the command line asks for.
+fn asked(rt: &HostRuntime) -> io::Result<Option<usize>> {
+    let mut words = env::args(rt)?;
+    drop(words.next());
+    let count = words
         .next()
         .and_then(|word| word.as_str().parse::<usize>().ok());
+    drop(words);
+    Ok(count)
+}
+
+fn main(rt: HostRuntime) -> io::Result<()> {
+    let asked = asked(&rt)?;
     let Ok(mut table) = Table::new(rt.alloc()) else {
         return Ok(());
     };
-    time_all(&rt, &mut table, asked)
+    let timed = time_all(&rt, &mut table, asked);
+    drop(table);
+    timed
 }
