@@ -1,5 +1,6 @@
-use Rattle.std.proofs.Common.{◌<◌, ◌-◌, length, refl, sym, ◌∙◌, arith, rules}
+use Rattle.std.proofs.Common.{◌<◌, ◌-◌, length, refl, sym, ◌∙◌, arith}
 use Rattle.eo_base.proofs.Elements.{all_at}
+use Rattle.eo_term.proofs.Growing.{grows_on}
 use Rattle.eo_term.specs.Tree.{Tree, Arr, is_tall}
 use Rattle.eo_term.specs.Terms.{tree_at}
 use Rattle.eo_names.specs.Folding.{arrow}
@@ -29,7 +30,10 @@ loop-left-preserved c =
     record {
       within = omega (arith, v.within);
       live = c.in_ok-made.ensures.interned.live;
-      grows = search rules;
+      grows = grows_on _ _ _ v.grows c.intern.ensures.grows;
       tree = c.in_ok-made.ensures.interned.tree ∙ (λ k. Arr (v.grows.now.tree a live k) now)
           ∙ right_step arrow Arr (λ x y us. refl) tall_values ts c.args.types.now i c.loop-left.left a now (omega (arith, c.loop-left-test.true)) v.within c.index-types-left-in-loop-left.is v.tree;
     }
+
+pub returns-in_err-made-clause-grows : goal.returns-in_err-made-clause-grows
+returns-in_err-made-clause-grows c = grows_on _ _ _ c.loop-left.invariant.grows c.intern.ensures.grows

@@ -1,6 +1,7 @@
-use Rattle.std.proofs.Common.{◌≡◌, ◌+◌, ◌<◌, List, [], ◌∷◌, ◌++◌, length, map, All, drop, sym, subst, ◌∙◌, arith, rules}
+use Rattle.std.proofs.Common.{◌≡◌, ◌+◌, ◌<◌, List, [], ◌∷◌, ◌++◌, length, map, All, drop, sym, subst, ◌∙◌, arith}
 use Rattle.std.proofs.lemmas.Result.{err_from_is_err_and}
 use Rattle.eo_base.proofs.Elements.{push_below}
+use Rattle.eo_term.proofs.Growing.{grows_on}
 use Rattle.eo_term.specs.Tree.{Tree, Var, is_tall}
 use Rattle.eo_term.specs.Terms.{tree_at}
 use Rattle.eo_names.specs.Binders.{variables_of}
@@ -45,7 +46,7 @@ loop-i-preserved c =
     let pushed : c.push.new.self ≡ c.loop-i.variables ++ id ∷ [] = c.in_ok-push.ensures.pushed in
     record {
       live = subst (All (λ j. j < length next)) (sym pushed) (push_below (length now) (length next) id c.loop-i.variables g.more_trees c.in_ok-id.ensures.gives.live v.live);
-      grows = search rules;
+      grows = grows_on _ _ _ v.grows c.variable.ensures.grows;
       trees = (λ k. map (tree_at next) (pushed k) ++ rest)
           ∙ (λ k. push_grown (length now) now next g.tree c.loop-i.variables id t v.live own k ++ rest)
           ∙ one_more (map (tree_at now) c.loop-i.variables) t rest (variables_of (read_pairs ts bs))
@@ -60,3 +61,6 @@ returns-clause-makes c =
       live = c.loop-i.invariant.live;
       trees = all_made (map (tree_at c.loop-i.table.trees) c.loop-i.variables) (variables_of (read_pairs ts (drop c.loop-i.i bs))) (variables_of (read_pairs ts bs)) (no_variable ts bs c.loop-i.i (omega (arith, c.len-i-end.ensures))) c.loop-i.invariant.trees;
     }
+
+pub returns-in_err-id-clause-grows : goal.returns-in_err-id-clause-grows
+returns-in_err-id-clause-grows c = grows_on _ _ _ c.loop-i.invariant.grows c.variable.ensures.grows

@@ -1,5 +1,6 @@
-use Rattle.std.proofs.Common.{◌<◌, length, map, ap, sym, ◌∙◌, arith, rules}
+use Rattle.std.proofs.Common.{◌<◌, length, map, ap, sym, ◌∙◌, arith}
 use Rattle.eo_base.proofs.Elements.{all_at}
+use Rattle.eo_term.proofs.Growing.{grows_on}
 use Rattle.eo_term.specs.Tree.{Tree, App, is_tall}
 use Rattle.eo_term.specs.Terms.{tree_at}
 use Rattle.eo_names.specs.Folding.{applied}
@@ -29,7 +30,10 @@ loop-a-preserved c =
     let now : Tree = tree_at c.loop-a.table.trees c.loop-a.made in
     record {
       live = c.in_ok-made.ensures.gives.live;
-      grows = search rules;
+      grows = grows_on _ _ _ v.grows c.apply.ensures.grows;
       tree = left_turn App ts c.args.args.now c.loop-a.a-index c.a-item.result now _ (applied (tree_at ts c.args.f) (map (tree_at ts) c.args.args.now)) (omega arith) c.a-item.is v.tree
           (c.in_ok-made.ensures.gives.tree ∙ ap (App now) (v.grows.now.tree c.a-item.result live));
     }
+
+pub returns-in_err-made-clause-grows : goal.returns-in_err-made-clause-grows
+returns-in_err-made-clause-grows c = grows_on _ _ _ c.loop-a.invariant.grows c.apply.ensures.grows

@@ -1,5 +1,6 @@
-use Rattle.std.proofs.Common.{◌<◌, length, map, fold, sym, ◌∙◌, arith, rules}
+use Rattle.std.proofs.Common.{◌<◌, length, map, fold, sym, ◌∙◌, arith}
 use Rattle.eo_base.proofs.Elements.{all_at}
+use Rattle.eo_term.proofs.Growing.{grows_on}
 use Rattle.eo_term.specs.Tree.{Tree, is_tall}
 use Rattle.eo_term.specs.Terms.{tree_at}
 use Rattle.eo_names.specs.Folding.{applied_to_two}
@@ -31,7 +32,10 @@ loop-a-preserved c =
     let now : Tree = tree_at c.loop-a.table.trees c.loop-a.made in
     record {
       live = c.in_ok-made.ensures.gives.live;
-      grows = search rules;
+      grows = grows_on _ _ _ v.grows c.apply_to_two.ensures.grows;
       tree = left_turn (applied_to_two f) ts c.args.args.now c.loop-a.a-index c.a-item.result now _ (fold (applied_to_two f) (tree_at ts c.args.first) (map (tree_at ts) c.args.args.now)) (omega arith) c.a-item.is v.tree
           (c.in_ok-made.ensures.gives.tree ∙ (λ k. applied_to_two (v.grows.now.tree c.args.f c.requires.f k) now (v.grows.now.tree c.a-item.result live k)));
     }
+
+pub returns-in_err-made-clause-grows : goal.returns-in_err-made-clause-grows
+returns-in_err-made-clause-grows c = grows_on _ _ _ c.loop-a.invariant.grows c.apply_to_two.ensures.grows

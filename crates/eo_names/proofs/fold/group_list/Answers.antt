@@ -1,5 +1,6 @@
-use Rattle.std.proofs.Common.{◌<◌, ◌-◌, Bool, length, refl, sym, ◌∙◌, arith, rules}
+use Rattle.std.proofs.Common.{◌<◌, ◌-◌, Bool, length, refl, sym, ◌∙◌, arith}
 use Rattle.eo_base.proofs.Elements.{all_at}
+use Rattle.eo_term.proofs.Growing.{grows_on}
 use Rattle.eo_term.specs.Tree.{Tree, is_tall}
 use Rattle.eo_term.specs.Terms.{tree_at}
 use Rattle.eo_names.specs.Folding.{list_onto, right_nil}
@@ -52,7 +53,10 @@ loop-left-preserved c =
     record {
       within = omega (arith, v.within);
       live = c.in_ok-made-2.ensures.gives.live;
-      grows = search rules;
+      grows = grows_on _ _ _ v.grows c.onto_list.ensures.grows;
       tree = c.in_ok-made-2.ensures.gives.tree ∙ (λ k. list_onto (is_list (names k) (same a live k)) (same c.args.f c.requires.f k) (same a live k) now)
           ∙ right_step (right_nil il f (tree_at ts c.args.nil)) (λ x r. list_onto (il x) f x r) (λ x y us. refl) (λ x r. tall_onto (il x) f x r) ts c.args.args.now i c.loop-left.left a now (omega (arith, c.loop-left-test.true)) v.within c.index-args-left-in-loop-left.is v.tree;
     }
+
+pub returns-in_err-made-2-clause-grows : goal.returns-in_err-made-2-clause-grows
+returns-in_err-made-2-clause-grows c = grows_on _ _ _ c.loop-left.invariant.grows c.onto_list.ensures.grows

@@ -1,5 +1,6 @@
-use Rattle.std.proofs.Common.{◌<◌, ◌-◌, length, refl, sym, ◌∙◌, arith, rules}
+use Rattle.std.proofs.Common.{◌<◌, ◌-◌, length, refl, sym, ◌∙◌, arith}
 use Rattle.eo_base.proofs.Elements.{all_at}
+use Rattle.eo_term.proofs.Growing.{grows_on}
 use Rattle.eo_term.specs.Tree.{Tree, is_tall}
 use Rattle.eo_term.specs.Terms.{tree_at}
 use Rattle.eo_names.specs.Folding.{applied_to_two, right}
@@ -31,7 +32,10 @@ loop-left-preserved c =
     record {
       within = omega (arith, v.within);
       live = c.in_ok-made.ensures.gives.live;
-      grows = search rules;
+      grows = grows_on _ _ _ v.grows c.apply_to_two.ensures.grows;
       tree = c.in_ok-made.ensures.gives.tree ∙ (λ k. applied_to_two (same c.args.f c.requires.f k) (same a live k) (tree_at c.loop-left.table.trees c.loop-left.made))
           ∙ right_step (right f) (applied_to_two f) (λ x y us. refl) (tall_right f) ts c.args.args.now i c.loop-left.left a (tree_at c.loop-left.table.trees c.loop-left.made) (omega (arith, c.loop-left-test.true)) v.within c.index-args-left-in-loop-left.is v.tree;
     }
+
+pub returns-in_err-made-clause-grows : goal.returns-in_err-made-clause-grows
+returns-in_err-made-clause-grows c = grows_on _ _ _ c.loop-left.invariant.grows c.apply_to_two.ensures.grows

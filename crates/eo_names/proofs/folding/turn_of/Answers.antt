@@ -1,5 +1,7 @@
 use Rattle.std.proofs.Common.{◌≡◌, length, ap, sym, ◌∙◌, arith}
 use Rattle.std.proofs.lemmas.List.{length-map}
+use Rattle.eo_base.proofs.Elements.{ids_more}
+use Rattle.eo_term.proofs.Growing.{grows_on}
 use Rattle.eo_term.specs.Growth.{trees_in}
 use Rattle.eo_term.specs.Terms.{tree_at}
 use Rattle.eo_sig.specs.Reading.{read_attribute}
@@ -61,3 +63,15 @@ returns-clause-gives c =
           not_too_few w.names.signature (is_list w.locals) k us turns (omega (arith, length-map c.args.args.now (tree_at old.trees), asked, c.if-args-least_count.false))
           ∙ (λ i. by_attribute (turns_in w turns) (is_list (same i).locals) (own i) (attribute i) (args i)) ∙ c.in_ok-turn_by.ensures.gives.is (turns_in w turns);
     }
+
+pub turn_by-requires-clause-names : goal.turn_by-requires-clause-names
+turn_by-requires-clause-names c = (c.names_law.ensures.stays c.args.sig.now (bound_in c.args.scope.now) c.args.table.now c.constant.new.self c.requires.ready c.constant.ensures.grows).ready.names
+
+pub turn_by-requires-clause-args : goal.turn_by-requires-clause-args
+turn_by-requires-clause-args c = ids_more (length c.args.table.now.trees) (length c.constant.new.self.trees) c.constant.ensures.grows.now.more_trees c.args.args.now c.requires.args
+
+pub returns-in_err-turn_by-clause-grows : goal.returns-in_err-turn_by-clause-grows
+returns-in_err-turn_by-clause-grows c = grows_on _ _ _ c.constant.ensures.grows c.turn_by.ensures.grows
+
+pub returns-clause-grows : goal.returns-clause-grows
+returns-clause-grows c = grows_on _ _ _ c.constant.ensures.grows c.turn_by.ensures.grows

@@ -1,5 +1,6 @@
-use Rattle.std.proofs.Common.{◌≡◌, ◌+◌, ◌<◌, List, [], ◌∷◌, ◌++◌, length, map, All, drop, sym, subst, ◌∙◌, arith, rules}
+use Rattle.std.proofs.Common.{◌≡◌, ◌+◌, ◌<◌, List, [], ◌∷◌, ◌++◌, length, map, All, drop, sym, subst, ◌∙◌, arith}
 use Rattle.std.proofs.lemmas.Result.{err_from_is_err_and}
+use Rattle.eo_term.proofs.Growing.{grows_on}
 use Rattle.eo_term.specs.Tree.{Tree, is_tall}
 use Rattle.eo_term.specs.Terms.{tree_at}
 use Rattle.eo_names.specs.Folding.{applied_to_two}
@@ -35,9 +36,27 @@ loop-b-preserved c =
     let pushed : c.push.new.self ≡ c.loop-b.made ++ c.in_ok-pair.pair ∷ [] = c.in_ok-push.ensures.pushed in
     record {
       live = subst (All (λ i. i < length next)) (sym pushed) (push_below (length now) (length next) c.in_ok-pair.pair c.loop-b.made g.more_trees c.in_ok-pair.ensures.gives.live v.live);
-      grows = search rules;
+      grows = grows_on _ _ _ v.grows c.apply_to_two.ensures.grows;
       trees = (λ k. map (tree_at next) (pushed k) ++ rest)
           ∙ (λ k. push_grown (length now) now next g.tree c.loop-b.made c.in_ok-pair.pair t v.live own k ++ rest)
           ∙ one_more (map (tree_at now) c.loop-b.made) t rest _
           ((λ k. map (tree_at now) c.loop-b.made ++ sym (map_turn (applied_to_two f a) ts c.args.others.now c.loop-b.b-index b (omega arith) c.b-item.is) k) ∙ v.trees);
     }
+
+pub returns-in_err-pair-clause-grows : goal.returns-in_err-pair-clause-grows
+returns-in_err-pair-clause-grows c = grows_on _ _ _ c.loop-b.invariant.grows c.apply_to_two.ensures.grows
+
+pub returns-in_err-push-clause-grows : goal.returns-in_err-push-clause-grows
+returns-in_err-push-clause-grows c = grows_on _ _ _ c.loop-b.invariant.grows c.apply_to_two.ensures.grows
+
+pub apply_to_two-requires-clause-f : goal.apply_to_two-requires-clause-f
+apply_to_two-requires-clause-f c = omega (arith, c.requires.f, c.loop-b.invariant.grows.now.more_trees)
+
+pub apply_to_two-requires-clause-a : goal.apply_to_two-requires-clause-a
+apply_to_two-requires-clause-a c = omega (arith, c.requires.a, c.loop-b.invariant.grows.now.more_trees)
+
+pub apply_to_two-requires-clause-b : goal.apply_to_two-requires-clause-b
+apply_to_two-requires-clause-b c =
+    let n = length c.args.table.now.trees in
+    let live : c.b-item.result < n = all_at (λ j. j < n) c.args.others.now c.loop-b.b-index c.b-item.result c.requires.others (omega arith) c.b-item.is in
+    omega (arith, live, c.loop-b.invariant.grows.now.more_trees)

@@ -1,4 +1,5 @@
-use Rattle.std.proofs.Common.{◌≡◌, ◌+◌, ◌-◌, ◌<◌, List, [], ◌∷◌, ◌++◌, length, map, All, drop, sym, subst, ◌∙◌, arith, rules}
+use Rattle.std.proofs.Common.{◌≡◌, ◌+◌, ◌-◌, ◌<◌, List, [], ◌∷◌, ◌++◌, length, map, All, drop, sym, subst, ◌∙◌, arith}
+use Rattle.eo_term.proofs.Growing.{grows_on}
 use Rattle.eo_term.specs.Tree.{Tree, is_tall}
 use Rattle.eo_term.specs.Terms.{tree_at}
 use Rattle.eo_names.specs.Folding.{applied_to_two, links}
@@ -45,7 +46,7 @@ loop-i-preserved c =
     let back : i + 1 - 1 ≡ i = omega arith in
     record {
       live = subst (All (λ j. j < length next)) (sym pushed) (push_below (length now) (length next) c.in_ok-link.link c.loop-i.made g.more_trees c.in_ok-link.ensures.gives.live v.live);
-      grows = search rules;
+      grows = grows_on _ _ _ v.grows c.apply_to_two.ensures.grows;
       trees = (λ k. map (tree_at next) (pushed k) ++ links f (drop (back k) (map (tree_at ts) args)))
           ∙ (λ k. push_grown (length now) now next g.tree c.loop-i.made c.in_ok-link.link t v.live own k ++ rest)
           ∙ one_more (map (tree_at now) c.loop-i.made) t rest (links f (map (tree_at ts) args))
@@ -61,3 +62,6 @@ returns-clause-gives c =
       live = c.loop-i.invariant.live;
       trees = all_made (map (tree_at c.loop-i.table.trees) c.loop-i.made) (links f (drop (c.loop-i.i - 1) (map (tree_at ts) args))) (links f (map (tree_at ts) args)) (no_link f ts args c.loop-i.i (omega arith)) c.loop-i.invariant.trees;
     }
+
+pub returns-in_err-link-clause-grows : goal.returns-in_err-link-clause-grows
+returns-in_err-link-clause-grows c = grows_on _ _ _ c.loop-i.invariant.grows c.apply_to_two.ensures.grows

@@ -1,7 +1,8 @@
-use Rattle.std.proofs.Common.{◌+◌, ◌-◌, ◌<◌, List, ◌++◌, length, map, drop, ap, sym, append_assoc, ◌∙◌, arith, rules}
+use Rattle.std.proofs.Common.{◌+◌, ◌-◌, ◌<◌, List, ◌++◌, length, map, drop, ap, sym, append_assoc, ◌∙◌, arith}
 use Rattle.std.specs.List.{list_any}
 use Rattle.std.proofs.lemmas.List.Elements.{All-take, All-drop, All-weaker}
 use Rattle.eo_base.proofs.Elements.{all_at}
+use Rattle.eo_term.proofs.Growing.{grows_on}
 use Rattle.eo_term.specs.Tree.{Tree, is_tall}
 use Rattle.eo_term.specs.Terms.{tree_at}
 use Rattle.eo_names.specs.Folding.{applied_to_two, all_pairs}
@@ -37,7 +38,7 @@ loop-i-preserved c =
     let new : List Tree = map (applied_to_two f (tree_at ts a)) (map (tree_at ts) (drop (i + 1) args)) in
     record {
       live = c.in_ok-add_pairs.ensures.adds.live;
-      grows = search rules;
+      grows = grows_on _ _ _ v.grows c.add_pairs.ensures.grows;
       trees = ap (λ us. us ++ rest) (c.in_ok-add_pairs.ensures.adds.trees ∙ ap (λ us. made ++ us) (pairs_grown (length ts) ts now v.grows.now.tree c.args.f a args (i + 1) c.requires.f live c.requires.args))
           ∙ append_assoc made new rest ∙ (λ k. made ++ sym (pairs_at f ts args i a (omega arith) c.index-args-i.is) k) ∙ v.trees;
     }
@@ -49,3 +50,18 @@ add_pairs-requires-clause-others c =
     let args = c.args.args.now in
     let k = c.loop-i.i + 1 in
     All-take (λ j. j < m) (length args - k) (drop k args) (All-drop (λ j. j < m) k args (All-weaker (λ j. j < n) (λ j. j < m) (λ j q. omega (arith, q, c.loop-i.invariant.grows.now.more_trees)) args c.requires.args))
+
+pub returns-in_err-add_pairs-clause-grows : goal.returns-in_err-add_pairs-clause-grows
+returns-in_err-add_pairs-clause-grows c = grows_on _ _ _ c.loop-i.invariant.grows c.add_pairs.ensures.grows
+
+pub add_pairs-requires-clause-f : goal.add_pairs-requires-clause-f
+add_pairs-requires-clause-f c = omega (arith, c.requires.f, c.loop-i.invariant.grows.now.more_trees)
+
+pub add_pairs-requires-clause-a : goal.add_pairs-requires-clause-a
+add_pairs-requires-clause-a c =
+    let n = length c.args.table.now.trees in
+    let live : c.index-args-i.result < n = all_at (λ j. j < n) c.args.args.now c.loop-i.i c.index-args-i.result c.requires.args (omega arith) c.index-args-i.is in
+    omega (arith, live, c.loop-i.invariant.grows.now.more_trees)
+
+pub add_pairs-requires-clause-made : goal.add_pairs-requires-clause-made
+add_pairs-requires-clause-made c = c.loop-i.invariant.live
