@@ -179,41 +179,64 @@ fn name_of(kind: usize) -> &'static str {
     }
 }
 
-fn main(rt: HostRuntime) -> io::Result<()> {
-    let mut words = env::args(&rt)?;
-    let _program = words.next();
-    let asked = words
-        .next()
-        .and_then(|word| word.as_str().parse::<usize>().ok());
-    let only = words.next();
+/// Reads a text of this name, and prints how many commands it has, and the time where it is asked
+/// for. One that is too long is passed over.
+fn time_text(rt: &HostRuntime, name: &str, text: &[u8], timed: bool) -> io::Result<()> {
+    if text.len() > LONGEST {
+        return Ok(());
+    }
+    let start = Instant::now(rt)?;
+    let commands = read(rt.alloc(), text);
+    let time = start.elapsed(rt)?;
+    if let Ok(commands) = commands {
+        println!(rt; "{name}: {commands} commands")?;
+    }
+    if timed {
+        let us = time.as_micros();
+        let rate = if us == 0 { 0 } else { text.len() as u128 / us };
+        println!(rt; "{} bytes, {} us, {} MB/s", text.len(), us, rate)?;
+    }
+    Ok(())
+}
+
+/// Reads a text of each kind, or only of the one that is asked for.
+fn time_all(rt: &HostRuntime, asked: Option<usize>, only: Option<&str>) -> io::Result<()> {
     let size = match asked {
         Some(n) if n < 900 => n * 1_048_576,
         _ => 20_480,
     };
     for kind in 0..5usize {
-        if let Some(word) = &only {
-            if word.as_str() != name_of(kind) {
+        let name = name_of(kind);
+        if let Some(word) = only {
+            if word != name {
                 continue;
             }
         }
         let Ok(text) = text_of(rt.alloc(), kind, size) else {
             return Ok(());
         };
-        if text.len() > LONGEST {
-            continue;
-        }
-        let name = name_of(kind);
-        let start = Instant::now(&rt)?;
-        let commands = read(rt.alloc(), text.as_slice());
-        let time = start.elapsed(&rt)?;
-        if let Ok(commands) = commands {
-            println!(rt; "{name}: {commands} commands")?;
-        }
-        if asked.is_some() {
-            let us = time.as_micros();
-            let rate = if us == 0 { 0 } else { text.len() as u128 / us };
-            println!(rt; "{} bytes, {} us, {} MB/s", text.len(), us, rate)?;
-        }
+        let timed = time_text(rt, name, text.as_slice(), asked.is_some());
+        drop(text);
+        timed?;
     }
     Ok(())
+}
+
+/// What the command line asks for: how many MiB of each kind, and the only kind.
+fn asked(rt: &HostRuntime) -> io::Result<(Option<usize>, Option<String>)> {
+    let mut words = env::args(rt)?;
+    drop(words.next());
+    let size = words
+        .next()
+        .and_then(|word| word.as_str().parse::<usize>().ok());
+    let only = words.next();
+    drop(words);
+    Ok((size, only))
+}
+
+fn main(rt: HostRuntime) -> io::Result<()> {
+    let (size, only) = asked(&rt)?;
+    let timed = time_all(&rt, size, only.as_ref().map(|word| word.as_str()));
+    drop(only);
+    timed
 }
