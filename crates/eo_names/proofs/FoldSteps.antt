@@ -53,3 +53,25 @@ low_term t l = by (is_tall t) (grind (arith, nat_tests))
     by : (b : Bool) → b ≡ false → ◌≡◌ {A = Checked Tree} (if b then Err TermHeight else Ok t) (Ok t)
     by true h = absurd (true≢false h)
     by false h = refl
+
+-- on two arguments nothing is joined, and an attribute says what the constant makes of them
+module _ (f : Tree) (us : List Tree) (two : length us ≡ 2) where
+  pub two_joined : (a : Attribute) → joined_items f a us ≡ None
+  two_joined Plain = refl
+  two_joined (RightNil n) = refl
+  two_joined (LeftNil n) = refl
+  two_joined Right = refl
+  two_joined Left = refl
+  two_joined (Chain g) = λ i. if two i == 2 then None else Some (g, links f us)
+  two_joined (Pairs g) = λ i. if two i == 2 then None else Some (g, all_pairs f us)
+  two_joined (Binder c) = refl
+
+  pub two_attributed : (fold_by : ℕ → List Tree → Checked Tree) (il : Tree → Bool) (a : Attribute) → by_attribute fold_by il f a us ≡ Ok (grouped il f a us)
+  two_attributed fold_by il Plain = refl
+  two_attributed fold_by il (RightNil n) = refl
+  two_attributed fold_by il (LeftNil n) = refl
+  two_attributed fold_by il Right = refl
+  two_attributed fold_by il Left = refl
+  two_attributed fold_by il (Chain g) = λ i. if two i == 2 then Ok (applied f us) else fold_by g (links f us)
+  two_attributed fold_by il (Pairs g) = λ i. if two i == 2 then Ok (applied f us) else fold_by g (all_pairs f us)
+  two_attributed fold_by il (Binder c) = refl

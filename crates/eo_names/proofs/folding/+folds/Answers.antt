@@ -1,5 +1,6 @@
-use Rattle.std.proofs.Common.{◌≡◌, ℕ, suc, ◌-◌, length, ap, sym, subst, ◌∙◌, arith}
+use Rattle.std.proofs.Common.{◌≡◌, ℕ, suc, ◌-◌, ◌<◌, length, All, ap, sym, subst, ◌∙◌, arith}
 use Rattle.eo_base.proofs.Answering.{gives_fault}
+use Rattle.eo_term.proofs.Growing.{grows_on}
 use Rattle.eo_term.specs.Growth.{trees_in}
 use Rattle.eo_term.specs.Terms.{tree_at}
 use Rattle.eo_names.specs.Gives.{GivesTree}
@@ -39,3 +40,13 @@ join-returns-then-turns-gt0-clause-gives t c =
     let before : suc (c.args.turns - 1) ≡ c.args.turns = omega (arith, c.if-turns-gt0.true) in
     let P : ℕ → Type 0 = λ n. GivesTree c.fold_within.new.table c.fold_within.result (turned_in w n c.args.k (trees_in c.args.table.now c.args.items.now)) in
     subst P before c.fold_within.ensures.gives
+
+pub fold_within-join-requires : goal.fold_within-join-requires
+fold_within-join-requires t c =
+    let n = length c.turn_of.new.table.trees in
+    (omega (arith, c.decreases),
+      ((c.names_law.ensures.stays c.args.sig.now (bound_in c.args.scope.now) c.args.table.now c.turn_of.new.table c.requires.ready c.turn_of.ensures.grows).ready,
+        subst (λ is. All (λ i. i < n) is) (sym c.as_slice.ensures) (subst (TurnBelow n) c.in-Joined.is c.in_ok-turn.ensures.gives.live)))
+
+pub fold_within-returns-clause-grows : goal.fold_within-returns-clause-grows
+fold_within-returns-clause-grows t c = grows_on _ _ _ c.turn_of.ensures.grows c.join.ensures.grows
