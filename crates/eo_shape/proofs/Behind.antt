@@ -1,10 +1,10 @@
 -- A rule and a step by the parts that stand first.
-use Rattle.std.proofs.Common.{◌≡◌, ℕ, true, List, [], ◌∷◌, Option, None, Some, ap, sym, ◌∙◌}
+use Rattle.std.proofs.Common.{◌≡◌, ℕ, true, false, List, [], ◌∷◌, Option, None, Some, ap, sym, ◌∙◌}
 use Rattle.std.proofs.lemmas.Option.{same_Some}
 use Rattle.std.specs.Prelude.{option_map, option_and_then, codes, if◌then◌else◌}
 use Rattle.eo_sexp.specs.Pairs.{first_two}
 use Rattle.eo_sexp.specs.Sexp.{Sexp}
-use Rattle.eo_shape.specs.Shapes.{Command, DeclareRule, ParameterShape, StepShape, is_keyword, parameters_of, rule_of, declare_rule, step_with, step_by_rule}
+use Rattle.eo_shape.specs.Shapes.{Command, DeclareRule, ParameterShape, StepShape, is_keyword, parameters_of, rule_of, declare_rule, symbols_of, premise_names, step_with, step_by_rule}
 use Rattle.eo_shape.specs.Words.{symbol_of}
 
 abbrev named_rule : Option (List ℕ) → Option (List ParameterShape) → List Sexp → Option Command
@@ -35,3 +35,10 @@ step-behind name stated (x ∷ y ∷ zs) k r rest rule e f g =
     ap (λ (q : Three). if is_keyword (codes ":rule") q.0 then named_step name stated (symbol_of q.1) q.2 else None) same
     ∙ ap (λ b. if b then named_step name stated (symbol_of r) rest else None) f
     ∙ ap (λ o. named_step name stated o rest) g
+
+pub no_premises : (parts : List Sexp) (k l : Sexp) (rest : List Sexp) → Some (k, l, rest) ≡ first_two parts → is_keyword (codes ":premises") k ≡ false → premise_names parts ≡ Some ([], parts)
+no_premises [] k l rest e f = absurd cc
+no_premises (x ∷ []) k l rest e f = absurd cc
+no_premises (x ∷ y ∷ zs) k l rest e f =
+    let same : (x, y, zs) ≡ (k, l, rest) = sym (same_Some (k, l, rest) (x, y, zs) e) in
+    ap (λ b. if b then option_map (λ xs. (xs, zs)) (symbols_of y) else Some ([], x ∷ y ∷ zs)) (ap (λ (q : Three). is_keyword (codes ":premises") q.0) same ∙ f)
