@@ -69,7 +69,7 @@ impl Signature {
         ensures err { OnErr result (self.new ≡ self.old) }
     {
         let number = self.macros.len();
-        let (key, d) = both(Name::new(self.alloc, d.name.as_bytes()), d)?;
+        let key = Name::new(self.alloc, d.name.as_bytes())?;
         self.macros.insert(key, d)?;
         Ok(number)
     }
