@@ -1,16 +1,23 @@
 -- What a command declares, by its parts.
 use Rattle.std.proofs.Common.{◌≡◌, ℕ, ◌<◌, ◌≤◌, true, false, List, [], ◌∷◌, ◌++◌, length, refl, ap, ◌∙◌, nat_le, cond, rules, tests}
 use Rattle.std.specs.Prelude.{Ok, Err}
+use Rattle.std.specs.Borrow.{Bor}
 use Rattle.eo_base.specs.declared.FaultName.{FaultName}
 use Rattle.eo_base.specs.declared.FaultName.TheVariants.{Redeclared, Parameters, TermHeight}
 use Rattle.eo_base.specs.Checks.{Checked, ◌>>=◌}
 use Rattle.eo_base.specs.Limits.{parameters_limit}
 use Rattle.eo_sexp.specs.Sexp.{Sexp}
+use Rattle.eo_lit.specs.declared.LiteralClass.{LiteralClass}
+use Rattle.eo_shape.specs.declared.Command as code
+use Rattle.eo_shape.specs.declared.Command.TheVariants as command
+use Rattle.eo_shape.specs.declared.ProgramShape as code_program
+use Rattle.eo_shape.specs.declared.RuleShape as code_rule
+use Rattle.eo_shape.specs.Reading.{read_command}
 use Rattle.eo_shape.specs.Shapes.{ParameterShape, AttributeShape}
 use Rattle.eo_sig.specs.Signature.{Attribute, Plain, Constant, Macro}
 use Rattle.eo_term.specs.Tree.{Tree, Arr, is_tall}
-use Rattle.eo_elab.specs.Declarations.{Bound, bind, unbound, is_free_name, is_free_or_reference, not_tall, meanings, attribute, constant, macro, plain_constant, function_type, bound_type, declared_const, declared_fun, declared_parameterized, defined}
-use Rattle.eo_elab.specs.Declaring.{typed, typed_over, type_of_function, function_to}
+use Rattle.eo_elab.specs.Declarations.{Bound, bind, unbound, is_free_name, is_free_or_reference, not_tall, meanings, attribute, constant, macro, plain_constant, function_type, bound_type, declared_const, declared_fun, declared_parameterized, defined, declaration}
+use Rattle.eo_elab.specs.Declaring.{typed, typed_over, type_of_function, function_to, declared_constant, or_bad}
 use Rattle.eo_names.specs.Contexts.{Context, Local}
 use Rattle.eo_names.specs.Folding.{arrow}
 use Rattle.eo_elab.specs.Meaning.{meaning}
@@ -177,3 +184,18 @@ module _ (c : Context) (name : List ℕ) (shapes : List ParameterShape) where
 
     pub parameterized-over : (b : Bound) → is_free_name c name ≡ true → length shapes ≤ parameters_limit → bind c unbound shapes ≡ Ok b → declared_parameterized c name shapes type shape ≡ (typed_over c b type shape >>= λ r. Ok (constant c name b.parameters r.0 r.1))
     parameterized-over b e h n = parameterized-parts e h ∙ then-ok type_read (bind c unbound shapes) b n ∙ over-typed c name type shape b (meaning c b.locals type) (attribute c b.locals shape)
+
+-- ---- commands that declare a constant, or nothing
+
+pub others_declare_constants : (c : Context) (k : code.Command)
+    → ((class : LiteralClass) (type : Sexp) → k ≡ command.DeclareLiterals class type → ⊥)
+    → ((name : Bor (List ℕ)) (params : List ParameterShape) (body : Sexp) → k ≡ command.Define name params body → ⊥)
+    → ((shape : code_program.ProgramShape) → k ≡ command.Program shape → ⊥)
+    → ((shape : code_rule.RuleShape) → k ≡ command.DeclareRule shape → ⊥)
+    → or_bad (declaration c (read_command k)) ≡ declared_constant c k
+unfolding declaration ◌>>=◌
+others_declare_constants c (command.DeclareLiterals class type) literals defines program rule = absurd (literals class type refl)
+others_declare_constants c (command.Define name params body) literals defines program rule = absurd (defines name params body refl)
+others_declare_constants c (command.Program shape) literals defines program rule = absurd (program shape refl)
+others_declare_constants c (command.DeclareRule shape) literals defines program rule = absurd (rule shape refl)
+others_declare_constants c k literals defines program rule = refl

@@ -1,15 +1,17 @@
 -- What calls give, said in another way.
-use Rattle.std.proofs.Common.{◌≡◌, ℕ, ◌<◌, Bool, true, false, List, [], ◌∷◌, length, map, refl, ap, sym, subst, ◌∙◌, arith}
-use Rattle.std.specs.Prelude.{Result, Ok, Err, not, slice_get}
+use Rattle.std.proofs.Common.{◌≡◌, ℕ, ◌<◌, Bool, Option, true, false, List, [], ◌∷◌, length, map, refl, ap, sym, subst, ◌∙◌, arith}
+use Rattle.std.specs.Prelude.{Result, Ok, Err, not, slice_get, IfOk, None}
 use Rattle.std.specs.Result.{IsErrAnd}
 use Rattle.std.proofs.lemmas.List.Elements.{All-nil, All-head, All-tail, All-weaker}
 use Rattle.std.proofs.lemmas.List.{take_all}
+use Rattle.eo_base.specs.declared.FaultName.{FaultName}
 use Rattle.eo_base.specs.declared.FaultName.TheVariants.{TermHeight}
-use Rattle.eo_base.specs.Answers.{Tells}
+use Rattle.eo_base.specs.Answers.{Gives, Tells}
 use Rattle.eo_base.specs.Checks.{Checked}
 use Rattle.eo_base.proofs.Answering.{tells_on, tells_through}
 use Rattle.eo_sexp.specs.Sexp.{Sexp, Sexps, Next}
-use Rattle.eo_sig.specs.Reading.{Kept, IsBelow}
+use Rattle.eo_sig.specs.declared.records.ConstDecl.{ConstDecl}
+use Rattle.eo_sig.specs.Reading.{Kept, IsBelow, read_constant}
 use Rattle.eo_sig.specs.Growth.{StaysUnder}
 use Rattle.eo_term.specs.Tree.{Tree, Con, Op, to_trees, is_tall}
 use Rattle.eo_term.specs.Terms.{Terms, Since, tree_at}
@@ -27,10 +29,12 @@ use Rattle.eo_elab.specs.Gives.{GivesTerm, GivesLabels, AddsPair, IsFormed, IsUs
 use Rattle.eo_names.specs.Binders.{list_of}
 use Rattle.eo_names.specs.Contexts.{Context, Setting, Local, InProof, is_list}
 use Rattle.eo_names.specs.Folding.{applied, folded, plainly, arrow}
-use Rattle.eo_names.specs.Usage.{made_of}
+use Rattle.eo_names.specs.Usage.{made_of, UseBelow}
 use Rattle.eo_names.specs.declared.usage.Use.TheVariants as use_
 use Rattle.eo_pattern.specs.Matching.{put}
-use Rattle.eo_sig.specs.Signature.{Signature}
+use Rattle.eo_sig.specs.Signature.{Signature, constant_fault}
+use Rattle.eo_elab.specs.Declarations.{is_free_or_reference}
+use Rattle.eo_elab.specs.Declaring.{MayRepeat}
 use Rattle.eo_elab.specs.Forms.{Parts}
 use Rattle.eo_elab.specs.Meaning.{without_labels}
 use Rattle.eo_names.specs.Readers.{Label, Reader, ◌>>=◌, with_labels, read, built, unless, give}
@@ -161,3 +165,24 @@ refused_as X (term.Memory e) whole h = tt
 pub tall_told : {A : Type 0} (e : TermRefused) (b : Bool) (whole : Checked A) → (b ≡ true → whole ≡ Err TermHeight) → TallWhere e b → Tells told (of_term e) whole
 tall_told term.Tall b whole f h = f h
 tall_told (term.Memory e) b whole f h = tt
+
+-- what is answered is there
+pub given_there : {A B E : Type 0} (told : E → Option FaultName) (There : A → Type 0) (read : A → B) (r : Result A E) (o : Checked B) → Gives told There read r o → IfOk r There
+given_there told There read (Ok a) o h = h.live
+given_there told There read (Err e) o h = tt
+
+-- the terms of a use are there where the table grows
+pub use_more : (old new : Terms) (u : Use) → Since old new → UseBelow (length old.trees) u → UseBelow (length new.trees) u
+use_more old new (use_.Plainly f) g h = omega (arith, h, g.more_trees)
+use_more old new use_.Underscore g h = tt
+use_more old new use_.Arrow g h = tt
+use_more old new (use_.Fold k) g h = tt
+use_more old new (use_.Bind binder collector) g h = tt
+use_more old new (use_.Macro tree) g h = omega (arith, h, g.more_trees)
+use_more old new (use_.Operator code) g h = tt
+
+-- a sound constant of a name that may be declared
+pub may_repeat : (c : Context) (ts : List Tree) (name : List ℕ) (r : Result ConstDecl ElabRefused) → is_free_or_reference c name ≡ true → IfOk r (λ d. constant_fault (read_constant ts d) ≡ None) → IfOk r (λ d. d.name ≡ name)
+    → IfOk r (λ d. MayRepeat c (read_constant ts d))
+may_repeat c ts name (Ok d) free sound named = record { sound = sound; name = ap (is_free_or_reference c) named ∙ free }
+may_repeat c ts name (Err e) free sound named = tt

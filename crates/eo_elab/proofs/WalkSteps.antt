@@ -15,7 +15,9 @@ use Rattle.eo_sexp.specs.Sexp.{Sexp, Atom, Listed, Sexps, NoSexp, Next, Span, se
 use Rattle.eo_sig.specs.Reading.{Kept}
 use Rattle.eo_term.specs.Tree.{Tree}
 use Rattle.eo_term.specs.Terms.{Terms}
-use Rattle.eo_elab.specs.Forms.{application, formed_from, parts_of, all_after, pair_of}
+use Rattle.eo_elab.specs.Forms.{Parts, application, arguments_for, formed_from, parts_of, all_after, pair_of}
+use Rattle.eo_names.specs.declared.usage.Use.{Use}
+use Rattle.eo_names.specs.declared.usage.Use.TheVariants as use_
 use Rattle.eo_names.specs.Binders.{list_of, pair_local, variable}
 use Rattle.eo_shape.specs.Words.{symbol_of}
 use Rattle.eo_names.specs.Contexts.{Context, Local, is_list}
@@ -61,6 +63,13 @@ module _ (c : Context) (ls : List Local) (labels : List Label) where
   pub all_end : (before : List Tree) → all_after before (means_all c ls NoSexp) labels ≡ Ok (before, labels)
   unfolding means_all
   all_end before = ap (λ ts. Ok (ts, labels)) (append-nil before)
+
+  pub all_alone : (r : Reader (List Tree)) → r labels ≡ all_after [] r labels
+  all_alone r = by (r labels)
+    where
+      by : (o : Checked (List Tree × List Label)) → o ≡ go_on (λ ts. give ([] ++ ts)) o
+      by (Ok p) = refl
+      by (Err fault) = refl
 
   all_first : (s : Sexp) (rest : Sexps) → means_all c ls (Next s rest) labels ≡ (means c ls s >>= λ t. means_all c ls rest >>= λ ts. give (t ∷ ts)) labels
   unfolding means_all
@@ -233,3 +242,8 @@ left_out (Err fault) = refl
 pub meaning_of_atom : (w : World) (s : Sexp) → None ≡ parts_in s → meaning w.names w.locals s ≡ atom_told w (sexp_kind s) (sexp_text s)
 unfolding meaning
 meaning_of_atom w s e = ap without_labels (of_no_list w s [] e) ∙ left_out (atom_told w (sexp_kind s) (sexp_text s))
+
+-- arguments of what is no binder
+pub no_binder : (parts : Parts) (u : Use) → ((binder collector : ℕ) → u ≡ use_.Bind binder collector → ⊥) → arguments_for parts u ≡ parts.arguments
+no_binder parts (use_.Bind binder collector) differs = absurd (differs binder collector refl)
+no_binder parts u differs = refl

@@ -89,10 +89,6 @@ fn declared_by(
     ensures grows { GrowsUnder sig.now table.old table.new }
 {
     match command {
-        Command::DeclareConst { .. } => declared_constant(alloc, command, sig, table),
-        Command::DeclareFun { .. } => declared_constant(alloc, command, sig, table),
-        Command::DeclareSort { .. } => declared_constant(alloc, command, sig, table),
-        Command::DeclareParameterized { .. } => declared_constant(alloc, command, sig, table),
         Command::DeclareLiterals { class, ty: s } => {
             let ty = declared_literals(alloc, *class, s, sig, table)?;
             Ok(Declaration::Literal { class: *class, ty })
@@ -109,21 +105,11 @@ fn declared_by(
             let d = declared_rule(alloc, shape, sig, table)?;
             Ok(Declaration::Rule(d))
         }
-        Command::Assume { .. } => Err(ElabRefused::BadCommand),
-        Command::AssumePush { .. } => Err(ElabRefused::BadCommand),
-        Command::Step(_) => Err(ElabRefused::BadCommand),
-        Command::StepPop(_) => Err(ElabRefused::BadCommand),
-        Command::Include { .. } => Err(ElabRefused::BadCommand),
-        Command::Refer { .. } => Err(ElabRefused::BadCommand),
-        Command::DefineFun { .. } => Err(ElabRefused::BadCommand),
-        Command::DefineSort { .. } => Err(ElabRefused::BadCommand),
-        Command::Assert { .. } => Err(ElabRefused::BadCommand),
-        Command::Exit => Err(ElabRefused::BadCommand),
-        Command::Skip => Err(ElabRefused::BadCommand),
+        _ => declared_constant(alloc, command, sig, table),
     }
 }
 
-// The constant that a command declares, as what it declares.
+// The constant that a command declares, as what it declares; `BadCommand`, where it declares none.
 fn declared_constant(
     alloc: Global,
     command: &Command<'_>,

@@ -138,7 +138,8 @@ fn use_of_meaning(
         Meant::Constant(k) => use_of_constant(k, args, sig),
         Meant::Macro(n) => {
             let defined = sig.macro_of(n);
-            if args.len() != defined.params.as_slice().len() {
+            let count = defined.params.as_slice().len();
+            if args.len() != count {
                 return Err(ElabRefused::BadArity);
             }
             Ok(Use::Macro(defined.tree))

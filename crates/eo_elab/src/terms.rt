@@ -160,7 +160,8 @@ pub(crate) fn term_at(
     ensures grows { Grows table.old table.new }
     ensures keeps { Keeps sig.now locals.now table.old.trees table.new.trees }
 {
-    mean_term(alloc, s, locals, setting, &SignatureView::of(sig), table)
+    let view = SignatureView::of(sig);
+    mean_term(alloc, s, locals, setting, &view, table)
 }
 
 /// The same where this is declared.

@@ -1,5 +1,6 @@
 use Rattle.std.proofs.Common.{◌≡◌, ◌<◌, ◌+◌, List, length, map, All, suc, arith, ap, sym, subst, ◌∙◌}
-use Rattle.std.proofs.lemmas.List.Elements.{All-head}
+use Rattle.std.proofs.lemmas.List.Elements.{All-head, All-tail}
+use Rattle.eo_term.proofs.Growing.{grows_refl, grows_on}
 use Rattle.std.proofs.lemmas.Result.{err_from_is_err_and}
 use Rattle.eo_sig.specs.declared.records.Param.{Param}
 use Rattle.eo_sig.specs.Reading.{read_parameter}
@@ -66,3 +67,27 @@ returns-clause-makes t c =
     ∙ bound-explicit i (read_parameter old.trees p) ps (tree_in old c.args.ty) c.if-p.false
     ∙ sym (ap (λ (qs : List Param). bound_type i (map (read_parameter old.trees) qs) (tree_in old c.args.ty)) all) in
     record { live = c.in_ok-made.ensures.interned.live; tree = c.in_ok-made.ensures.interned.tree ∙ made }
+
+pub bound_type-requires : goal.bound_type-requires
+bound_type-requires t c =
+    let old = c.args.table.now in
+    let all = c.in-Some.ensures.cases.0 in
+    let long = ap length all in
+    let params = All-tail (λ (q : Param). q.ty < length old.trees) c.in-Some.p.now c.in-Some.rest.now (subst (All (λ (q : Param). q.ty < length old.trees)) all c.requires.params) in
+    (omega (arith, long), (params, (c.requires.ty, omega (arith, long, c.requires.few))))
+
+pub returns-in_default-clause-grows : goal.returns-in_default-clause-grows
+returns-in_default-clause-grows t c = grows_refl c.args.table.now
+
+pub returns-in_err-made-clause-grows : goal.returns-in_err-made-clause-grows
+returns-in_err-made-clause-grows t c = grows_on c.args.table.now c.bound_type.new.table c.intern.new.self c.in_ok-to.ensures.grows c.in_err-made.ensures.grows
+
+pub returns-clause-grows : goal.returns-clause-grows
+returns-clause-grows t c = grows_on c.args.table.now c.bound_type.new.table c.intern.new.self c.in_ok-to.ensures.grows c.in_ok-made.ensures.grows
+
+pub intern-requires : goal.intern-requires
+intern-requires t c =
+    let old = c.args.table.now in
+    let p = c.in-Some.p.now in
+    let live : p.ty < length old.trees = All-head (λ (q : Param). q.ty < length old.trees) p c.in-Some.rest.now (subst (All (λ (q : Param). q.ty < length old.trees)) c.in-Some.ensures.cases.0 c.requires.params) in
+    record { plain = tt; parts = (omega (arith, live, c.in_ok-to.ensures.grows.now.more_trees), c.in_ok-to.ensures.makes.live); texts = tt; proper = tt }

@@ -55,3 +55,12 @@ pub returns-in_ok-constant_meant-in-Binder-clause-gives : goal.returns-in_ok-con
 returns-in_ok-constant_meant-in-Binder-clause-gives c =
     let w = world_in c.args.table.now c.args.sig.now c.args.locals.now c.args.setting in
     record { live = tt; is = ap (attribute_in w) c.in-Binder.is ∙ then-ok (λ x. Ok (Binder x)) _ _ c.in_ok-constant_meant-in-Binder.ensures.gives.is }
+
+pub returns-in-None-clause-gives : goal.returns-in-None-clause-gives
+returns-in-None-clause-gives c = record { live = tt; is = ap (attribute_in (world_in c.args.table.now c.args.sig.now c.args.locals.now c.args.setting)) c.in-None.is }
+
+pub returns-in-Right-clause-gives : goal.returns-in-Right-clause-gives
+returns-in-Right-clause-gives c = record { live = tt; is = ap (attribute_in (world_in c.args.table.now c.args.sig.now c.args.locals.now c.args.setting)) c.in-Right.is }
+
+pub returns-in-Left-clause-gives : goal.returns-in-Left-clause-gives
+returns-in-Left-clause-gives c = record { live = tt; is = ap (attribute_in (world_in c.args.table.now c.args.sig.now c.args.locals.now c.args.setting)) c.in-Left.is }

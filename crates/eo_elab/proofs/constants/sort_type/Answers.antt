@@ -1,7 +1,9 @@
-use Rattle.std.proofs.Common.{◌≡◌, ◌+◌, suc, arith, ap, ◌∙◌, rules}
+use Rattle.std.proofs.Common.{◌≡◌, ◌+◌, suc, arith, ap, ◌∙◌}
+use Rattle.eo_term.proofs.Growing.{grows_refl, grows_on}
 use Rattle.eo_term.specs.Growth.{tree_in}
 use Rattle.eo_term.specs.Tree.{Arr, height, type_tree}
 use Rattle.eo_elab.specs.Declarations.{sort_type}
+use Rattle.eo_elab.proofs.BoundLemmas.{type-is-first}
 use Rattle.eo_elab.proofs.ConstantLemmas.{sort-height}
 use Rattle.eo_elab.proofs.constants.sort_type.Goals as goal
 
@@ -17,10 +19,19 @@ loop-preserved c =
     record {
       live = c.in_ok-made.ensures.makes.live;
       tree = c.in_ok-made.ensures.makes.tree ∙ ap (Arr type_tree) v.tree ∙ ap sort_type next;
-      grows = search rules;
+      grows = grows_on c.args.table.now c.loop.table c.sort_over.new.table v.grows c.in_ok-made.ensures.grows;
     }
 
 pub returns-clause-makes : goal.returns-clause-makes
 returns-clause-makes c =
     let done : c.loop.counter ≡ c.args.arity = omega (arith, c.loop-test.false, c.loop.auto.counter-end) in
     record { live = c.loop.invariant.live; tree = c.loop.invariant.tree ∙ ap sort_type done }
+
+pub loop-init : goal.loop-init
+loop-init c =
+    let t = c.args.table.now in
+    let first = type-is-first t.trees c.laws.ensures.first in
+    record { live = first.0; tree = first.1; grows = grows_refl t }
+
+pub returns-in_err-made-clause-grows : goal.returns-in_err-made-clause-grows
+returns-in_err-made-clause-grows c = grows_on c.args.table.now c.loop.table c.sort_over.new.table c.loop.invariant.grows c.in_err-made.ensures.grows

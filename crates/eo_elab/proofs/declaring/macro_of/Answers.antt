@@ -5,7 +5,7 @@ use Rattle.eo_base.specs.Limits.{parameters_limit}
 use Rattle.eo_base.proofs.Answering.{fails}
 use Rattle.eo_term.proofs.Growing.{grows_refl, grows_on}
 use Rattle.eo_term.specs.Growth.{tree_in}
-use Rattle.eo_elab.specs.Declarations.{bind, unbound, defined, macro}
+use Rattle.eo_elab.specs.Declarations.{bind, unbound, defined, macro, is_free_or_reference}
 use Rattle.eo_elab.specs.Declaring.{read_bound}
 use Rattle.eo_elab.specs.Meaning.{meaning}
 use Rattle.eo_elab.specs.Worlds.{context_in}
@@ -94,3 +94,8 @@ returns-then-len-gt-PARAMETERS-clause-grows c = c.laws.ensures c.args.table.now 
 
 pub returns-in_err-bound-clause-grows : goal.returns-in_err-bound-clause-grows
 returns-in_err-bound-clause-grows c = c.laws.ensures c.args.table.now c.bind.new.table c.requires c.in_err-bound.ensures.grows
+
+pub returns-clause-may : goal.returns-clause-may
+returns-clause-may c =
+    let t = c.args.table.now in
+    ap (is_free_or_reference (context_in t c.args.sig.now)) c.in_ok-new.ensures ∙ sym (c.may_declare.ensures t.trees) ∙ c.if-not-may_declare.false

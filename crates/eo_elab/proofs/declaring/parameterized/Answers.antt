@@ -1,12 +1,12 @@
-use Rattle.std.proofs.Common.{◌<◌, ◌≤◌, ◌||◌, length, false, arith, ap, sym, ◌∙◌}
+use Rattle.std.proofs.Common.{◌<◌, ◌≤◌, ◌||◌, [], length, false, arith, ap, sym, ◌∙◌}
 use Rattle.std.specs.Prelude.{Ok}
 use Rattle.eo_base.specs.declared.FaultName.TheVariants.{Redeclared}
 use Rattle.eo_base.specs.Checks.{Checked}
 use Rattle.eo_base.specs.Limits.{parameters_limit}
 use Rattle.eo_base.proofs.Answering.{fails}
 use Rattle.eo_shape.specs.Reading as forms
-use Rattle.eo_sig.specs.Reading.{read_attribute}
-use Rattle.eo_sig.specs.Signature.{Attribute, Constant}
+use Rattle.eo_sig.specs.Reading.{read_attribute, signature, macros}
+use Rattle.eo_sig.specs.Signature.{Attribute, Constant, is_free}
 use Rattle.eo_term.proofs.Growing.{grows_refl, grows_on}
 use Rattle.eo_term.specs.Growth.{tree_in}
 use Rattle.eo_term.specs.Tree.{Tree}
@@ -106,3 +106,8 @@ returns-then-len-gt-PARAMETERS-clause-grows c = c.laws.ensures c.args.table.now 
 
 pub returns-in_err-bound-clause-grows : goal.returns-in_err-bound-clause-grows
 returns-in_err-bound-clause-grows c = c.laws.ensures c.args.table.now c.bind.new.table c.requires c.in_err-bound.ensures.grows
+
+pub returns-clause-free : goal.returns-clause-free
+returns-clause-free c =
+    let k = c.args.sig.now in
+    ap (is_free (signature [] k) (macros [] k)) c.in_ok-new.ensures ∙ sym (c.is_free.ensures []) ∙ c.if-not-is_free.false

@@ -1,6 +1,7 @@
 use Rattle.std.proofs.Common.{◌≡◌, [], ap, sym, ◌∙◌, arith}
 use Rattle.std.specs.Prelude.{Ok}
 use Rattle.eo_base.proofs.Answering.{fails}
+use Rattle.eo_term.proofs.Growing.{grows_on}
 use Rattle.eo_shape.specs.Reading as shapes
 use Rattle.eo_term.specs.Growth.{tree_in}
 use Rattle.eo_sig.specs.Reading.{read_attribute}
@@ -51,3 +52,9 @@ returns-clause-gives c =
           (ap (λ (u : World). meaning_in u c.args.ty.now) (sym alone) ∙ c.in_ok-ty.ensures.gives.is ∙ (λ i. Ok (sym type i)))
           (ap (λ (u : World). attribute_in u c.args.attribute.now) (sym (same ∙ alone)) ∙ c.in_ok-attribute.ensures.gives.is);
     }
+
+pub returns-in_err-attribute-clause-grows : goal.returns-in_err-attribute-clause-grows
+returns-in_err-attribute-clause-grows c = grows_on c.args.table.now c.term_at.new.table c.attribute_meant.new.table c.in_ok-ty.ensures.grows c.in_err-attribute.ensures.grows
+
+pub returns-clause-grows : goal.returns-clause-grows
+returns-clause-grows c = grows_on c.args.table.now c.term_at.new.table c.attribute_meant.new.table c.in_ok-ty.ensures.grows c.in_ok-attribute.ensures.grows

@@ -12,23 +12,23 @@ returns-in-Term-clause-used c = rw c.in-Term.is c.use_of_term.ensures.used
 pub returns-in-Constant-clause-used : goal.returns-in-Constant-clause-used
 returns-in-Constant-clause-used c = rw c.in-Constant.is (c.use_of_constant.ensures.used c.args.table.now.trees)
 
-pub returns-then-len-as_slice-clause-used : goal.returns-then-len-as_slice-clause-used
-returns-then-len-as_slice-clause-used c = λ x ls parts labels.
-    let other = ne_eqb (length c.args.args.now) (length c.macro_of-defined.result.now.params) (λ e. c.if-len-as_slice.true (c.len.ensures.value ∙ e ∙ sym (ap length c.as_slice.ensures))) in
+pub returns-then-len-count-clause-used : goal.returns-then-len-count-clause-used
+returns-then-len-count-clause-used c = λ x ls parts labels.
+    let other = ne_eqb (length c.args.args.now) (length c.macro_of-defined.result.now.params) (λ e. c.if-len-count.true (c.len.ensures.value ∙ e ∙ sym (ap length c.as_slice-count.ensures))) in
     rw c.in-Macro.is (λ k. macro_arity (world_at x (context c.args.table.now.trees c.args.sig.now) ls).names ls c.args.args.now parts c.args.table.now.trees c.args.sig.now c.in-Macro.n c.macro_of-defined.result.now (c.macro_of-defined.ensures.value c.args.table.now.trees) other k labels)
 
-pub returns-else-len-as_slice-clause-used : goal.returns-else-len-as_slice-clause-used
-returns-else-len-as_slice-clause-used c = λ x ls parts labels.
-    let same = sym c.len.ensures.value ∙ c.if-len-as_slice.false ∙ ap length c.as_slice.ensures in
+pub returns-else-len-count-clause-used : goal.returns-else-len-count-clause-used
+returns-else-len-count-clause-used c = λ x ls parts labels.
+    let same = sym c.len.ensures.value ∙ c.if-len-count.false ∙ ap length c.as_slice-count.ensures in
     rw c.in-Macro.is (λ k. macro_use (world_at x (context c.args.table.now.trees c.args.sig.now) ls).names ls c.args.args.now parts c.args.table.now.trees c.args.sig.now c.in-Macro.n c.macro_of-defined.result.now (c.macro_of-defined.ensures.value c.args.table.now.trees) same k labels)
 
-pub returns-else-len-as_slice-clause-below : goal.returns-else-len-as_slice-clause-below
-returns-else-len-as_slice-clause-below c = (c.macro_of-defined.ensures.below (length c.args.table.now.trees) c.requires.below).tree
+pub returns-else-len-count-clause-below : goal.returns-else-len-count-clause-below
+returns-else-len-count-clause-below c = (c.macro_of-defined.ensures.below (length c.args.table.now.trees) c.requires.below).tree
 
-pub returns-else-len-as_slice-clause-suits : goal.returns-else-len-as_slice-clause-suits
-returns-else-len-as_slice-clause-suits c =
+pub returns-else-len-count-clause-suits : goal.returns-else-len-count-clause-suits
+returns-else-len-count-clause-suits c =
     let few : length c.macro_of-defined.result.now.params ≤ parameters_limit = (c.macro_of-defined.ensures.below (length c.args.table.now.trees) c.requires.below).few in
-    subst (λ n. n ≤ parameters_limit) (sym (sym c.len.ensures.value ∙ c.if-len-as_slice.false ∙ ap length c.as_slice.ensures)) few
+    subst (λ n. n ≤ parameters_limit) (sym (sym c.len.ensures.value ∙ c.if-len-count.false ∙ ap length c.as_slice-count.ensures)) few
 
 pub returns-then-len-arity-clause-used : goal.returns-then-len-arity-clause-used
 returns-then-len-arity-clause-used c = λ x ls parts labels.

@@ -1,6 +1,7 @@
 use Rattle.std.proofs.Common.{◌≡◌, ◌==◌, true, length, arith, ap, sym, ◌∙◌}
 use Rattle.std.specs.Prelude.{Ok}
 use Rattle.eo_base.proofs.Answering.{fails}
+use Rattle.eo_term.proofs.Growing.{grows_on}
 use Rattle.eo_shape.specs.Reading.{read_case as read_shape}
 use Rattle.eo_term.specs.Growth.{tree_in, trees_in}
 use Rattle.eo_names.specs.Worlds.{World, world_of}
@@ -53,3 +54,9 @@ returns-then-len-inputs-clause-gives c =
     let w = world_of c.args.table.now c.args.sig.now c.args.locals.now in
     let s = read_shape c.args.shape.now in
     case-arity w.names w.locals c.args.inputs s (other-count (length s.patterns) c.args.inputs (λ e. omega (arith, e, c.len.ensures, c.if-len-inputs.true)))
+
+pub returns-in_err-body-clause-grows : goal.returns-in_err-body-clause-grows
+returns-in_err-body-clause-grows c = grows_on c.args.table.now c.mean_terms.new.table c.mean_term.new.table c.in_ok-patterns.ensures.grows c.in_err-body.ensures.grows
+
+pub returns-clause-grows : goal.returns-clause-grows
+returns-clause-grows c = grows_on c.args.table.now c.mean_terms.new.table c.mean_term.new.table c.in_ok-patterns.ensures.grows c.in_ok-body.ensures.grows

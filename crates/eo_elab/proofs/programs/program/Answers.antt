@@ -3,6 +3,7 @@ use Rattle.std.proofs.lemmas.Result.{IfOk-weaker}
 use Rattle.eo_base.specs.declared.FaultName.TheVariants.{Redeclared}
 use Rattle.eo_base.specs.Limits.{parameters_limit}
 use Rattle.eo_base.proofs.Answering.{fails}
+use Rattle.eo_term.proofs.Growing.{grows_refl, grows_on}
 use Rattle.eo_elab.specs.Declarations.{declared_program, program_over, is_free_name}
 use Rattle.eo_shape.specs.Reading.{read_program}
 use Rattle.eo_sig.specs.Reading.{signature, macros}
@@ -64,3 +65,19 @@ pub returns-clause-named : goal.returns-clause-named
 returns-clause-named c =
     let t = c.args.table.now in
     IfOk-weaker c.program_over.result _ _ (λ d e. ap (is_free_name (context_in t c.args.sig.now)) e ∙ sym (c.is_free.ensures t.trees) ∙ c.if-not-is_free.false) c.program_over.ensures.name
+
+pub returns-then-not-is_free-clause-grows : goal.returns-then-not-is_free-clause-grows
+returns-then-not-is_free-clause-grows c = c.laws.ensures c.args.table.now c.args.table.now c.requires (grows_refl c.args.table.now)
+
+pub returns-then-len-gt-PARAMETERS-clause-grows : goal.returns-then-len-gt-PARAMETERS-clause-grows
+returns-then-len-gt-PARAMETERS-clause-grows c = c.laws.ensures c.args.table.now c.args.table.now c.requires (grows_refl c.args.table.now)
+
+pub returns-then-len-gt-PARAMETERS-2-clause-grows : goal.returns-then-len-gt-PARAMETERS-2-clause-grows
+returns-then-len-gt-PARAMETERS-2-clause-grows c = c.laws.ensures c.args.table.now c.args.table.now c.requires (grows_refl c.args.table.now)
+
+pub returns-in_err-bound-clause-grows : goal.returns-in_err-bound-clause-grows
+returns-in_err-bound-clause-grows c = c.laws.ensures c.args.table.now c.bind.new.table c.requires c.in_err-bound.ensures.grows
+
+pub returns-clause-grows : goal.returns-clause-grows
+returns-clause-grows c =
+    c.laws.ensures c.args.table.now c.program_over.new.table c.requires (grows_on c.args.table.now c.bind.new.table c.program_over.new.table c.in_ok-bound.ensures.grows c.program_over.ensures.grows)

@@ -3,11 +3,12 @@ use Rattle.std.specs.Prelude.{Ok, true}
 use Rattle.eo_base.specs.declared.FaultName.TheVariants.{Redeclared}
 use Rattle.eo_base.specs.Limits.{parameters_limit}
 use Rattle.eo_base.proofs.Answering.{fails}
+use Rattle.eo_term.proofs.Growing.{grows_refl, grows_on}
 use Rattle.eo_term.specs.Growth.{tree_in}
-use Rattle.eo_elab.specs.Declarations.{defined_sort}
+use Rattle.eo_elab.specs.Declarations.{defined_sort, is_free_or_reference}
 use Rattle.eo_elab.specs.Declaring.{read_bound}
 use Rattle.eo_elab.specs.Meaning.{meaning}
-use Rattle.eo_elab.specs.Worlds.{reference_context}
+use Rattle.eo_elab.specs.Worlds.{context_in, reference_context}
 use Rattle.eo_names.specs.declared.scope.Setting.TheVariants as settings
 use Rattle.eo_elab.proofs.BoundLemmas.{parameters-grown, parameters-more}
 use Rattle.eo_elab.proofs.CheckedLemmas.{require-no}
@@ -64,3 +65,32 @@ returns-clause-gives c =
       is = sort-whole x c.args.name.now c.args.params.now c.args.ty.now (sym (c.may_declare.ensures t.trees) ∙ c.if-not-may_declare.false) few b c.in_ok-bound.ensures.gives.is tree (ap (λ y. meaning y b.locals c.args.ty.now) (sym same) ∙ c.in_ok-tree.ensures.gives.is)
           ∙ (λ i. Ok (record { name = sym c.in_ok-new.ensures i; parameters = sym params i; tree = tree; from_reference = true }));
     }
+
+pub returns-clause-may : goal.returns-clause-may
+returns-clause-may c =
+    let t = c.args.table.now in
+    ap (is_free_or_reference (context_in t c.args.sig.now)) c.in_ok-new.ensures ∙ sym (c.may_declare.ensures t.trees) ∙ c.if-not-may_declare.false
+
+pub bind_types-requires : goal.bind_types-requires
+bind_types-requires c = record { few = omega (arith, c.len.ensures, c.if-len-gt-PARAMETERS.false) }
+
+pub returns-then-not-may_declare-clause-grows : goal.returns-then-not-may_declare-clause-grows
+returns-then-not-may_declare-clause-grows c = c.laws.ensures c.args.table.now c.args.table.now c.requires (grows_refl c.args.table.now)
+
+pub returns-then-len-gt-PARAMETERS-clause-grows : goal.returns-then-len-gt-PARAMETERS-clause-grows
+returns-then-len-gt-PARAMETERS-clause-grows c = c.laws.ensures c.args.table.now c.args.table.now c.requires (grows_refl c.args.table.now)
+
+pub returns-in_err-bound-clause-grows : goal.returns-in_err-bound-clause-grows
+returns-in_err-bound-clause-grows c = c.laws.ensures c.args.table.now c.bind_types.new.table c.requires c.in_err-bound.ensures.grows
+
+pub returns-in_err-tree-clause-grows : goal.returns-in_err-tree-clause-grows
+returns-in_err-tree-clause-grows c =
+    c.laws.ensures c.args.table.now c.term_at.new.table c.requires (grows_on c.args.table.now c.bind_types.new.table c.term_at.new.table c.in_ok-bound.ensures.grows c.in_err-tree.ensures.grows)
+
+pub returns-in_err-new-clause-grows : goal.returns-in_err-new-clause-grows
+returns-in_err-new-clause-grows c =
+    c.laws.ensures c.args.table.now c.term_at.new.table c.requires (grows_on c.args.table.now c.bind_types.new.table c.term_at.new.table c.in_ok-bound.ensures.grows c.in_ok-tree.ensures.grows)
+
+pub returns-clause-grows : goal.returns-clause-grows
+returns-clause-grows c =
+    c.laws.ensures c.args.table.now c.term_at.new.table c.requires (grows_on c.args.table.now c.bind_types.new.table c.term_at.new.table c.in_ok-bound.ensures.grows c.in_ok-tree.ensures.grows)

@@ -58,3 +58,12 @@ pub returns-clause-grows : goal.returns-clause-grows
 returns-clause-grows c =
     let all = grows_on c.args.table.now c.term_at.new.table c.term_at-2.new.table c.in_ok-term_at.ensures.grows c.in_ok-tree.ensures.grows in
     c.laws.ensures c.args.table.now c.term_at-2.new.table c.requires.bound.ready.below all
+
+pub term_at-requires : goal.term_at-requires
+term_at-requires c = record { ready = c.requires.bound.ready }
+
+pub returns-in_err-term_at-clause-grows : goal.returns-in_err-term_at-clause-grows
+returns-in_err-term_at-clause-grows c = c.laws.ensures c.args.table.now c.term_at.new.table c.requires.bound.ready.below c.in_err-term_at.ensures.grows
+
+pub returns-clause-name : goal.returns-clause-name
+returns-clause-name c = c.in_ok-new.ensures

@@ -1,12 +1,12 @@
-use Rattle.std.proofs.Common.{◌≡◌, ◌++◌, [], ◌∷◌, length, map, All, arith, rules, ap, sym, subst, ◌∙◌}
+use Rattle.std.proofs.Common.{◌≡◌, ◌++◌, [], ◌∷◌, length, map, All, ap, sym, subst, ◌∙◌}
 use Rattle.std.specs.Prelude.{Ok}
-use Rattle.std.proofs.lemmas.Grind.{common_steps}
 use Rattle.std.proofs.lemmas.List.{map-append}
 use Rattle.std.proofs.lemmas.List.Elements.{All-nil, All-append, All-cons}
 use Rattle.eo_base.proofs.ChecksLemmas.{behind, behind-none}
 use Rattle.eo_base.proofs.Answering.{fails}
 use Rattle.eo_shape.specs.Reading.{read_pair as read_shape}
 use Rattle.eo_sig.specs.Reading.{read_pair}
+use Rattle.eo_term.proofs.Growing.{grows_refl, grows_on}
 use Rattle.eo_names.specs.Worlds.{World, world_of}
 use Rattle.eo_elab.specs.RuleParts.{requirement_in, requirements_in, PairBelow}
 use Rattle.eo_elab.proofs.RuleLemmas.{pairs-next, pairs-refused, pairs-end, pairs-grown, pairs-more}
@@ -21,7 +21,7 @@ loop-shape-init c =
     record {
       left = sym (ap (λ qs. behind (map (read_pair t.trees) qs) (requirements_in w left)) c.new-pairs.ensures ∙ behind-none (requirements_in w left) ∙ ap (requirements_in w) all);
       live = subst (All (PairBelow (length t.trees))) (sym c.new-pairs.ensures) (All-nil (PairBelow (length t.trees)));
-      grows = grind (arith, common_steps);
+      grows = grows_refl t;
     }
 
 pub requirement-requires : goal.requirement-requires
@@ -57,7 +57,7 @@ loop-shape-preserved c =
     record {
       left = step ∙ sym (pairs-next w done q c.next.new.self p own) ∙ ap (λ qs. behind qs (requirements_in w c.next.new.self)) (sym more);
       live = subst (All (PairBelow n)) (sym c.in_ok-push.ensures.pushed) (All-append (PairBelow n) c.loop-shape.pairs (pair ∷ []) before (All-cons (PairBelow n) pair [] c.in_ok-pair.ensures.gives.live (All-nil (PairBelow n))));
-      grows = search rules;
+      grows = grows_on c.args.table.now now new c.loop-shape.invariant.grows c.requirement.ensures.grows;
     }
 
 pub returns-clause-gives : goal.returns-clause-gives
@@ -68,3 +68,9 @@ returns-clause-gives c =
       live = c.loop-shape.invariant.live;
       is = c.loop-shape.invariant.left ∙ ap (λ qs. behind done (requirements_in w qs)) c.in-None.ensures.steps.0 ∙ pairs-end w done;
     }
+
+pub returns-in_err-pair-clause-grows : goal.returns-in_err-pair-clause-grows
+returns-in_err-pair-clause-grows c = grows_on c.args.table.now c.loop-shape.table c.requirement.new.table c.loop-shape.invariant.grows c.in_err-pair.ensures.grows
+
+pub returns-in_err-push-clause-grows : goal.returns-in_err-push-clause-grows
+returns-in_err-push-clause-grows c = grows_on c.args.table.now c.loop-shape.table c.requirement.new.table c.loop-shape.invariant.grows c.in_ok-pair.ensures.grows

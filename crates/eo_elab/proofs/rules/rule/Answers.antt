@@ -3,6 +3,7 @@ use Rattle.std.proofs.lemmas.Result.{IfOk-weaker}
 use Rattle.eo_base.specs.declared.FaultName.TheVariants.{Redeclared}
 use Rattle.eo_base.specs.Limits.{parameters_limit}
 use Rattle.eo_base.proofs.Answering.{fails}
+use Rattle.eo_term.proofs.Growing.{grows_refl, grows_on}
 use Rattle.eo_elab.specs.Declarations.{declared_rule, rule_over}
 use Rattle.eo_shape.specs.Reading.{read_rule}
 use Rattle.eo_sig.specs.Reading.{signature}
@@ -46,3 +47,16 @@ returns-clause-gives c =
 pub returns-clause-free : goal.returns-clause-free
 returns-clause-free c =
     IfOk-weaker c.rule_over.result _ _ (λ d e. ap (is_free_rule (signature [] c.args.sig.now)) e ∙ sym (c.is_free_rule.ensures []) ∙ c.if-not-is_free_rule.false) c.rule_over.ensures.name
+
+pub returns-then-not-is_free_rule-clause-grows : goal.returns-then-not-is_free_rule-clause-grows
+returns-then-not-is_free_rule-clause-grows c = c.laws.ensures c.args.table.now c.args.table.now c.requires (grows_refl c.args.table.now)
+
+pub returns-then-len-gt-PARAMETERS-clause-grows : goal.returns-then-len-gt-PARAMETERS-clause-grows
+returns-then-len-gt-PARAMETERS-clause-grows c = c.laws.ensures c.args.table.now c.args.table.now c.requires (grows_refl c.args.table.now)
+
+pub returns-in_err-bound-clause-grows : goal.returns-in_err-bound-clause-grows
+returns-in_err-bound-clause-grows c = c.laws.ensures c.args.table.now c.bind.new.table c.requires c.in_err-bound.ensures.grows
+
+pub returns-clause-grows : goal.returns-clause-grows
+returns-clause-grows c =
+    c.laws.ensures c.args.table.now c.rule_over.new.table c.requires (grows_on c.args.table.now c.bind.new.table c.rule_over.new.table c.in_ok-bound.ensures.grows c.rule_over.ensures.grows)

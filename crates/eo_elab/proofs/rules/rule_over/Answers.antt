@@ -33,3 +33,6 @@ returns-clause-gives c =
     subst (GivesRule us c.rule_of_parts.result)
     (sym (over-parts (context_in t k) b s r c.in_ok-parts.ensures.gives.is ∙ (λ i. rule_of_parts (sym same i).names.signature (sym params i) s r)))
     c.rule_of_parts.ensures.gives
+
+pub rule_parts-requires : goal.rule_parts-requires
+rule_parts-requires c = record { ready = c.requires.bound.ready }

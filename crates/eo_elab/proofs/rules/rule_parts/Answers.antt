@@ -201,3 +201,9 @@ returns-clause-grows c =
     let g2 = grows_on t t1 t2 c.in_ok-assumption.ensures.grows c.in_ok-premises.ensures.grows in
     let g3 = grows_on t t2 t3 g2 c.in_ok-args.ensures.grows in
     grows_on t t4 c.term.new.table (grows_on t t3 t4 g3 c.in_ok-requirements.ensures.grows) c.in_ok-conclusion.ensures.grows
+
+pub optional-requires : goal.optional-requires
+optional-requires c = record { ready = c.requires.ready }
+
+pub returns-in_err-premises-clause-grows : goal.returns-in_err-premises-clause-grows
+returns-in_err-premises-clause-grows c = grows_on c.args.table.now c.optional.new.table c.premises.new.table c.in_ok-assumption.ensures.grows c.in_err-premises.ensures.grows

@@ -1,8 +1,7 @@
-use Rattle.std.proofs.Common.{◌≡◌, ◌<◌, [], ◌∷◌, ◌++◌, map, length, All, refl, sym, ap, subst, ◌∙◌, arith, rules}
+use Rattle.std.proofs.Common.{◌≡◌, ◌<◌, List, [], ◌∷◌, ◌++◌, map, length, All, refl, sym, ap, subst, ◌∙◌, arith, rules}
 use Rattle.std.specs.Prelude.{Ok}
-use Rattle.std.proofs.lemmas.Grind.{common_steps}
 use Rattle.std.proofs.lemmas.List.{length-append}
-use Rattle.std.proofs.lemmas.List.Elements.{All-nil, All-cons}
+use Rattle.std.proofs.lemmas.List.Elements.{All-nil, All-cons, All-push}
 use Rattle.eo_base.proofs.Answering.{fails, tells_on}
 use Rattle.eo_base.proofs.Elements.{push_same, push_below}
 use Rattle.eo_sexp.specs.Sexp.{Next, sexp_span}
@@ -11,24 +10,25 @@ use Rattle.eo_term.proofs.Growing.{grows_refl, grows_on}
 use Rattle.eo_term.specs.Terms.{tree_at}
 use Rattle.eo_term.specs.Growth.{tree_in, trees_in}
 use Rattle.eo_names.specs.declared.scope.Scope.{the_lemmas}
-use Rattle.eo_names.specs.Readers.{go_on, with_labels}
-use Rattle.eo_elab.specs.Forms.{tree_application}
+use Rattle.eo_names.specs.Readers.{Reader, go_on, with_labels}
+use Rattle.eo_elab.specs.Forms.{tree_application, FormFits}
 use Rattle.eo_names.specs.Binders.{variable, pair_local, list_of}
 use Rattle.eo_names.specs.Contexts.{is_list as is_list_tree}
-use Rattle.eo_term.specs.Tree.{Bits}
+use Rattle.eo_term.specs.Tree.{Tree, Bits}
 use Rattle.eo_elab.specs.Meaning.{label, labels_of}
 use Rattle.eo_elab.specs.Gives.{GivesTerm, GivesTerms, atom_told}
 use Rattle.eo_names.specs.Names.{Binding, binding_local, read_pairs, BindingsBelow}
 use Rattle.eo_names.specs.Refused.{told}
 use Rattle.eo_names.specs.Scopes.{bound_in, setting_in}
 use Rattle.eo_names.specs.Usage.{made_of, Suits}
+use Rattle.eo_names.specs.declared.usage.Use.{Use}
 use Rattle.eo_names.specs.Ready.{IsReady}
 use Rattle.eo_names.specs.Worlds.{World, world, made_in, bound_list_in}
-use Rattle.eo_elab.specs.Worlds.{place, labels_in, annotated_in, label_by, sexps, term_in, list_in, parts_in, application_in, form_in, headed_in, applied_in, use_in, all_in, let_in, binder_in, pairs_in, more_pairs_in}
-use Rattle.eo_elab.proofs.Giving.{adds_fault, labelled, relabelled, with_them, made_labels, list_labels, made_anywhere, place_stays, labels_grown, names_same, names_stay, names_join}
+use Rattle.eo_elab.specs.Worlds.{place, labels_in, annotated_in, label_by, sexps, term_in, list_in, parts_in, application_in, form_in, headed_in, applied_in, use_in, arguments_in, all_in, let_in, binder_in, pairs_in, more_pairs_in}
+use Rattle.eo_elab.proofs.Giving.{adds_fault, labelled, relabelled, with_them, made_labels, list_labels, made_anywhere, place_stays, labels_grown, names_same, names_stay, names_join, use_more, given_there}
 use Rattle.eo_sexp.proofs.Sizes.{size_inside}
 use Rattle.eo_elab.proofs.Sizes.{is_list, none_given, one_given, two_given, size_beside}
-use Rattle.eo_elab.proofs.WalkSteps.{world_inside, of_no_list, annotated_next, annotated_fault, annotated_none, of_nothing, of_list, all_end, all_next, all_fault, let_fault, let_next, let_not_two, binder_next, binder_pairs_fault, binder_list_fault, binder_none, pairs_no_list, pairs_listed, pairs_end, pairs_other, pairs_twice, pairs_next, pairs_fault}
+use Rattle.eo_elab.proofs.WalkSteps.{world_inside, of_no_list, no_binder, all_alone, annotated_next, annotated_fault, annotated_none, of_nothing, of_list, all_end, all_next, all_fault, let_fault, let_next, let_not_two, binder_next, binder_pairs_fault, binder_list_fault, binder_none, pairs_no_list, pairs_listed, pairs_end, pairs_other, pairs_twice, pairs_next, pairs_fault}
 use Rattle.eo_elab.proofs.walk.+walk.Goals as goal
 
 pub mean-returns-in-None-clause-gives : goal.mean-returns-in-None-clause-gives
@@ -394,7 +394,8 @@ mean_pair-returns-clause-adds t c =
     let more : read_pairs us c.push.new.self ≡ before ++ (name, tree_at us c.in_ok-id.id) ∷ [] =
     c.in_ok-push.ensures.reads (length ts) ts us c.requires.names (record { at = c.mean.ensures.grows.now.tree }) in
     record {
-      live = grind (arith, common_steps);
+      live = subst (BindingsBelow (length us)) (sym c.in_ok-push.ensures.pushed)
+          (All-push (λ (b : Binding). b.1 < length us) c.args.names.now (name, c.in_ok-id.id) (names_stay c.args.table.now c.mean.new.table c.args.names.now c.requires.names c.mean.ensures.grows.now).below c.in_ok-id.ensures.gives.live);
       pairs = λ rest.
           pairs_next w.names w.locals here c.args.pair.now c.in-Some.beside name rest before (tree_at us c.in_ok-id.id) (labels_in c.mean.new.table c.mean.new.labels) c.in-Some.ensures new c.in_ok-id.ensures.gives.is
           ∙ ap (λ ps. more_pairs_in w rest ps (labels_in c.mean.new.table c.mean.new.labels)) (sym more);
@@ -695,3 +696,51 @@ pub mean_all-returns-clause-count : goal.mean_all-returns-clause-count
 mean_all-returns-clause-count t c =
     let none = ap length c.in-None.ensures.steps.0 in
     omega (arith, none, c.loop-s.invariant.count)
+
+pub mean_list-mean_use-requires : goal.mean_list-mean_use-requires
+mean_list-mean_use-requires t c =
+    let small = ap size_of_all (one_given c.args.terms.now c.in-Some.head c.in-Some.args c.in-Some.ensures) in
+    let fits = subst (FormFits (length c.args.table.now.trees) (length c.in-Some.args)) c.in-Arguments.is c.in_ok-form_of.ensures.fits in
+    (omega (arith, small), (c.requires.ready, (c.requires.labels, (fits.0, fits.1))))
+
+pub mean_head-mean-requires : goal.mean_head-mean-requires
+mean_head-mean-requires t c = (omega arith, (c.requires.ready, c.requires.labels))
+
+pub mean_use-mean_arguments-requires : goal.mean_use-mean_arguments-requires
+mean_use-mean_arguments-requires t c = (omega arith, (c.requires.ready, c.requires.labels))
+
+pub mean_use-use_arguments-requires-clause-below : goal.mean_use-use_arguments-requires-clause-below
+mean_use-use_arguments-requires-clause-below t c = use_more c.args.table.now c.mean_arguments.new.table c.args.used.now c.mean_arguments.ensures.grows.now c.requires.below
+
+pub mean_arguments-mean_bound-requires : goal.mean_arguments-mean_bound-requires
+mean_arguments-mean_bound-requires t c = (omega arith, (c.requires.ready, c.requires.labels))
+
+pub mean_arguments-mean_all-requires : goal.mean_arguments-mean_all-requires
+mean_arguments-mean_all-requires t c =
+    let live : All (λ i. i < length c.args.table.now.trees) c.new.result = subst (All (λ i. i < length c.args.table.now.trees)) (sym c.new.ensures) (All-nil (λ i. i < length c.args.table.now.trees)) in
+    (omega arith, (c.requires.ready, (c.requires.labels, live)))
+
+pub mean_arguments-returns-in-Bind-clause-live : goal.mean_arguments-returns-in-Bind-clause-live
+mean_arguments-returns-in-Bind-clause-live t c = given_there told (All (λ i. i < length c.mean_bound.new.table.trees)) _ c.mean_bound.result _ c.mean_bound.ensures.gives
+
+pub mean_arguments-returns-in_default-clause-live : goal.mean_arguments-returns-in_default-clause-live
+mean_arguments-returns-in_default-clause-live t c = given_there told (All (λ i. i < length c.mean_all.new.table.trees)) _ c.mean_all.result _ c.mean_all.ensures.gives
+
+pub mean_arguments-returns-in-Bind-clause-gives : goal.mean_arguments-returns-in-Bind-clause-gives
+mean_arguments-returns-in-Bind-clause-gives t c = λ head.
+    let w = place c.args.table.now c.args.sig.now c.args.scope.now in
+    let here = labels_in c.args.table.now c.args.labels.now in
+    subst (λ (u : Use). GivesTerms c.mean_bound.new.table c.mean_bound.new.labels c.mean_bound.result (arguments_in w head c.args.args.now u here)) (sym c.in-Bind.is) c.mean_bound.ensures.gives
+
+pub mean_pair-push-requires : goal.mean_pair-push-requires
+mean_pair-push-requires t c = sym c.contains.ensures.bound ∙ c.if-contains.false
+
+pub mean_arguments-returns-in_default-clause-gives : goal.mean_arguments-returns-in_default-clause-gives
+mean_arguments-returns-in_default-clause-gives t c = λ head.
+    let w = place c.args.table.now c.args.sig.now c.args.scope.now in
+    let here = labels_in c.args.table.now c.args.labels.now in
+    let args = c.args.args.now in
+    let parts = parts_in w head args in
+    let step : arguments_in w head args c.args.used.now here ≡ all_in w (trees_in c.args.table.now c.new.result) args here =
+    ap (λ (r : Reader (List Tree)). r here) (no_binder parts c.args.used.now c.in_default.not-Bind) ∙ all_alone w.names w.locals here parts.arguments ∙ ap (λ is. all_in w (trees_in c.args.table.now is) args here) (sym c.new.ensures) in
+    subst (GivesTerms c.mean_all.new.table c.mean_all.new.labels c.mean_all.result) (sym step) c.mean_all.ensures.gives
