@@ -29,7 +29,8 @@ use std::alloc::{AllocError, Global};
 pub(crate) fn may_declare(sig: &Signature, name: &[u8]) -> bool
     ensures { (ts : List Tree) → result ≡ declarations.is_free_or_reference (context ts sig.now) name.now }
 {
-    sig.is_free(name) || is_reference_name(sig, name)
+    let free = sig.is_free(name);
+    free || is_reference_name(sig, name)
 }
 
 // Whether the reference file declared the name.

@@ -1,6 +1,7 @@
-use Rattle.std.proofs.Common.{◌≡◌, false, ap, sym, subst, ◌∙◌}
+use Rattle.std.proofs.Common.{◌≡◌, false, ap, refl, sym, subst, ◌∙◌}
 use Rattle.std.specs.Prelude.{Err}
 use Rattle.eo_shape.specs.Reading as shapes
+use Rattle.eo_term.proofs.Growing.{grows_refl}
 use Rattle.eo_shape.specs.Shapes.{command_of}
 use Rattle.eo_elab.specs.Declarations as declarations
 use Rattle.eo_elab.specs.Declaring.{declared, or_bad, IsKnown}
@@ -21,3 +22,6 @@ returns-in-Err-clause-gives c =
     let x = context_in c.args.table.now c.args.sig.now in
     let bad = subst IsKnown c.in-Err.ensures.refused c.requires.command in
     then-err (λ k. or_bad (declarations.declaration x k)) (command_of false c.args.s.now) _ c.in-Err.ensures.refused ∙ ap Err bad
+
+pub returns-in-Err-clause-grows : goal.returns-in-Err-clause-grows
+returns-in-Err-clause-grows c = record { table = grows_refl c.args.table.now; stays = record { signature = refl; macros = refl; below = c.requires.ready } }

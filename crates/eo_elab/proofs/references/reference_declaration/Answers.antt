@@ -1,5 +1,6 @@
-use Rattle.std.proofs.Common.{ap, ◌∙◌}
+use Rattle.std.proofs.Common.{ap, refl, ◌∙◌}
 use Rattle.eo_base.proofs.Answering.{fails}
+use Rattle.eo_term.proofs.Growing.{grows_refl}
 use Rattle.eo_shape.specs.Reading as shapes
 use Rattle.eo_elab.specs.Declarations.{reference_declaration, as_constant, as_macro}
 use Rattle.eo_elab.specs.Declaring.{or_bad}
@@ -72,3 +73,6 @@ pub returns-in_default-clause-gives : goal.returns-in_default-clause-gives
 returns-in_default-clause-gives c =
     let other = c.in_default in
     others_declare_nothing (reference_context c.args.table.now c.args.sig.now) c.args.command.now other.not-DeclareConst other.not-DeclareFun other.not-DeclareSort other.not-DefineFun other.not-DefineSort
+
+pub returns-in_default-clause-grows : goal.returns-in_default-clause-grows
+returns-in_default-clause-grows c = record { table = grows_refl c.args.table.now; stays = record { signature = refl; macros = refl; below = c.requires } }
