@@ -31,6 +31,12 @@ module _ (S : Signature) (call : Call → Eval Tree) (c : Begun) where
   pub tested_ends : (o : Outcome Tree) (v : Option Tree) → value_or_none o ≡ Value v → resume_with S call Tested (o, c) ≡ (Value (truth (is_some v)), c)
   tested_ends o v h = ap (λ r. on_outcome r (λ u. ends (Value (truth (is_some u)))) c) h
 
+  pub right_ends : (u : Option Tree) (o : Outcome Tree) (v : Option Tree) → value_or_none o ≡ Value v → resume_with S call (Right u) (o, c) ≡ (Value (truth (are_equal u v)), c)
+  right_ends u o v h = ap (λ r. on_outcome r (λ w. ends (Value (truth (are_equal u w)))) c) h
+
+  pub missed_ends : (t : Tree) (o : Outcome Tree) (v : Option Tree) → value_or_none o ≡ Value v → resume_with S call (Required None t) (o, c) ≡ (Stuck, c)
+  missed_ends t o v h = ap (λ (r : Outcome (Option Tree)). on_outcome r (λ w. if are_equal None w then eval_with S call t else ends Stuck) c) h
+
 -- Nodes that go on to wait for another term.
 module _ (S : Signature) (most : ℕ) (ts : List Tree) (s : Bound) (now : code_now.Now) (i p d l : ℕ) (live : p < length ts) where
   -- the argument that is waited for is that of what is evaluated

@@ -1,6 +1,7 @@
 -- Operators on values, by what they are on.
 use Rattle.std.specs.Prelude.{◌≡◌, ℕ, Bool, true, false, if◌then◌else◌, List, [], ◌∷◌, Option, Some, None, option_and_then, refl}
 use Rattle.std.proofs.Common.{sym, ◌∙◌, ap, arith, get_or, map, length}
+use Rattle.eo_term.specs.Arguments.{count_of}
 use Rattle.eo_term.specs.Terms.{tree_at}
 use Rattle.eo_term.specs.declared.OpName.{OpName}
 use Rattle.eo_term.specs.declared.OpCode.{OpCode}
@@ -11,7 +12,7 @@ use Rattle.eo_lists.specs.Outcomes.{IsListOperator}
 use Rattle.eo_ops.specs.Operators.{Literal, OpAnswer, Gives, IsStuck, IsOutOfRange, literals, literal_tree, answer_map, op_value, kind_value, on_literals, tree_op_value}
 use Rattle.eo_type.specs.Types.{typed_answer}
 use Rattle.eo_eval.specs.Evaluation.{Outcome, Value, Stuck, Tall, Call, Begun, Eval, ends, node, type_value, answer_value, value_or, on_outcome, operator_value}
-use Rattle.eo_eval.specs.Machine.{is_call, low_value, low_outcome, other_value, variable_value, name_value, made, made_of}
+use Rattle.eo_eval.specs.Machine.{is_call, low_value, low_outcome, other_value, variable_value, name_value, parts_of, made, made_of}
 
 pub not_listed : (S : Signature) (o : OpName) (vs : List Tree) → ((f n : Tree) (ts : List Tree) → by_operator f n o ts ≡ None) → list_value S o vs ≡ None
 not_listed S o [] h = refl
@@ -89,6 +90,34 @@ module _ (S : Signature) (call : Call → Eval Tree) (c : Begun) where
   made_is (Op (OpCode.Builtin o) ts) vs h = outcome_is (operator_value S o vs)
   made_is (Op (OpCode.Prog p) ts) vs h = absurd (cc h)
   made_is t vs h = refl
+
+-- What such a node makes, by the ids of the values.
+module _ (S : Signature) (ts : List Tree) (t : Tree) (xs : List ℕ) (count : length xs ≡ count_of (parts_of t)) where
+  pub var_made : (s : List ℕ) (u : Tree) (a : ℕ) → Var s u ≡ t → a ≡ get_or xs 0 a → low_value (Var s (tree_at ts a)) ≡ made_of S t (map (tree_at ts) xs)
+  var_made s u a is at = by xs (omega (arith, count, ap (λ y. count_of (parts_of y)) is)) at ∙ ap (λ y. made_of S y (map (tree_at ts) xs)) is
+    where
+      by : (ys : List ℕ) → length ys ≡ 1 → a ≡ get_or ys 0 a → low_value (Var s (tree_at ts a)) ≡ made_of S (Var s u) (map (tree_at ts) ys)
+      by [] n p = absurd (omega (arith, n))
+      by (x ∷ []) n p = ap (λ i. low_value (Var s (tree_at ts i))) p
+      by (x ∷ y ∷ ys) n p = absurd (omega (arith, n))
+
+  pub app_made : (f x : Tree) (a b : ℕ) → App f x ≡ t → a ≡ get_or xs 0 a → b ≡ get_or xs 1 b → low_value (App (tree_at ts a) (tree_at ts b)) ≡ made_of S t (map (tree_at ts) xs)
+  app_made f x a b is at next = by xs (omega (arith, count, ap (λ y. count_of (parts_of y)) is)) at next ∙ ap (λ y. made_of S y (map (tree_at ts) xs)) is
+    where
+      by : (ys : List ℕ) → length ys ≡ 2 → a ≡ get_or ys 0 a → b ≡ get_or ys 1 b → low_value (App (tree_at ts a) (tree_at ts b)) ≡ made_of S (App f x) (map (tree_at ts) ys)
+      by [] n p q = absurd (omega (arith, n))
+      by (y ∷ []) n p q = absurd (omega (arith, n))
+      by (y ∷ z ∷ []) n p q = λ i. low_value (App (tree_at ts (p i)) (tree_at ts (q i)))
+      by (y ∷ z ∷ w ∷ ys) n p q = absurd (omega (arith, n))
+
+  pub arr_made : (u v : Tree) (a b : ℕ) → Arr u v ≡ t → a ≡ get_or xs 0 a → b ≡ get_or xs 1 b → low_value (Arr (tree_at ts a) (tree_at ts b)) ≡ made_of S t (map (tree_at ts) xs)
+  arr_made u v a b is at next = by xs (omega (arith, count, ap (λ y. count_of (parts_of y)) is)) at next ∙ ap (λ y. made_of S y (map (tree_at ts) xs)) is
+    where
+      by : (ys : List ℕ) → length ys ≡ 2 → a ≡ get_or ys 0 a → b ≡ get_or ys 1 b → low_value (Arr (tree_at ts a) (tree_at ts b)) ≡ made_of S (Arr u v) (map (tree_at ts) ys)
+      by [] n p q = absurd (omega (arith, n))
+      by (y ∷ []) n p q = absurd (omega (arith, n))
+      by (y ∷ z ∷ []) n p q = λ i. low_value (Arr (tree_at ts (p i)) (tree_at ts (q i)))
+      by (y ∷ z ∷ w ∷ ys) n p q = absurd (omega (arith, n))
 
 -- The same by the ids of the arguments.
 module _ (S : Signature) (ts : List Tree) where

@@ -208,6 +208,10 @@ module _ (S : Signature) (most : ℕ) (ts : List Tree) (b : Begun) (scope : Boun
 
 -- The same of machines.
 
+-- the terms of what was taken off are there
+pub frame_popped : {k : Kept} {t : Terms} {typed : List (ℕ × ℕ)} {e : Machine} {f : code_frame.Frame} {now : code_now.Now} → PoppedReady k t typed e f now → IsFrame t.trees f
+frame_popped {t} {e} {f} r = (All-pop (IsFrame t.trees) (e.stack.frames.items ++ f ∷ []) e.stack.frames.items (Some f) refl r.stands.frames_live).1
+
 pub node_live : (ts : List Tree) (f : code_frame.Frame) → IsFrame ts f → node_of f < length ts
 node_live ts (frame.Parts i base d k) p = p
 node_live ts (frame.Choice i k) p = p.0
@@ -234,7 +238,7 @@ module _ (k : Kept) (t : Terms) (typed : List (ℕ × ℕ)) (e : Machine) (f : c
 
   pub concluded_keeps : PoppedReady k t typed e f now → Keeps S calls_limit t.trees b e.scope (node_of f) o ending
   concluded_keeps r = record {
-    term = node_live t.trees f ((All-pop (IsFrame t.trees) (e.stack.frames.items ++ f ∷ []) e.stack.frames.items (Some f) refl r.stands.frames_live).1);
+    term = node_live t.trees f (frame_popped r);
     value = h.live;
     again = ended_again S calls_limit t.trees b e.scope e.stack.frames.items e.stack.values.items f now result o node (λ j c. h.ends (call_within S calls_limit j) c) r.stands;
   }

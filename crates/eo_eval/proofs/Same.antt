@@ -1,15 +1,21 @@
 -- What is held stays right in a machine of which other parts have changed.
-use Rattle.std.specs.Prelude.{◌≡◌, ℕ, ◌<◌, All, List, [], ◌∷◌, length}
+use Rattle.std.specs.Prelude.{◌≡◌, ℕ, ◌<◌, All, List, [], ◌∷◌, length, reverse}
 use Rattle.std.proofs.Common.{sym, subst}
 use Rattle.std.proofs.Math.Path.{transport}
 use Rattle.eo_base.specs.Limits.{calls_limit}
 use Rattle.eo_term.specs.Terms.{Terms}
 use Rattle.eo_term.specs.Tree.{Tree}
+use Rattle.eo_term.proofs.Growing.{grows_refl}
+use Rattle.eo_sig.specs.Growth.{GrowsUnder}
 use Rattle.eo_sig.specs.Reading.{Kept, signature}
 use Rattle.eo_sig.specs.Signature.{Signature}
-use Rattle.eo_eval.specs.Evaluation.{Begun}
-use Rattle.eo_eval.specs.Reading.{begun, Remembers, Scoped}
-use Rattle.eo_eval.specs.Ready.{Held, Stands}
+use Rattle.eo_sig.proofs.Growing.{grows_under}
+use Rattle.eo_type.specs.Known.{Fit}
+use Rattle.eo_type.proofs.Fitting.{fit_grown}
+use Rattle.eo_eval.specs.Evaluation.{Begun, Call}
+use Rattle.eo_eval.specs.Machine.{Stacked, calls}
+use Rattle.eo_eval.specs.Reading.{begun, waiting, Remembers, Scoped}
+use Rattle.eo_eval.specs.Ready.{Held, Stands, Calling}
 use Rattle.eo_eval.specs.Scopes.{Bound, IsScope}
 use Rattle.eo_eval.specs.declared.calls.CallKey.{CallKey}
 use Rattle.eo_eval.specs.declared.machine.Machine.{Machine}
@@ -17,6 +23,7 @@ use Rattle.eo_eval.specs.declared.stack.Frame as code_frame
 use Rattle.eo_eval.specs.declared.stack.Frame.TheVariants as frame
 use Rattle.eo_eval.specs.declared.stack.Known as code_known
 use Rattle.eo_eval.specs.declared.stack.Now as code_now
+use Rattle.eo_eval.specs.declared.stack.Now.TheVariants as next
 
 module _ (k : Kept) (t : Terms) (typed : List (ℕ × ℕ)) (e later : Machine) (cs : later.calls.entries ≡ e.calls.entries) where
   abbrev KeyLive : CallKey × code_known.Known → Type 0
@@ -42,8 +49,29 @@ module _ (k : Kept) (t : Terms) (typed : List (ℕ × ℕ)) (e later : Machine) 
       let r = sym s in
       transport (λ i. Stands (signature t.trees k) calls_limit t.trees (begun t.trees (p i)) (r i) (g i) (u i) now) h
 
+  -- a call that is made next
+  pub calling_same : (x : Call) → later.stack.frames.items ≡ e.stack.frames.items → later.stack.values.items ≡ e.stack.values.items → later.scope ≡ e.scope → later.terms.entries ≡ e.terms.entries → later.locals.entries ≡ e.locals.entries → Calling k t typed e x → Calling k t typed later x
+  calling_same x f v s es ls h =
+      let p = sym cs in
+      let g = sym f in
+      let u = sym v in
+      let r = sym s in
+      record {
+        held = held_same es ls h.held;
+        stands = stands_same e.stack.frames.items later.stack.frames.items e.stack.values.items later.stack.values.items next.Deep f v s h.stands;
+        waits = transport (λ i. Stacked (signature t.trees k) calls_limit (begun t.trees (p i)) (waiting t.trees (begun t.trees (p i)) (r i) (reverse (g i)) (u i)) (calls (signature t.trees k) calls_limit x)) h.waits;
+      }
+
 -- what stands for parameters is right for the last call
 pub scope_of : (S : Signature) (ts : List Tree) (b : Begun) (scope : Bound) (fs : List code_frame.Frame) → Scoped S ts b scope fs → IsScope S ts b scope
 scope_of S ts b scope [] h = h
 scope_of S ts b scope (frame.Body place body base here kept ∷ fs) h = h.0
 scope_of S ts b scope (f ∷ fs) h = scope_of S ts b scope fs h
+
+-- a table that has not changed has grown from itself
+pub grows_same : {k : Kept} {t : Terms} {typed : List (ℕ × ℕ)} → Fit k t typed → GrowsUnder k t t
+grows_same {k} {t} fit = grows_under k t t fit.below (grows_refl t)
+
+-- and types that fit it do so where it has grown
+pub fit_since : {k : Kept} {old new : Terms} {typed : List (ℕ × ℕ)} → GrowsUnder k old new → Fit k old typed → Fit k new typed
+fit_since {k} {old} {new} {typed} u fit = fit_grown k old new u.stays u.table.now typed fit

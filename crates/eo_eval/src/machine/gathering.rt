@@ -168,9 +168,9 @@ impl Machine {
         ensures ready { IfOk result (λ n. Ready sig.now table.new types.now self.new n) }
         ensures grows { GrowsUnder sig.now table.old table.new }
     {
+        self.stack.wait(Frame::Handed { id, deepest })?;
         let args = Args::new(self.alloc, &self.stack.values.as_slice()[base..])?;
         self.stack.cut(base);
-        self.stack.wait(Frame::Handed { id, deepest })?;
         self.call(sig, table, types, CallKey { program, args }, left)
     }
 

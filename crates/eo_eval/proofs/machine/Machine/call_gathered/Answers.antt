@@ -1,13 +1,13 @@
-use Rattle.std.proofs.Common.{◌≡◌, ◌∙◌, [], ◌∷◌, ◌++◌, drop, map, List, ℕ, sym, ap, subst, refl}
+use Rattle.std.proofs.Common.{◌≡◌, ◌∙◌, take, drop, map, List, ℕ, sym, ap, subst, refl}
 use Rattle.std.proofs.lemmas.Result.{IfOk-weaker}
 use Rattle.eo_term.specs.Terms.{tree_at}
 use Rattle.eo_term.specs.Tree.{Tree}
 use Rattle.eo_eval.specs.Evaluation.{Call, Ended}
 use Rattle.eo_eval.specs.Ready.{Calling, told_in, told_call, told_rest}
-use Rattle.eo_eval.specs.declared.stack.Frame.TheVariants as frame
 use Rattle.eo_eval.specs.declared.stack.Now as code_now
 use Rattle.eo_eval.proofs.Gathered.{call_ready, call_told}
 use Rattle.eo_eval.proofs.Gathering.{values_from}
+use Rattle.eo_eval.proofs.Same.{grows_same}
 use Rattle.eo_eval.proofs.machine.Machine.call_gathered.Goals as goal
 
 pub call-requires-clause-calling : goal.call-requires-clause-calling
@@ -16,12 +16,12 @@ call-requires-clause-calling c =
     let t = c.args.table.now in
     let typed = c.args.types.now in
     let e = c.args.self.now in
-    let later = record e { stack = c.wait.new.self } in
+    let later = record e { stack = c.cut.new.self } in
     let h = c.requires.gathering in
-    let fs = c.in_ok-wait.ensures.frames ∙ ap (λ gs. gs ++ frame.Handed c.args.id c.args.deepest ∷ []) c.cut.ensures.frames in
-    let values = c.wait.ensures.values ∙ c.cut.ensures.values in
+    let fs = c.cut.ensures.frames ∙ c.in_ok-wait.ensures.frames in
+    let values = c.cut.ensures.values ∙ ap (take c.args.base) c.wait.ensures.values in
     let all : c.in_ok-args.args ≡ drop c.args.base e.stack.values.items =
-    c.in_ok-args.ensures ∙ values_from c.args.base e.stack.values.items c.as_slice.result.now c.as_slice.ensures.value in
+    c.in_ok-args.ensures ∙ values_from c.args.base e.stack.values.items c.as_slice.result.now (c.as_slice.ensures.value ∙ c.wait.ensures.values) in
     let call : List ℕ → Call = λ xs. record { program = c.args.program; arguments = map (tree_at t.trees) xs } in
     subst (λ xs. Calling k t typed later (call xs)) (sym all) (call_ready k t typed e c.args.id c.args.base c.args.deepest h c.requires.all c.args.program c.requires.program later fs values refl refl refl refl)
 
@@ -31,15 +31,21 @@ returns-clause-told c =
     let t = c.args.table.now in
     let typed = c.args.types.now in
     let e = c.args.self.now in
-    let later = record e { stack = c.wait.new.self } in
+    let later = record e { stack = c.cut.new.self } in
     let h = c.requires.gathering in
-    let fs = c.in_ok-wait.ensures.frames ∙ ap (λ gs. gs ++ frame.Handed c.args.id c.args.deepest ∷ []) c.cut.ensures.frames in
-    let values = c.wait.ensures.values ∙ c.cut.ensures.values in
+    let fs = c.cut.ensures.frames ∙ c.in_ok-wait.ensures.frames in
+    let values = c.cut.ensures.values ∙ ap (take c.args.base) c.wait.ensures.values in
     let all : c.in_ok-args.args ≡ drop c.args.base e.stack.values.items =
-    c.in_ok-args.ensures ∙ values_from c.args.base e.stack.values.items c.as_slice.result.now c.as_slice.ensures.value in
+    c.in_ok-args.ensures ∙ values_from c.args.base e.stack.values.items c.as_slice.result.now (c.as_slice.ensures.value ∙ c.wait.ensures.values) in
     let call : List ℕ → Call = λ xs. record { program = c.args.program; arguments = map (tree_at t.trees) xs } in
     let before : Ended Tree = told_rest k t e c.args.id c.args.base c.args.left in
     let same : told_call k t later (call c.in_ok-args.args) c.args.left ≡ before =
     ap (λ xs. told_call k t later (call xs) c.args.left) all ∙ call_told k t typed e c.args.id c.args.base c.args.deepest h c.requires.all c.args.program c.requires.program later fs values refl refl c.args.left in
     let P : Ended Tree → code_now.Now → Type 0 = λ r n. told_in k c.call.new.table c.call.new.self n ≡ r in
     IfOk-weaker c.call.result (P (told_call k t later (call c.in_ok-args.args) c.args.left)) (P before) (λ n g. g ∙ same) c.call.ensures.told
+
+pub returns-in_err-wait-clause-grows : goal.returns-in_err-wait-clause-grows
+returns-in_err-wait-clause-grows c = grows_same c.requires.gathering.held.fit
+
+pub returns-in_err-args-clause-grows : goal.returns-in_err-args-clause-grows
+returns-in_err-args-clause-grows c = grows_same c.requires.gathering.held.fit

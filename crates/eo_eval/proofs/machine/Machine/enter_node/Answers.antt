@@ -7,6 +7,7 @@ use Rattle.eo_eval.specs.Reading.{begun, is_par}
 use Rattle.eo_eval.specs.Scopes.{standing}
 use Rattle.eo_eval.proofs.Entered.{whole_put_var, whole_put_app, whole_put_arr}
 use Rattle.eo_eval.proofs.Itself.{arrow_entered, stuck_told, stuck_stands}
+use Rattle.eo_eval.proofs.Same.{grows_same}
 use Rattle.eo_eval.proofs.machine.Machine.enter_node.Goals as goal
 
 pub enter_parts-requires-clause-node : goal.enter_parts-requires-clause-node
@@ -53,3 +54,11 @@ returns-in-Qar-clause-ready c =
     let vs = e.stack.values.items in
     let s = c.requires.ready.stands in
     record { held = c.requires.ready.held; stands = stuck_stands S calls_limit ts b e.scope fs vs c.args.id c.args.left Stuck (arrow_entered S calls_limit ts e.scope c.args.id _ _ _ c.in-Qar.ensures.tree) refl s }
+
+pub returns-in-Par : goal.returns-in-Par
+returns-in-Par c =
+    let fit = c.requires.ready.held.fit in
+    record { told = c.enter_par.ensures.told; ready = c.enter_par.ensures.ready; fits = fit; grows = grows_same fit }
+
+pub returns-in-Qar-clause-grows : goal.returns-in-Qar-clause-grows
+returns-in-Qar-clause-grows c = grows_same c.requires.ready.held.fit
