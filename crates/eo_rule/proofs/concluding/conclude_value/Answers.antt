@@ -1,11 +1,13 @@
 use Rattle.std.proofs.Common.{sym, ap, ◌∙◌, subst}
 use Rattle.eo_base.specs.Checks.{Checked}
 use Rattle.eo_sig.specs.Reading.{read_rule, signature}
+use Rattle.eo_sig.specs.Usable.{IsUsable}
 use Rattle.eo_term.specs.Tree.{Tree, is_tall}
 use Rattle.eo_pattern.specs.Matching.{put}
 use Rattle.eo_pattern.specs.Slots.{held}
 use Rattle.eo_eval.specs.Evaluation.{eval0}
 use Rattle.eo_eval.specs.Faults.{value_or_fault}
+use Rattle.eo_type.proofs.Fitting.{grows_under_on}
 use Rattle.eo_rule.specs.Answers.{of_term, GivesTerm}
 use Rattle.eo_rule.specs.Instance.{guarded_conclusion}
 use Rattle.eo_rule.specs.Uses.{conclude_value}
@@ -34,3 +36,32 @@ returns-clause-gives c =
     subst (λ (o : Checked Tree). GivesTerm c.value_of.new.table c.value_of.result o)
     ((λ k. value_or_fault (eval0 (same k) (tree k))) ∙ sym (conclude-low S u low))
     c.value_of.ensures.gives
+
+pub value_of-requires : goal.value_of-requires
+value_of-requires c =
+    let k = c.args.sig.now in
+    let t = c.args.table.now in
+    let mid = c.put_conclusion.new.table in
+    let e = c.in_ok-id.ensures in
+    let h = c.requires.serves in
+    record {
+      live = e.gives.live;
+      serves = record {
+        usable = subst IsUsable (sym (c.laws.ensures t mid h.fit.below e.grows).stays.signature) h.usable;
+        fit = c.laws-2.ensures.grown k t mid e.grows.now h.fit;
+      };
+    }
+
+pub returns-in_err-id-clause-fits : goal.returns-in_err-id-clause-fits
+returns-in_err-id-clause-fits c =
+    c.laws-2.ensures.grown c.args.sig.now c.args.table.now c.put_conclusion.new.table c.in_err-id.ensures.grows.now c.requires.serves.fit
+
+pub returns-in_err-id-clause-grows : goal.returns-in_err-id-clause-grows
+returns-in_err-id-clause-grows c =
+    c.laws.ensures c.args.table.now c.put_conclusion.new.table c.requires.serves.fit.below c.in_err-id.ensures.grows
+
+pub returns-clause-grows : goal.returns-clause-grows
+returns-clause-grows c =
+    let t = c.args.table.now in
+    let mid = c.put_conclusion.new.table in
+    grows_under_on c.args.sig.now t mid c.value_of.new.table (c.laws.ensures t mid c.requires.serves.fit.below c.in_ok-id.ensures.grows) c.value_of.ensures.grows

@@ -1,4 +1,5 @@
 use Rattle.eo_sig.specs.Reading.{read_rule}
+use Rattle.eo_term.proofs.Growing.{grows_on}
 use Rattle.eo_pattern.specs.Matching.{put}
 use Rattle.eo_pattern.specs.Slots.{held}
 use Rattle.eo_rule.specs.Instance.{guarded_conclusion}
@@ -18,3 +19,14 @@ returns-clause-gives c =
     let same = (c.growing_law.ensures.holds c.args.subst.now t mid c.requires.below c.in_ok-guarded.ensures.grows.now).held in
     let tree = c.in_ok-guarded.ensures.gives.tree in
     builds_put c.substitute.new.table (held mid.trees c.args.subst.now) mid.trees c.in_ok-guarded.guarded _ c.substitute.result (λ k. put (same k) (tree k)) c.substitute.ensures.made c.substitute.ensures.tall
+
+pub substitute-requires : goal.substitute-requires
+substitute-requires c =
+    let g = c.in_ok-guarded.ensures in
+    record {
+      live = g.gives.live;
+      below = (c.growing_law.ensures.holds c.args.subst.now c.args.table.now c.guarded_conclusion.new.table c.requires.below g.grows.now).below;
+    }
+
+pub returns-clause-grows : goal.returns-clause-grows
+returns-clause-grows c = grows_on _ _ _ c.in_ok-guarded.ensures.grows c.substitute.ensures.grows

@@ -4,6 +4,7 @@ use Rattle.eo_base.specs.Checks.{Checked}
 use Rattle.eo_sig.specs.Reading.{read_premises, read_rule, signature}
 use Rattle.eo_term.specs.Terms.{tree_at}
 use Rattle.eo_term.specs.Tree.{Tree}
+use Rattle.eo_term.proofs.Growing.{grows_refl}
 use Rattle.eo_pattern.specs.Matching.{Assignment}
 use Rattle.eo_rule.specs.Answers.{told, GivesAssignment}
 use Rattle.eo_rule.specs.Reading.{read_use}
@@ -51,3 +52,19 @@ returns-in_ok-list-in-Joined-clause-gives c =
     subst (λ (o : Checked Assignment). GivesAssignment mid c.match_use-in-Joined.result c.match_use-in-Joined.new.subst o)
     ((λ k. match_use (rule k) (given k).assumed (list ∷ []) (given k).arguments) ∙ sym (matched-joined S r u _ c.in-Joined.with list shape is))
     c.match_use-in-Joined.ensures
+
+pub returns-in_err-list-in-Joined-clause-grows : goal.returns-in_err-list-in-Joined-clause-grows
+returns-in_err-list-in-Joined-clause-grows c = c.in_err-list-in-Joined.ensures.grows
+
+pub returns-in-Each-clause-grows : goal.returns-in-Each-clause-grows
+returns-in-Each-clause-grows c =
+    let t = c.args.table.now in
+    c.laws.ensures t t c.requires.below (grows_refl t)
+
+pub match_use-requires-in-Joined-clause-rule : goal.match_use-requires-in-Joined-clause-rule
+match_use-requires-in-Joined-clause-rule c =
+    (c.growing_law.ensures.rule c.args.rule.now c.args.table.now c.join.new.table c.requires.rule c.in_ok-list-in-Joined.ensures.grows.table.now).below
+
+pub match_use-requires-in-Joined-clause-live : goal.match_use-requires-in-Joined-clause-live
+match_use-requires-in-Joined-clause-live c =
+    (c.growing_law.ensures.given c.args.given.now c.args.table.now c.join.new.table c.requires.live c.in_ok-list-in-Joined.ensures.grows.table.now).below

@@ -57,3 +57,15 @@ loop-left-preserved c =
       grows = c.table_law.ensures.later _ _ _ v.grows c.under.ensures.grows;
       tree = c.in_ok-made.ensures.gives.tree ∙ made;
     }
+
+pub under-requires : goal.under-requires
+under-requires c =
+    let ts = c.args.table.now.trees in
+    let v = c.loop-left.invariant in
+    let i = c.loop-left.left - 1 in
+    let rs = c.as_slice-requirements.result.now in
+    let q = c.index-requirements-left.result in
+    let in_range : i < length rs = omega (arith, v.within, c.loop-left-test.true) in
+    let live = all_at (λ (z : ℕ × ℕ). (z.0 < length ts) × (z.1 < length ts)) rs i q (subst (All (λ (z : ℕ × ℕ). (z.0 < length ts) × (z.1 < length ts))) (sym c.as_slice-requirements.ensures) c.requires.requirements) in_range c.index-requirements-left.is in
+    let more = v.grows.now.more_trees in
+    record { first = omega (arith, live.0, more); second = omega (arith, live.1, more); live = v.live }

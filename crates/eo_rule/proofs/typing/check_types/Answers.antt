@@ -73,3 +73,13 @@ returns-in_err-check_parameter-clause-gives c =
     let x = c.in_err-check_parameter.field-0.0 in
     assignment_fails c.check_parameter.new.table c.check_parameter.new.subst _ (check_types S σ 0 ps) x (check_types S σ i (drop i ps)) c.from_residual.ensures.1 (types-from-start S σ i ps)
     (subst (λ (o : Checked Assignment). Tells told x o) ((λ k. check_type (v.grows.stays.signature k) τ (tree k) (τ i)) ∙ sym step) c.in_err-check_parameter.ensures.gives)
+
+pub check_parameter-requires : goal.check_parameter-requires
+check_parameter-requires c =
+    let ts = c.args.table.now.trees in
+    let v = c.loop-left.invariant in
+    let i = c.loop-left.left - 1 in
+    let a = c.index-params-left.result in
+    let in_range : i < length c.args.params.now = omega (arith, v.within, c.loop-left-test.true) in
+    let live : a.ty < length ts = all_at (λ (p : Param). p.ty < length ts) c.args.params.now i a c.requires.params in_range c.index-params-left.is in
+    record { ty = omega (arith, live, v.grows.table.now.more_trees); below = v.below; fit = v.fits }

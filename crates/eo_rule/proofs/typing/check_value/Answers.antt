@@ -1,4 +1,4 @@
-use Rattle.std.proofs.Common.{◌≡◌, [], ◌∷◌, Ok, sym, ◌∙◌, subst}
+use Rattle.std.proofs.Common.{◌≡◌, [], ◌∷◌, Ok, sym, ◌∙◌, subst, arith}
 use Rattle.eo_base.specs.Answers.{Tells}
 use Rattle.eo_base.specs.Checks.{Checked, value_or}
 use Rattle.eo_base.specs.declared.FaultName.TheVariants.{IllTyped}
@@ -8,6 +8,7 @@ use Rattle.eo_term.specs.Tree.{Tree}
 use Rattle.eo_pattern.specs.Matching.{Assignment, put, matching}
 use Rattle.eo_pattern.specs.Slots.{held}
 use Rattle.eo_type.specs.Types.{settled}
+use Rattle.eo_type.proofs.Fitting.{grows_under_on}
 use Rattle.eo_rule.specs.Answers.{told, GivesAssignment}
 use Rattle.eo_rule.specs.Uses.{typed_or, typed, check_value}
 use Rattle.eo_rule.proofs.Steps.{assignment_fails}
@@ -60,3 +61,51 @@ returns-clause-gives c =
     subst (λ (o : Checked Assignment). GivesAssignment new c.match_list.result c.match_list.new.subst o)
     ((λ k. value_or IllTyped (matching ((second.held ∙ first.held) k) (u ∷ []) (found k ∷ []))) ∙ sym (value-last S σ d v _ u c.in_ok-found.ensures.gives.is settles))
     c.match_list.ensures
+
+pub value_type-requires : goal.value_type-requires
+value_type-requires c = record { live = c.requires.value; fit = c.requires.fit }
+
+pub settled-requires : goal.settled-requires
+settled-requires c =
+    let g = c.in_ok-found.ensures.grows.table.now in
+    record {
+      live = omega (arith, c.requires.ty, g.more_trees);
+      below = (c.growing_law.ensures.holds c.args.subst.now c.args.table.now c.value_type.new.table c.requires.below g).below;
+    }
+
+pub match_list-requires-clause-below : goal.match_list-requires-clause-below
+match_list-requires-clause-below c =
+    let s = c.args.subst.now in
+    let mid = c.value_type.new.table in
+    let first = c.growing_law.ensures.holds s c.args.table.now mid c.requires.below c.in_ok-found.ensures.grows.table.now in
+    (c.growing_law.ensures.holds s mid c.settled.new.table first.below c.in_ok-expected.ensures.grows.now).below
+
+pub returns-in_err-found-clause-fits : goal.returns-in_err-found-clause-fits
+returns-in_err-found-clause-fits c = c.in_err-found.ensures.fits
+
+pub returns-in_err-found-clause-grows : goal.returns-in_err-found-clause-grows
+returns-in_err-found-clause-grows c = c.in_err-found.ensures.grows
+
+pub returns-in_err-expected-clause-fits : goal.returns-in_err-expected-clause-fits
+returns-in_err-expected-clause-fits c =
+    c.laws-2.ensures.grown c.args.sig.now c.value_type.new.table c.settled.new.table c.in_err-expected.ensures.grows.now c.in_ok-found.ensures.fits
+
+pub returns-in_err-expected-clause-grows : goal.returns-in_err-expected-clause-grows
+returns-in_err-expected-clause-grows c =
+    let k = c.args.sig.now in
+    let mid = c.value_type.new.table in
+    let new = c.settled.new.table in
+    let first = c.in_ok-found.ensures.grows in
+    grows_under_on k c.args.table.now mid new first (c.laws.ensures mid new first.stays.below c.in_err-expected.ensures.grows)
+
+pub returns-clause-fits : goal.returns-clause-fits
+returns-clause-fits c =
+    c.laws-2.ensures.grown c.args.sig.now c.value_type.new.table c.settled.new.table c.in_ok-expected.ensures.grows.now c.in_ok-found.ensures.fits
+
+pub returns-clause-grows : goal.returns-clause-grows
+returns-clause-grows c =
+    let k = c.args.sig.now in
+    let mid = c.value_type.new.table in
+    let new = c.settled.new.table in
+    let first = c.in_ok-found.ensures.grows in
+    grows_under_on k c.args.table.now mid new first (c.laws.ensures mid new first.stays.below c.in_ok-expected.ensures.grows)

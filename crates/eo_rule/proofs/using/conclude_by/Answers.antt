@@ -2,6 +2,8 @@ use Rattle.std.proofs.Common.{sym, subst}
 use Rattle.eo_base.specs.Checks.{Checked}
 use Rattle.eo_sig.specs.Reading.{read_rule, signature}
 use Rattle.eo_term.specs.Tree.{Tree}
+use Rattle.eo_term.proofs.Growing.{grows_refl}
+use Rattle.eo_sig.proofs.Growing.{grows_under}
 use Rattle.eo_rule.specs.Answers.{GivesTerm}
 use Rattle.eo_rule.specs.Reading.{read_use}
 use Rattle.eo_rule.specs.Uses.{check_kind, rule_conclusion}
@@ -26,3 +28,8 @@ returns-clause-gives c =
     subst (λ (o : Checked Tree). GivesTerm c.conclude_checked.new.table c.conclude_checked.result o)
     (sym (rule-rest S r u (c.in_ok-check_kind.ensures t.trees).is))
     c.conclude_checked.ensures.gives
+
+pub returns-in_err-check_kind-clause-grows : goal.returns-in_err-check_kind-clause-grows
+returns-in_err-check_kind-clause-grows c =
+    let t = c.args.table.now in
+    grows_under c.args.sig.now t t c.requires.serves.fit.below (grows_refl t)

@@ -1,11 +1,14 @@
-use Rattle.std.proofs.Common.{map, option_map, sym, ◌∙◌, subst}
+use Rattle.std.proofs.Common.{◌<◌, All, length, map, option_map, sym, ◌∙◌, subst, arith}
 use Rattle.eo_base.specs.Answers.{Tells}
 use Rattle.eo_base.specs.Checks.{Checked, Passed}
 use Rattle.eo_sig.specs.Reading.{read_parameter, read_rule, signature}
+use Rattle.eo_sig.specs.Usable.{IsUsable}
+use Rattle.eo_sig.specs.declared.records.Param.{Param}
 use Rattle.eo_term.specs.Terms.{tree_at}
 use Rattle.eo_term.specs.Tree.{Tree}
 use Rattle.eo_pattern.specs.Matching.{Assignment, put}
 use Rattle.eo_pattern.specs.Slots.{held}
+use Rattle.eo_type.proofs.Fitting.{grows_under_on}
 use Rattle.eo_rule.specs.Answers.{told, GivesTerm}
 use Rattle.eo_rule.specs.Instance.{guarded_conclusion}
 use Rattle.eo_rule.specs.Reading.{read_use}
@@ -126,3 +129,87 @@ returns-clause-value c =
     let three = c.conclude_value.new.table in
     let value = value_stays three four c.in_ok-formula.formula c.in_ok-check_formula.ensures.grows.table.now c.in_ok-formula.ensures.value in
     stated_value four c.check_stated.result (option_map (tree_at four.trees) c.args.given.now.stated) c.in_ok-formula.formula value c.check_stated.ensures
+
+pub check_types-requires : goal.check_types-requires
+check_types-requires c =
+    let t = c.args.table.now in
+    let one = c.match_given.new.table in
+    let m = c.in_ok-match_given.ensures in
+    let rule = (c.growing_law.ensures.rule c.args.rule.now t one c.requires.rule m.grows.table.now).below in
+    record {
+      params = subst (All (λ (p : Param). p.ty < length one.trees)) (sym c.as_slice.ensures) rule.params;
+      below = m.gives.live;
+      fit = c.laws-2.ensures.grown c.args.sig.now t one m.grows.table.now c.requires.serves.fit;
+    }
+
+pub conclude_value-requires : goal.conclude_value-requires
+conclude_value-requires c =
+    let t = c.args.table.now in
+    let m = c.in_ok-match_given.ensures in
+    let y = c.in_ok-check_types.ensures in
+    record {
+      rule = (c.growing_law.ensures.rule c.args.rule.now t c.check_types.new.table c.requires.rule (y.grows.table.since t m.grows.table.now)).below;
+      below = y.gives.live;
+      serves = record { usable = subst IsUsable (sym (y.grows.stays.signature ∙ m.grows.stays.signature)) c.requires.serves.usable; fit = y.fits };
+    }
+
+pub check_formula-requires : goal.check_formula-requires
+check_formula-requires c = record { live = c.in_ok-formula.ensures.gives.live; fit = c.in_ok-formula.ensures.fits }
+
+pub check_stated-requires : goal.check_stated-requires
+check_stated-requires c =
+    let t = c.args.table.now in
+    let f = c.in_ok-check_formula.ensures.grows.table in
+    let since = f.since t (c.in_ok-formula.ensures.grows.table.since t (c.in_ok-check_types.ensures.grows.table.since t c.in_ok-match_given.ensures.grows.table.now)) in
+    record {
+      stated = (c.growing_law.ensures.given c.args.given.now t c.check_formula.new.table c.requires.live since).below.stated;
+      live = omega (arith, c.in_ok-formula.ensures.gives.live, f.now.more_trees);
+    }
+
+pub returns-in_err-match_given-clause-fits : goal.returns-in_err-match_given-clause-fits
+returns-in_err-match_given-clause-fits c =
+    c.laws-2.ensures.grown c.args.sig.now c.args.table.now c.match_given.new.table c.in_err-match_given.ensures.grows.table.now c.requires.serves.fit
+
+pub returns-in_err-match_given-clause-grows : goal.returns-in_err-match_given-clause-grows
+returns-in_err-match_given-clause-grows c = c.in_err-match_given.ensures.grows
+
+pub returns-in_err-check_types-clause-fits : goal.returns-in_err-check_types-clause-fits
+returns-in_err-check_types-clause-fits c = c.in_err-check_types.ensures.fits
+
+pub returns-in_err-check_types-clause-grows : goal.returns-in_err-check_types-clause-grows
+returns-in_err-check_types-clause-grows c =
+    grows_under_on c.args.sig.now c.args.table.now c.match_given.new.table c.check_types.new.table c.in_ok-match_given.ensures.grows c.in_err-check_types.ensures.grows
+
+pub returns-in_err-formula-clause-fits : goal.returns-in_err-formula-clause-fits
+returns-in_err-formula-clause-fits c = c.in_err-formula.ensures.fits
+
+pub returns-in_err-formula-clause-grows : goal.returns-in_err-formula-clause-grows
+returns-in_err-formula-clause-grows c =
+    let k = c.args.sig.now in
+    let t = c.args.table.now in
+    let two = c.check_types.new.table in
+    grows_under_on k t two c.conclude_value.new.table (grows_under_on k t c.match_given.new.table two c.in_ok-match_given.ensures.grows c.in_ok-check_types.ensures.grows) c.in_err-formula.ensures.grows
+
+pub returns-in_err-check_formula-clause-fits : goal.returns-in_err-check_formula-clause-fits
+returns-in_err-check_formula-clause-fits c = c.in_err-check_formula.ensures.fits
+
+pub returns-in_err-check_formula-clause-grows : goal.returns-in_err-check_formula-clause-grows
+returns-in_err-check_formula-clause-grows c =
+    let k = c.args.sig.now in
+    let t = c.args.table.now in
+    let two = c.check_types.new.table in
+    let three = c.conclude_value.new.table in
+    let types = grows_under_on k t c.match_given.new.table two c.in_ok-match_given.ensures.grows c.in_ok-check_types.ensures.grows in
+    grows_under_on k t three c.check_formula.new.table (grows_under_on k t two three types c.in_ok-formula.ensures.grows) c.in_err-check_formula.ensures.grows
+
+pub returns-clause-fits : goal.returns-clause-fits
+returns-clause-fits c = c.in_ok-check_formula.ensures.fits
+
+pub returns-clause-grows : goal.returns-clause-grows
+returns-clause-grows c =
+    let k = c.args.sig.now in
+    let t = c.args.table.now in
+    let two = c.check_types.new.table in
+    let three = c.conclude_value.new.table in
+    let types = grows_under_on k t c.match_given.new.table two c.in_ok-match_given.ensures.grows c.in_ok-check_types.ensures.grows in
+    grows_under_on k t three c.check_formula.new.table (grows_under_on k t two three types c.in_ok-formula.ensures.grows) c.in_ok-check_formula.ensures.grows
