@@ -1,5 +1,5 @@
 -- Operators on values, by what they are on.
-use Rattle.std.specs.Prelude.{◌≡◌, ℕ, Bool, true, false, if◌then◌else◌, List, [], ◌∷◌, Option, Some, None, option_and_then, refl}
+use Rattle.std.specs.Prelude.{◌≡◌, ◌≢◌, ℕ, Bool, true, false, if◌then◌else◌, List, [], ◌∷◌, Option, Some, None, option_and_then, refl}
 use Rattle.std.proofs.Common.{sym, ◌∙◌, ap, arith, get_or, map, length}
 use Rattle.eo_term.specs.Arguments.{count_of}
 use Rattle.eo_term.specs.Terms.{tree_at}
@@ -10,7 +10,7 @@ use Rattle.eo_sig.specs.Signature.{Signature}
 use Rattle.eo_lists.specs.Lists.{by_operator, list_value, terminator_of_tree}
 use Rattle.eo_lists.specs.Outcomes.{IsListOperator}
 use Rattle.eo_ops.specs.Operators.{Literal, OpAnswer, Gives, IsStuck, IsOutOfRange, literals, literal_tree, answer_map, op_value, kind_value, on_literals, tree_op_value}
-use Rattle.eo_type.specs.Types.{typed_answer}
+use Rattle.eo_type.specs.Types.{typed_answer, value_type}
 use Rattle.eo_eval.specs.Evaluation.{Outcome, Value, Stuck, Tall, Call, Begun, Eval, ends, node, type_value, answer_value, value_or, on_outcome, operator_value}
 use Rattle.eo_eval.specs.Machine.{is_call, low_value, low_outcome, other_value, variable_value, name_value, parts_of, made, made_of}
 
@@ -61,6 +61,13 @@ literal_operator S o vs h = ap (λ l. value_or l (answer_value (tree_op_value o 
     none OpName.ListSetof h f n ts = absurd (h refl)
     none OpName.ListMinclude h f n ts = absurd (h refl)
     none o h f n ts = refl
+
+-- one that has no case of its own
+pub other_is : (S : Signature) (o : OpName) (vs : List Tree) → o ≢ OpName.Typeof → o ≢ OpName.Var → o ≢ OpName.Nameof → other_value S o vs ≡ operator_value S o vs
+other_is S OpName.Typeof vs a b c = absurd (a refl)
+other_is S OpName.Var vs a b c = absurd (b refl)
+other_is S OpName.Nameof vs a b c = absurd (c refl)
+other_is S o vs a b c = refl
 
 -- What a node makes of the values of its parts.
 module _ (S : Signature) (call : Call → Eval Tree) (c : Begun) where
@@ -126,6 +133,11 @@ module _ (S : Signature) (ts : List Tree) where
   variable_given (x ∷ []) a b n p q = absurd (omega (arith, n))
   variable_given (x ∷ y ∷ []) a b n p q = (λ i. variable_value (tree_at ts (p i)) (tree_at ts (q i))) ∙ sym (variable_is S (tree_at ts x) (tree_at ts y))
   variable_given (x ∷ y ∷ z ∷ zs) a b n p q = absurd (omega (arith, n))
+
+  pub type_given : (xs : List ℕ) (a : ℕ) → length xs ≡ 1 → a ≡ get_or xs 0 a → low_outcome (type_value (value_type S (tree_at ts a))) ≡ low_outcome (operator_value S OpName.Typeof (map (tree_at ts) xs))
+  type_given [] a n p = absurd (omega (arith, n))
+  type_given (x ∷ []) a n p = ap (λ i. low_outcome (type_value (value_type S (tree_at ts i)))) p
+  type_given (x ∷ y ∷ zs) a n p = absurd (omega (arith, n))
 
   pub name_given : (xs : List ℕ) (a : ℕ) → length xs ≡ 1 → a ≡ get_or xs 0 a → name_value (tree_at ts a) ≡ low_outcome (operator_value S OpName.Nameof (map (tree_at ts) xs))
   name_given [] a n p = absurd (omega (arith, n))

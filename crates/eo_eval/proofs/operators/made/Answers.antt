@@ -1,12 +1,12 @@
-use Rattle.std.proofs.Common.{◌≡◌, ◌∙◌, ap, subst}
+use Rattle.std.proofs.Common.{◌≡◌, ◌∙◌, sym, ap, subst}
 use Rattle.std.specs.Prelude.{IfOk}
 use Rattle.std.proofs.lemmas.Result.{IfOk-weaker}
-use Rattle.eo_term.specs.Arguments.{arguments_of}
+use Rattle.eo_term.specs.Arguments.{arguments_of, count_of}
 use Rattle.eo_term.specs.Growth.{tree_in, trees_in}
-use Rattle.eo_term.specs.Terms.{tree_at, text_at}
+use Rattle.eo_term.specs.Terms.{tree_at, text_at, HasArity}
 use Rattle.eo_term.specs.Tree.{Var, App, Arr}
 use Rattle.eo_sig.specs.Reading.{signature}
-use Rattle.eo_eval.specs.Machine.{low_value, made_of}
+use Rattle.eo_eval.specs.Machine.{low_value, made_of, parts_of}
 use Rattle.eo_eval.specs.Reading.{outcome_in}
 use Rattle.eo_eval.proofs.OnValues.{var_made, app_made, arr_made}
 use Rattle.eo_eval.proofs.Same.{grows_same}
@@ -139,4 +139,13 @@ returns-in-Str c =
       live = tt;
       fits = c.requires.fits;
       grows = grows_same c.requires.fits;
+    }
+
+pub made_op-requires : goal.made_op-requires
+made_op-requires c =
+    let o = c.in-Op.ensures in
+    record {
+      args = c.requires.values;
+      count = subst (HasArity c.in-Op.code) (sym (c.requires.count ∙ (ap (λ y. count_of (parts_of y)) (sym o.tree) ∙ o.count))) o.proper;
+      fits = c.requires.fits;
     }

@@ -1,5 +1,6 @@
 use Rattle.std.proofs.Common.{◌∙◌, sym}
 use Rattle.eo_eval.proofs.Itself.{value_ends}
+use Rattle.eo_eval.proofs.Same.{grows_same}
 use Rattle.eo_eval.proofs.evaluator.Evaluator.evaluate.Goals as goal
 
 pub returns-then-is_value-clause-gives : goal.returns-then-is_value-clause-gives
@@ -10,3 +11,6 @@ returns-then-is_value-clause-gives c =
 
 pub undo-requires : goal.undo-requires
 undo-requires c = c.evaluate-result.ensures.grows.table.now.marks c.mark-mark.result c.mark-mark.ensures.holds
+
+pub returns-then-is_value-clause-grows : goal.returns-then-is_value-clause-grows
+returns-then-is_value-clause-grows c = grows_same c.requires.fit

@@ -1,4 +1,4 @@
-use Rattle.std.proofs.Common.{◌≡◌, ◌∙◌, take, drop, map, List, ℕ, sym, ap, subst, refl}
+use Rattle.std.proofs.Common.{◌≡◌, ◌<◌, ◌∙◌, All, length, take, drop, map, List, ℕ, sym, ap, subst, refl}
 use Rattle.std.proofs.lemmas.Result.{IfOk-weaker}
 use Rattle.eo_term.specs.Terms.{tree_at}
 use Rattle.eo_term.specs.Tree.{Tree}
@@ -49,3 +49,8 @@ returns-in_err-wait-clause-grows c = grows_same c.requires.gathering.held.fit
 
 pub returns-in_err-args-clause-grows : goal.returns-in_err-args-clause-grows
 returns-in_err-args-clause-grows c = grows_same c.requires.gathering.held.fit
+
+pub call-requires-clause-key : goal.call-requires-clause-key
+call-requires-clause-key c =
+    let vs = c.args.self.now.stack.values.items in
+    subst (All (λ i. i < length c.args.table.now.trees)) (sym (c.in_ok-args.ensures ∙ values_from c.args.base vs c.as_slice.result.now (c.as_slice.ensures.value ∙ c.wait.ensures.values))) c.requires.gathering.values_live

@@ -1,6 +1,6 @@
-use Rattle.std.proofs.Common.{sym, ap, refl}
+use Rattle.std.proofs.Common.{sym, ap, subst, refl}
 use Rattle.eo_base.specs.Limits.{calls_limit}
-use Rattle.eo_term.specs.Terms.{tree_at, text_at}
+use Rattle.eo_term.specs.Terms.{tree_at, text_at, HasArity}
 use Rattle.eo_sig.specs.Reading.{signature}
 use Rattle.eo_eval.specs.Evaluation.{Stuck}
 use Rattle.eo_eval.specs.Reading.{begun, is_par}
@@ -62,3 +62,11 @@ returns-in-Par c =
 
 pub returns-in-Qar-clause-grows : goal.returns-in-Qar-clause-grows
 returns-in-Qar-clause-grows c = grows_same c.requires.ready.held.fit
+
+pub enter_op-requires : goal.enter_op-requires
+enter_op-requires c =
+    let o = c.in-Op.ensures in
+    record { ready = c.requires.ready; operator = o.tree; arity = subst (HasArity c.in-Op.code) (sym o.count) o.proper }
+
+pub enter_par-requires : goal.enter_par-requires
+enter_par-requires c = record { ready = c.requires.ready; parameter = c.in-Par.ensures.tree }

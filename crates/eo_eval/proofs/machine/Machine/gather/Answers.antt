@@ -62,3 +62,21 @@ returns-in_ok-wait-in-Some-clause-grows c = grows_same c.requires.gathering.held
 
 pub returns-in-Some-program_of-clause-fits : goal.returns-in-Some-program_of-clause-fits
 returns-in-Some-program_of-clause-fits c = fit_since c.call_gathered.ensures.grows c.requires.gathering.held.fit
+
+pub call_gathered-requires : goal.call_gathered-requires
+call_gathered-requires c =
+    let o = c.in_ok-part.ensures in
+    record {
+      program = c.in-Some-program_of.ensures.some;
+      all = subst (IsNextPart c.args.table.now c.collect_ready.new.self c.args.id c.args.base) c.in-None.is o.next;
+      gathering = o.gathering;
+    }
+
+pub make_gathered-requires : goal.make_gathered-requires
+make_gathered-requires c =
+    let o = c.in_ok-part.ensures in
+    record {
+      kind = c.in-None-program_of.ensures.none;
+      all = subst (IsNextPart c.args.table.now c.collect_ready.new.self c.args.id c.args.base) c.in-None.is o.next;
+      gathering = o.gathering;
+    }

@@ -1,4 +1,4 @@
-use Rattle.std.proofs.Common.{◌≡◌, ◌∙◌, sym, ap, drop, map, length, reverse, false}
+use Rattle.std.proofs.Common.{◌≡◌, ◌<◌, ◌∙◌, All, sym, ap, subst, drop, map, length, reverse, false}
 use Rattle.eo_base.specs.Limits.{calls_limit}
 use Rattle.eo_term.specs.Arguments.{count_of}
 use Rattle.eo_term.specs.Terms.{tree_at}
@@ -63,3 +63,15 @@ returns-clause-ready c =
     let keeps = gathered_keeps k new c.made.new.types e id base c.args.deepest g full kind o c.in_ok-outcome.ensures.live is in
     gathered_ready k new c.made.new.types e id base c.args.deepest g full kind o c.in_ok-outcome.ensures.live is c.keep.new.self c.ended.result fs vs c.in_ok-keep.ensures.scope c.in_ok-keep.ensures.calls c.ended.ensures
     (c.in_ok-keep.ensures.remembers S calls_limit g.held.remembers (scope_of S new.trees (begun new.trees e.calls.entries) e.scope (reverse e.stack.frames.items) g.stands.scoped) keeps)
+
+pub made-requires : goal.made-requires
+made-requires c =
+    let t = c.args.table.now in
+    let h = c.requires.gathering in
+    let vs = values_from c.args.base c.args.self.now.stack.values.items c.as_slice.result.now c.as_slice.ensures.value in
+    record {
+      live = h.live;
+      values = subst (All (λ i. i < length t.trees)) (sym vs) h.values_live;
+      count = ap length vs ∙ c.requires.all;
+      fits = h.held.fit;
+    }
