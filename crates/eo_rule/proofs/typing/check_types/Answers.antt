@@ -83,3 +83,22 @@ check_parameter-requires c =
     let in_range : i < length c.args.params.now = omega (arith, v.within, c.loop-left-test.true) in
     let live : a.ty < length ts = all_at (λ (p : Param). p.ty < length ts) c.args.params.now i a c.requires.params in_range c.index-params-left.is in
     record { ty = omega (arith, live, v.grows.table.now.more_trees); below = v.below; fit = v.fits }
+
+pub returns-in_err-check_parameter-clause-fits : goal.returns-in_err-check_parameter-clause-fits
+returns-in_err-check_parameter-clause-fits c = c.in_err-check_parameter.ensures.fits
+
+pub returns-in_err-check_parameter-clause-grows : goal.returns-in_err-check_parameter-clause-grows
+returns-in_err-check_parameter-clause-grows c =
+    let t = c.args.table.now in
+    let new = c.check_parameter.new.table in
+    c.laws.ensures t new c.requires.fit.below (c.table_law.ensures.later t c.loop-left.table new c.loop-left.invariant.grows.table c.in_err-check_parameter.ensures.grows.table)
+
+pub returns-clause-gives : goal.returns-clause-gives
+returns-clause-gives c =
+    let ts = c.args.table.now.trees in
+    let v = c.loop-left.invariant in
+    let zero : 0 ≡ c.loop-left.left = omega (arith, c.loop-left-test.false) in
+    record {
+      live = v.below;
+      is = (λ k. check_types (signature ts c.args.sig.now) (held ts c.args.subst.now) (zero k) (drop (zero k) (map (read_parameter ts) c.args.params.now))) ∙ v.checked;
+    }

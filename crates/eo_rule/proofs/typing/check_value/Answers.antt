@@ -1,4 +1,5 @@
-use Rattle.std.proofs.Common.{◌≡◌, [], ◌∷◌, Ok, sym, ◌∙◌, subst, arith}
+use Rattle.std.proofs.Common.{◌≡◌, ◌<◌, ℕ, [], ◌∷◌, Ok, length, sym, ◌∙◌, subst, arith}
+use Rattle.std.proofs.lemmas.List.Elements.{All-cons, All-nil}
 use Rattle.eo_base.specs.Answers.{Tells}
 use Rattle.eo_base.specs.Checks.{Checked, value_or}
 use Rattle.eo_base.specs.declared.FaultName.TheVariants.{IllTyped}
@@ -73,12 +74,19 @@ settled-requires c =
       below = (c.growing_law.ensures.holds c.args.subst.now c.args.table.now c.value_type.new.table c.requires.below g).below;
     }
 
-pub match_list-requires-clause-below : goal.match_list-requires-clause-below
-match_list-requires-clause-below c =
+pub match_list-requires : goal.match_list-requires
+match_list-requires c =
     let s = c.args.subst.now in
     let mid = c.value_type.new.table in
+    let new = c.settled.new.table in
+    let h = c.in_ok-expected.ensures.grows.now in
+    let P : ℕ → Type 0 = λ i. i < length new.trees in
     let first = c.growing_law.ensures.holds s c.args.table.now mid c.requires.below c.in_ok-found.ensures.grows.table.now in
-    (c.growing_law.ensures.holds s mid c.settled.new.table first.below c.in_ok-expected.ensures.grows.now).below
+    record {
+      patterns = All-cons P c.in_ok-expected.expected [] c.in_ok-expected.ensures.gives.live (All-nil P);
+      terms = All-cons P c.in_ok-found.found [] (omega (arith, c.in_ok-found.ensures.gives.live, h.more_trees)) (All-nil P);
+      below = (c.growing_law.ensures.holds s mid new first.below h).below;
+    }
 
 pub returns-in_err-found-clause-fits : goal.returns-in_err-found-clause-fits
 returns-in_err-found-clause-fits c = c.in_err-found.ensures.fits
