@@ -6,6 +6,7 @@ use Rattle.eo_eval.specs.Ready.{Gathering, PoppedReady, told_in, told_popped, to
 use Rattle.eo_eval.specs.declared.stack.Frame.TheVariants as frame
 use Rattle.eo_eval.specs.declared.stack.Now as code_now
 use Rattle.eo_eval.proofs.Giving.{gathering_given, given_told}
+use Rattle.eo_eval.proofs.Same.{grows_same}
 use Rattle.eo_eval.proofs.machine.Machine.give_parts.Goals as goal
 
 pub gather-requires : goal.gather-requires
@@ -36,3 +37,11 @@ returns-in_ok-collect-in-Value-clause-told c =
     given_told k t typed e later c.args.id c.args.base c.args.before c.args.left c.in-Value.value c.in-Value.deepest r c.collect.ensures.frames c.in_ok-collect-in-Value.ensures.values refl refl ∙ ap (told_popped k t e f) (sym c.in-Value.is) in
     let P : Ended Tree → code_now.Now → Type 0 = λ r n. told_in k c.gather.new.table c.gather.new.self n ≡ r in
     IfOk-weaker c.gather.result (P (told_rest k t later c.args.id c.args.base c.args.left)) (P (told_popped k t e f c.args.now.now)) (λ n g. g ∙ same) c.gather.ensures.told
+
+pub returns-in_err-collect-in-Value-clause-grows : goal.returns-in_err-collect-in-Value-clause-grows
+returns-in_err-collect-in-Value-clause-grows c = grows_same c.requires.ready.held.fit
+
+pub returns-in_default : goal.returns-in_default
+returns-in_default c =
+    let fit = c.requires.ready.held.fit in
+    record { told = c.conclude.ensures.told; ready = c.conclude.ensures.ready; fits = fit; grows = grows_same fit }

@@ -1,0 +1,5 @@
+use Rattle.eo_eval.proofs.Same.{grows_same}
+use Rattle.eo_eval.proofs.machine.Machine.give.Goals as goal
+
+pub returns-in-None-clause-grows : goal.returns-in-None-clause-grows
+returns-in-None-clause-grows c = grows_same c.requires.ready.held.fit
