@@ -279,12 +279,19 @@ fn time_all(rt: &HostRuntime, w: &mut World, n: usize, timed: bool) -> io::Resul
     Ok(())
 }
 
-fn main(rt: HostRuntime) -> io::Result<()> {
-    let mut words = env::args(&rt)?;
+/// The number that is asked for, if one is.
+fn asked(rt: &HostRuntime) -> io::Result<Option<usize>> {
+    let mut words = env::args(rt)?;
     let _program = words.next();
-    let asked = words
-        .next()
-        .and_then(|word| word.as_str().parse::<usize>().ok());
+    Ok(
+        words
+            .next()
+            .and_then(|word| word.as_str().parse::<usize>().ok()),
+    )
+}
+
+fn main(rt: HostRuntime) -> io::Result<()> {
+    let asked = asked(&rt)?;
     let Some(mut w) = World::new(rt.alloc()) else {
         return Ok(());
     };
