@@ -10,7 +10,7 @@ use Rattle.eo_session.specs.Numbered.{origin_of, number_of}
 use Rattle.eo_run.specs.Progress.{progress_of}
 use Rattle.eo_run.specs.Reading.{progress, behind, at_end, LeadsOn, ChecksPiece, ChecksEnd, IsAsked, IsAskedAtEnd, IsFed, IsEnded}
 use Rattle.eo_run.specs.Run.{refusal_at}
-use Rattle.eo_run.specs.Opening.{IsNumbered, LeadsIn, Told, IsStop, IsRead, IsTaken, IsLeft, Opens, StaysOpen, TakesPiece, TakesEnd, RunsOpen, RunsFile, place_in}
+use Rattle.eo_run.specs.Opening.{Keeps, IsNumbered, LeadsIn, Told, IsStop, IsRead, IsTaken, IsLeft, Opens, StaysOpen, TakesPiece, TakesEnd, RunsOpen, RunsFile, place_in}
 use Rattle.eo_session.specs.declared.Next.{Next}
 use Rattle.eo_session.specs.declared.Next.TheVariants as next
 use Rattle.eo_session.specs.declared.Origin.TheVariants as code
@@ -73,6 +73,15 @@ take_piece-returns-in_err-open_next-in-Ok-Some-clause-takes g t c =
     (stops-behind told s old st new included (behind c.args.collector.now c.args.piece.now) (behind c.commands.collector rest) i.leads (behind d (drop a.used rest)) a.next a.at asked.asks last c.open_next.new.paths x
     (opens-later told (g.L.Library.told c.commands.files) i.stays.same s a.at a.next (Err x) (progress new included) last c.open_next.new.paths c.in_err-open_next-in-Ok-Some.ensures.opens))
 
+pub take_piece-returns-in_err-open_next-in-Ok-Some-clause-keeps : goal.take_piece-returns-in_err-open_next-in-Ok-Some-clause-keeps
+take_piece-returns-in_err-open_next-in-Ok-Some-clause-keeps g t c =
+    let e = c.in_err-open_next-in-Ok-Some in
+    at_exit (λ (r : Result Bool Verdict). Keeps r c.open_next.new.run c.args.paths.now c.open_next.new.paths) c.from_residual.result e.field-0.0 c.from_residual.ensures.1 record {
+      going = tt;
+      kind = e.ensures.keeps.kind;
+      table = extends-trans c.args.paths.now c.commands.paths c.open_next.new.paths c.commands.invariant.table e.ensures.keeps.table;
+    }
+
 pub take_piece-returns-then-ends-clause-takes : goal.take_piece-returns-then-ends-clause-takes
 take_piece-returns-then-ends-clause-takes g t c =
     let s = c.args.source.now in
@@ -95,6 +104,15 @@ take_piece-returns-then-ends-clause-takes g t c =
       reference = leaves-reference told s old st new included (behind c.args.collector.now c.args.piece.now) (behind c.commands.collector rest) i.leads (behind d (drop a.used rest)) a.next a.at asked.asks ends;
     } in
     left
+
+pub take_piece-returns-then-ends-clause-keeps : goal.take_piece-returns-then-ends-clause-keeps
+take_piece-returns-then-ends-clause-keeps g t c =
+    let keeps = c.in_ok-open_next-in-Ok-Some.ensures.keeps in
+    record {
+      going = keeps.going;
+      kind = tt;
+      table = extends-trans c.args.paths.now c.commands.paths c.open_next.new.paths c.commands.invariant.table keeps.table;
+    }
 
 pub take_piece-commands-preserved : goal.take_piece-commands-preserved
 take_piece-commands-preserved g t c =
@@ -171,6 +189,15 @@ check_rest-returns-in_err-open_next-in-Ok-Some-clause-takes g t c =
     (stops-behind told s old st new included (at_end c.args.collector.now) (at_end c.atoms.collector) i.leads (at_end d) a.next a.at asked.asks last c.open_next.new.paths x
     (opens-later told (g.L.Library.told c.atoms.files) i.stays.same s a.at a.next (Err x) (progress new included) last c.open_next.new.paths c.in_err-open_next-in-Ok-Some.ensures.opens))
 
+pub check_rest-returns-in_err-open_next-in-Ok-Some-clause-keeps : goal.check_rest-returns-in_err-open_next-in-Ok-Some-clause-keeps
+check_rest-returns-in_err-open_next-in-Ok-Some-clause-keeps g t c =
+    let e = c.in_err-open_next-in-Ok-Some in
+    at_exit (λ (r : Result Spot Verdict). Keeps r c.open_next.new.run c.args.paths.now c.open_next.new.paths) c.from_residual.result e.field-0.0 c.from_residual.ensures.1 record {
+      going = tt;
+      kind = e.ensures.keeps.kind;
+      table = extends-trans c.args.paths.now c.atoms.paths c.open_next.new.paths c.atoms.invariant.table e.ensures.keeps.table;
+    }
+
 pub check_rest-returns-then-ends-clause-takes : goal.check_rest-returns-then-ends-clause-takes
 check_rest-returns-then-ends-clause-takes g t c =
     let s = c.args.source.now in
@@ -190,6 +217,15 @@ check_rest-returns-then-ends-clause-takes g t c =
     (opens-later told (g.L.Library.told c.atoms.files) i.stays.same s a.at a.next (Ok tt) (progress new included) last paths c.in_ok-open_next-in-Ok-Some.ensures.opens) ends in
     let reference = leaves-reference told s old st new included (at_end c.args.collector.now) (at_end c.atoms.collector) i.leads (at_end d) a.next a.at asked.asks ends in
     λ files k. (finishes files k, λ other. absurd (other reference))
+
+pub check_rest-returns-then-ends-clause-keeps : goal.check_rest-returns-then-ends-clause-keeps
+check_rest-returns-then-ends-clause-keeps g t c =
+    let keeps = c.in_ok-open_next-in-Ok-Some.ensures.keeps in
+    record {
+      going = keeps.going;
+      kind = tt;
+      table = extends-trans c.args.paths.now c.atoms.paths c.open_next.new.paths c.atoms.invariant.table keeps.table;
+    }
 
 pub check_rest-atoms-preserved : goal.check_rest-atoms-preserved
 check_rest-atoms-preserved g t c =
@@ -293,6 +329,15 @@ include-returns-in-Ok-Some-clause-includes g t c = λ name folds.
     includes-runs told s (s.opens - 1) (omega (arith, c.requires.opens)) c.args.at name p paths file folds new (s.opens - 2) (omega (arith, c.requires.opens, c.if-source-eq1.false)) i refl c.in_file.ensures.same refl refl end tt last
     (subst (λ (ps : List (List ℕ)). RunsFile told i (Ok (Some end)) (progress p.state ps) last paths) c.in-Ok.ensures.table runs)
 
+pub include-returns-in-Ok-Some-clause-keeps : goal.include-returns-in-Ok-Some-clause-keeps
+include-returns-in-Ok-Some-clause-keeps g t c =
+    let keeps = c.in-Ok-Some.ensures.keeps in
+    record {
+      going = keeps.going;
+      kind = tt;
+      table = extends-trans c.args.paths.now c.add-2.new.self c.check_file.new.paths c.in-Ok-add.ensures.grows keeps.table;
+    }
+
 pub include-returns-in-Ok-None-clause-includes : goal.include-returns-in-Ok-None-clause-includes
 include-returns-in-Ok-None-clause-includes g t c = λ name folds.
     let s = c.args.source.now in
@@ -336,6 +381,15 @@ include-returns-in-Err-clause-includes g t c = λ name folds.
     includes-stops told s (s.opens - 1) (omega (arith, c.requires.opens)) c.args.at name p paths file folds new (s.opens - 2) (omega (arith, c.requires.opens, c.if-source-eq1.false)) i refl c.in_file.ensures.same refl refl c.in-Err.stop last
     (subst (λ (ps : List (List ℕ)). RunsFile told i (Err c.in-Err.stop) (progress p.state ps) last paths) c.in-Ok.ensures.table c.in-Err.ensures.runs)
 
+pub include-returns-in-Err-clause-keeps : goal.include-returns-in-Err-clause-keeps
+include-returns-in-Err-clause-keeps g t c =
+    let keeps = c.in-Err.ensures.keeps in
+    record {
+      going = tt;
+      kind = keeps.kind;
+      table = extends-trans c.args.paths.now c.add-2.new.self c.check_file.new.paths c.in-Ok-add.ensures.grows keeps.table;
+    }
+
 -- ---- a reference file
 
 pub refer-returns-in_err-begin-clause-refers : goal.refer-returns-in_err-begin-clause-refers
@@ -368,6 +422,15 @@ refer-returns-in-Ok-Some-clause-refers g t c = λ name folds.
     let end = c.in-Ok-Some.field-0-0 in
     refers-runs told s (s.opens - 1) (omega (arith, c.requires.opens)) c.args.at name p paths c.args.file.now folds st c.in_ok-begin.ensures.begins i refl refl refl refl end tt last
     (subst (λ (o : Option Spot). RunsFile told i (Ok o) (progress st p.included) last paths) c.in-Ok-Some.field-0-is c.in-Ok-Some.ensures.runs)
+
+pub refer-returns-in-Ok-Some-clause-keeps : goal.refer-returns-in-Ok-Some-clause-keeps
+refer-returns-in-Ok-Some-clause-keeps g t c =
+    let keeps = c.in-Ok-Some.ensures.keeps in
+    record {
+      going = keeps.going;
+      kind = tt;
+      table = extends-trans c.args.paths.now c.add.new.self c.check_file.new.paths c.in-Ok.ensures.grows keeps.table;
+    }
 
 pub refer-returns-in-Ok-None-clause-refers : goal.refer-returns-in-Ok-None-clause-refers
 refer-returns-in-Ok-None-clause-refers g t c = λ name folds.
@@ -403,6 +466,15 @@ refer-returns-in-Err-clause-refers g t c = λ name folds.
     let i : Source = record { path = c.args.file; from = code.Reference c.in-Ok.number; wrapped = false; opens = 0 } in
     refers-stops (g.L.Library.told c.args.files.now) s (s.opens - 1) (omega (arith, c.requires.opens)) c.args.at name (progress_of c.args.run.now) c.check_file.new.paths c.args.file.now folds c.begin.new.session.state c.in_ok-begin.ensures.begins i refl refl refl refl
     c.in-Err.verdict (progress_of c.check_file.new.run) c.in-Err.ensures.runs
+
+pub refer-returns-in-Err-clause-keeps : goal.refer-returns-in-Err-clause-keeps
+refer-returns-in-Err-clause-keeps g t c =
+    let keeps = c.in-Err.ensures.keeps in
+    record {
+      going = tt;
+      kind = keeps.kind;
+      table = extends-trans c.args.paths.now c.add.new.self c.check_file.new.paths c.in-Ok.ensures.grows keeps.table;
+    }
 
 -- ---- a file
 
@@ -440,6 +512,15 @@ check_pieces-returns-then-n-eq0-clause-runs g t c =
     i.read c.in-Bytes.ensures.reads c.if-n-eq0.true c.check_rest.result
     (ends-later told (g.L.Library.told c.read.new.self) (c.in-Bytes.ensures.same ∙ i.same) s c.check_rest.result st last c.pieces.collector paths c.check_rest.ensures.takes)
 
+pub check_pieces-returns-then-n-eq0-clause-keeps : goal.check_pieces-returns-then-n-eq0-clause-keeps
+check_pieces-returns-then-n-eq0-clause-keeps g t c =
+    let keeps = c.check_rest.ensures.keeps in
+    record {
+      going = keeps.going;
+      kind = keeps.kind;
+      table = extends-trans c.args.paths.now c.pieces.paths c.check_rest.new.paths c.pieces.invariant.table keeps.table;
+    }
+
 pub check_pieces-take_piece-requires : goal.check_pieces-take_piece-requires
 check_pieces-take_piece-requires g t c κs within =
     let s = c.args.source.now in
@@ -471,6 +552,15 @@ check_pieces-returns-in_err-take_piece-clause-runs g t c =
     at_exit (λ (r : Result Spot Verdict). RunsOpen told s r old last paths before) c.from_residual.result x c.from_residual.ensures.1
     (stops-open c.pieces_law.ensures told s old st last c.pieces.collector left left p before mid paths i.read (λ rest others e. front-is left n c.read.new.buf mid after rest others c.in-Bytes.ensures.reads (omega (arith, c.if-n-left.true)) e) (omega arith) x
     (takes-later told (g.L.Library.told c.read.new.self) (c.in-Bytes.ensures.same ∙ i.same) s (Err x) st last c.pieces.collector d p paths c.in_err-take_piece.ensures.takes))
+
+pub check_pieces-returns-in_err-take_piece-clause-keeps : goal.check_pieces-returns-in_err-take_piece-clause-keeps
+check_pieces-returns-in_err-take_piece-clause-keeps g t c =
+    let e = c.in_err-take_piece in
+    at_exit (λ (r : Result Spot Verdict). Keeps r c.take_piece.new.run c.args.paths.now c.take_piece.new.paths) c.from_residual.result e.field-0.0 c.from_residual.ensures.1 record {
+      going = tt;
+      kind = e.ensures.keeps.kind;
+      table = extends-trans c.args.paths.now c.pieces.paths c.take_piece.new.paths c.pieces.invariant.table e.ensures.keeps.table;
+    }
 
 pub check_pieces-returns-in_err-take_piece-clause-reads : goal.check_pieces-returns-in_err-take_piece-clause-reads
 check_pieces-returns-in_err-take_piece-clause-reads g t c =
@@ -540,6 +630,15 @@ check_pieces-returns-then-n-left-clause-runs g t c =
     (left-later told (g.L.Library.told c.read.new.self) (c.in-Bytes.ensures.same ∙ i.same) s st last c.pieces.collector p
     (subst (λ (b : Bool). TakesPiece (g.L.Library.told c.read.new.self) s (Ok b) st last c.pieces.collector d p paths) c.if-branch.false c.in_ok-take_piece.ensures.takes)) c.here-then-n-left.result
 
+pub check_pieces-returns-then-n-left-clause-keeps : goal.check_pieces-returns-then-n-left-clause-keeps
+check_pieces-returns-then-n-left-clause-keeps g t c =
+    let keeps = c.in_ok-take_piece.ensures.keeps in
+    record {
+      going = keeps.going;
+      kind = tt;
+      table = extends-trans c.args.paths.now c.pieces.paths c.take_piece.new.paths c.pieces.invariant.table keeps.table;
+    }
+
 pub check_pieces-returns-then-n-left-clause-reads : goal.check_pieces-returns-then-n-left-clause-reads
 check_pieces-returns-then-n-left-clause-reads g t c =
     let i = c.pieces.invariant in
@@ -579,6 +678,15 @@ check_pieces-returns-in_err-take_piece-2-clause-runs g t c =
     (stops-open c.pieces_law.ensures told s old st last c.pieces.collector c.pieces.left n p before mid paths i.read (λ rest others e. piece-is n c.read.new.buf mid after rest others c.in-Bytes.ensures.reads e) (omega (arith, c.if-n-left.false)) x
     (takes-later told (g.L.Library.told c.read.new.self) (c.in-Bytes.ensures.same ∙ i.same) s (Err x) st last c.pieces.collector d p paths c.in_err-take_piece-2.ensures.takes))
 
+pub check_pieces-returns-in_err-take_piece-2-clause-keeps : goal.check_pieces-returns-in_err-take_piece-2-clause-keeps
+check_pieces-returns-in_err-take_piece-2-clause-keeps g t c =
+    let e = c.in_err-take_piece-2 in
+    at_exit (λ (r : Result Spot Verdict). Keeps r c.take_piece-in-pieces.new.run c.args.paths.now c.take_piece-in-pieces.new.paths) c.from_residual-in_err-take_piece-2.result e.field-0.0 c.from_residual-in_err-take_piece-2.ensures.1 record {
+      going = tt;
+      kind = e.ensures.keeps.kind;
+      table = extends-trans c.args.paths.now c.pieces.paths c.take_piece-in-pieces.new.paths c.pieces.invariant.table e.ensures.keeps.table;
+    }
+
 pub check_pieces-returns-in_err-take_piece-2-clause-reads : goal.check_pieces-returns-in_err-take_piece-2-clause-reads
 check_pieces-returns-in_err-take_piece-2-clause-reads g t c =
     let i = c.pieces.invariant in
@@ -605,6 +713,15 @@ check_pieces-returns-then-not-branch-clause-runs g t c =
     left-open c.pieces_law.ensures told s old st last c.pieces.collector left n p (g.L.Library.open_files c.args.files.now) mid paths i.read (λ rest others e. piece-is n c.read.new.buf mid after rest others c.in-Bytes.ensures.reads e) (omega (arith, c.if-n-left.false))
     (left-later told (g.L.Library.told c.read.new.self) (c.in-Bytes.ensures.same ∙ i.same) s st last c.pieces.collector p
     (subst (λ (b : Bool). TakesPiece (g.L.Library.told c.read.new.self) s (Ok b) st last c.pieces.collector d p paths) c.if-not-branch.true c.in_ok-take_piece-2.ensures.takes)) c.here-then-not-branch.result
+
+pub check_pieces-returns-then-not-branch-clause-keeps : goal.check_pieces-returns-then-not-branch-clause-keeps
+check_pieces-returns-then-not-branch-clause-keeps g t c =
+    let keeps = c.in_ok-take_piece-2.ensures.keeps in
+    record {
+      going = keeps.going;
+      kind = tt;
+      table = extends-trans c.args.paths.now c.pieces.paths c.take_piece-in-pieces.new.paths c.pieces.invariant.table keeps.table;
+    }
 
 pub check_pieces-returns-then-not-branch-clause-reads : goal.check_pieces-returns-then-not-branch-clause-reads
 check_pieces-returns-then-not-branch-clause-reads g t c =
