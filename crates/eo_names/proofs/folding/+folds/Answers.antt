@@ -43,10 +43,13 @@ join-returns-then-turns-gt0-clause-gives t c =
 
 pub fold_within-join-requires : goal.fold_within-join-requires
 fold_within-join-requires t c =
-    let n = length c.turn_of.new.table.trees in
-    (omega (arith, c.decreases),
-      ((c.names_law.ensures.stays c.args.sig.now (bound_in c.args.scope.now) c.args.table.now c.turn_of.new.table c.requires.ready c.turn_of.ensures.grows).ready,
-        subst (λ is. All (λ i. i < n) is) (sym c.as_slice.ensures) (subst (TurnBelow n) c.in-Joined.is c.in_ok-turn.ensures.gives.live)))
+    let n = length c.turn_of.new.table.trees in (
+      omega (arith, c.decreases),
+      (
+        (c.names_law.ensures.stays c.args.sig.now (bound_in c.args.scope.now) c.args.table.now c.turn_of.new.table c.requires.ready c.turn_of.ensures.grows).ready,
+        subst (λ is. All (λ i. i < n) is) (sym c.as_slice.ensures) (subst (TurnBelow n) c.in-Joined.is c.in_ok-turn.ensures.gives.live),
+      ),
+    )
 
 pub fold_within-returns-clause-grows : goal.fold_within-returns-clause-grows
 fold_within-returns-clause-grows t c = grows_on _ _ _ c.turn_of.ensures.grows c.join.ensures.grows
