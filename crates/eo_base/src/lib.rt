@@ -10,9 +10,11 @@ ghost use Rattle.eo_base.specs.Statuses.{status_code};
 pub mod limits;
 mod lists;
 mod names;
+mod results;
 
 pub use lists::{Chars, List, Text};
 pub use names::{Name, NameRef};
+pub use results::both;
 
 /// Each fault that a file can have, in the order of their numbers from 1.
 #[derive(Clone, Copy, Debug, PartialEq, Eq)]

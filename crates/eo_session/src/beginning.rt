@@ -1,5 +1,5 @@
 //! What is held before the first command.
-ghost use Rattle.std.specs.Prelude.{◌≡◌, Ok, IfOk};
+ghost use Rattle.std.specs.Prelude.{◌≡◌, IfOk};
 ghost use Rattle.eo_term.specs.Terms.{first_trees};
 ghost use Rattle.eo_session.specs.Beginning.{IsFirstSignature};
 ghost use Rattle.eo_session.specs.Held.{state_of, IsSettled};
@@ -7,6 +7,7 @@ ghost use Rattle.eo_session.specs.State.{first_state};
 
 use crate::held::Held;
 use crate::marks::Marks;
+use eo_base::both;
 use eo_eval::Evaluator;
 use eo_pattern::Subst;
 use eo_proof::Facts;
@@ -23,7 +24,7 @@ impl Held {
         ensures state { IfOk result (λ h. state_of h ≡ first_state closed) }
     {
         let table = Table::new(alloc)?;
-        let (table, signature) = both(table, first_signature(alloc))?;
+        let (signature, table) = both(first_signature(alloc), table)?;
         Ok(first(alloc, closed, table, signature))
     }
 }
@@ -34,18 +35,6 @@ fn first_signature(alloc: Global) -> Result<Signature, AllocError>
 {
     let signature = Signature::new(alloc)?;
     Ok(signature)
-}
-
-// Both, where the second was made. Where it was not, the first is let go here, once for all types:
-// a function that holds much lets nothing go by itself.
-fn both<A: Drop, B: Drop>(first: A, second: Result<B, AllocError>) -> Result<(A, B), AllocError>
-    ensures first { IfOk result (λ p. p.0 ≡ first) }
-    ensures second { IfOk result (λ p. second ≡ Ok p.1) }
-{
-    match second {
-        Ok(second) => Ok((first, second)),
-        Err(e) => Err(e),
-    }
 }
 
 // What is held first, with this table and this signature.

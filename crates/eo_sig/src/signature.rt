@@ -1,5 +1,5 @@
 //! The signature: how it is kept, and what its names stand for.
-ghost use Rattle.std.specs.Prelude.{◌≡◌, ℕ, ◌<◌, ◌≤◌, List, [], length, take, true, None, Ok, Err, IfOk, IfErr, IfSome, OnOk, option_map};
+ghost use Rattle.std.specs.Prelude.{◌≡◌, ℕ, ◌<◌, ◌≤◌, List, [], length, take, true, None, IfOk, IfSome, OnOk, option_map};
 ghost use Rattle.eo_term.specs.Tree.{Tree};
 ghost use Rattle.eo_term.specs.Terms.{first_trees};
 ghost use Rattle.eo_sig.specs.Signature as sig;
@@ -14,7 +14,7 @@ mod keeping;
 mod numbered;
 
 use crate::{Attribute, ConstDecl, Declared, Entry, MacroDecl, Params, is_reserved};
-use eo_base::{Name, NameRef};
+use eo_base::{Name, NameRef, both};
 use eo_term::{BOOL, Id, TYPE};
 use indexmap::IndexMap;
 use std::alloc::{AllocError, Global};
@@ -212,17 +212,5 @@ impl Signature {
         };
         self.keep_constant(d)?;
         Ok(())
-    }
-}
-
-// The value of a call and another, which is let go where the call was refused.
-fn both<A: Drop, B: Drop, E: Drop>(called: Result<A, E>, other: B) -> Result<(A, B), E>
-    ensures called { IfOk result (λ p. called ≡ Ok p.0) }
-    ensures other { IfOk result (λ p. p.1 ≡ other) }
-    ensures refused { IfErr result (λ e. called ≡ Err e) }
-{
-    match called {
-        Ok(value) => Ok((value, other)),
-        Err(e) => Err(e),
     }
 }

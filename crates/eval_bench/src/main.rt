@@ -11,7 +11,7 @@ ghost use Rattle.eo_term.specs.Terms.{HasArity, PartsBelow, TextsBelow, IsPlain,
 ghost use Rattle.eo_sig.specs.Growth.{GrowsUnder};
 ghost use Rattle.eo_sig.specs.Reading.{CaseBelow, IsBelow, ProgramBelow};
 
-use eo_base::Name;
+use eo_base::{Name, both};
 use eo_eval::{Evaluator, Outcome};
 use eo_sig::{Case, Cases, Params, ProgramDecl, SigRefused, Signature};
 use eo_term::{BOOL, Id, Ids, Node, OpCode, OpName, TRUE, Table, TermRefused};
@@ -50,7 +50,7 @@ impl World {
 
     fn first(alloc: Global) -> Result<World, AllocError> {
         let table = Table::new(alloc)?;
-        let sig = Signature::new(alloc)?;
+        let (sig, table) = both(Signature::new(alloc), table)?;
         Ok(World { alloc, table, sig })
     }
 

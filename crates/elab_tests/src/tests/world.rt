@@ -5,6 +5,7 @@ ghost use Rattle.eo_term.specs.Growth.{Grows};
 ghost use Rattle.eo_elab.specs.Declaring.{IsCommand, DeclarationBelow};
 ghost use Rattle.eo_names.specs.Names.{AreBelow};
 
+use eo_base::both;
 use eo_elab::{ElabRefused, Locals, Names, declaration, reference_term, term};
 use eo_sexp::{Collector, Fed, Sexp};
 use eo_shape::{ShapeRefused, command_of};
@@ -103,11 +104,9 @@ impl Model for World {
 impl World {
     /// Nothing is declared yet.
     pub(super) fn new(alloc: Global) -> Result<World, AllocError> {
-        Ok(World {
-            alloc,
-            table: Table::new(alloc)?,
-            sig: Signature::new(alloc)?,
-        })
+        let table = Table::new(alloc)?;
+        let (sig, table) = both(Signature::new(alloc), table)?;
+        Ok(World { alloc, table, sig })
     }
 
     /// Where its memory comes from.

@@ -10,10 +10,11 @@ ghost use Rattle.eo_sig.specs.Reading.{with_entry, with_macro, IsFree, IsFreeRul
 ghost use Rattle.eo_sig.specs.Refused.{Tells};
 ghost use Rattle.eo_sig.specs.Usable.{AreOrdered, StaysUsable};
 
-use super::{Signature, both};
+use super::Signature;
 use crate::patterns::{cases_are_bound, cases_may_hold, rule_is_bound, rule_is_plain};
 use crate::types::{ends_at_right, implicit_occur, may_type};
 use crate::{ConstDecl, LiteralClass, MacroDecl, PremiseShape, ProgramDecl, RuleDecl, SigRefused};
+use eo_base::both;
 use eo_term::{Id, Table};
 
 impl Signature {

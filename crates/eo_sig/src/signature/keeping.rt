@@ -5,9 +5,9 @@ ghost use Rattle.eo_sig.specs.Signature as sig;
 ghost use Rattle.eo_sig.specs.declared.records.Declared.TheVariants as declared;
 ghost use Rattle.eo_sig.specs.Reading.{signature, macros, constants_of, programs_of, rules_of, with_entry, with_macro};
 
-use super::{Named, Signature, both};
+use super::{Named, Signature};
 use crate::{ConstDecl, Declared, LiteralClass, MacroDecl, ProgramDecl, RuleDecl};
-use eo_base::Name;
+use eo_base::{Name, both};
 use eo_term::Id;
 use std::alloc::AllocError;
 

@@ -8,7 +8,7 @@ ghost use Rattle.eo_sig.specs.Reading.{AttributeBelow, CaseBelow, ConstBelow, Is
 
 use super::rows::{ProgramRow, Row, Trial, Want};
 use super::words::PROGRAMS;
-use eo_base::Name;
+use eo_base::{Name, both};
 use eo_base::limits::PARAMETERS;
 use eo_eval::{Evaluator, Outcome};
 use eo_sig::{Attribute, Case, Cases, ConstDecl, Params, ProgramDecl, Signature};
@@ -46,7 +46,7 @@ impl World {
     // Nothing is declared yet.
     fn first(alloc: Global) -> Result<World, Fail> {
         let table = Table::new(alloc)?;
-        let sig = Signature::new(alloc)?;
+        let (sig, table) = both(Signature::new(alloc), table)?;
         Ok(World { alloc, table, sig })
     }
 

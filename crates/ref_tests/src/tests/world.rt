@@ -4,6 +4,7 @@ ghost use Rattle.eo_sig.specs.Reading.{IsBelow, ConstBelow, MacroBelow};
 ghost use Rattle.eo_elab.specs.Declaring.{DeclarationBelow};
 
 use super::text::read;
+use eo_base::both;
 use eo_elab::ElabRefused;
 use eo_ref::{RefNext, RefRefused, Reference};
 use eo_sexp::Sexp;
@@ -58,10 +59,12 @@ impl Model for World {
 impl World {
     /// Nothing is declared or asserted yet.
     pub(super) fn new(alloc: Global) -> Result<World, AllocError> {
+        let table = Table::new(alloc)?;
+        let (sig, table) = both(Signature::new(alloc), table)?;
         Ok(World {
             alloc,
-            table: Table::new(alloc)?,
-            sig: Signature::new(alloc)?,
+            table,
+            sig,
             reference: Reference::new(alloc),
         })
     }

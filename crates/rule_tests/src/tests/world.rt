@@ -17,7 +17,7 @@ ghost use Rattle.eo_sig.specs.Usable.{AreOrdered, IsUsable};
 ghost use Rattle.eo_rule.specs.Reading.{IsUseOf};
 
 use super::rows::{Form, Given, RuleRow, Told, Trial, UseRow, Want};
-use eo_base::Name;
+use eo_base::{Name, both};
 use eo_eval::Evaluator;
 use eo_pattern::Subst;
 use eo_rule::{RuleRefused, RuleUse, conclude};
@@ -63,7 +63,7 @@ impl World {
     // Nothing is declared yet.
     fn first(alloc: Global) -> Result<World, Fail> {
         let table = Table::new(alloc)?;
-        let sig = Signature::new(alloc)?;
+        let (sig, table) = both(Signature::new(alloc), table)?;
         Ok(World { alloc, table, sig })
     }
 

@@ -2,7 +2,7 @@
 ghost use Rattle.std.specs.Prelude.{◌≡◌, ◌<◌, length, All, IfOk};
 ghost use Rattle.eo_sig.specs.Reading.{CaseBelow, ConstBelow, ProgramBelow, RuleBelow};
 
-use eo_base::Name;
+use eo_base::{Name, both};
 use eo_sig::{
     Attribute, Case, Cases, ConstDecl, Entry, IdPairs, Param, Params, PremiseShape, ProgramDecl,
     RuleDecl, SigRefused, Signature,
@@ -44,11 +44,9 @@ impl Model for World {
 impl World {
     /// Nothing is declared yet.
     pub(super) fn new(alloc: Global) -> Result<World, AllocError> {
-        Ok(World {
-            alloc,
-            table: Table::new(alloc)?,
-            sig: Signature::new(alloc)?,
-        })
+        let table = Table::new(alloc)?;
+        let (sig, table) = both(Signature::new(alloc), table)?;
+        Ok(World { alloc, table, sig })
     }
 
     /// The parameter 0.

@@ -1,0 +1,15 @@
+//! Steps that may be refused, beside what is owned.
+ghost use Rattle.std.specs.Prelude.{◌≡◌, Ok, Err, IfOk, IfErr};
+
+/// What was called gave, and another value, or why the call was refused. The other value is then let
+/// go here, once for all types: a function that owns much lets nothing go by itself.
+pub fn both<A: Drop, B: Drop, E: Drop>(called: Result<A, E>, other: B) -> Result<(A, B), E>
+    ensures called { IfOk result (λ p. called ≡ Ok p.0) }
+    ensures other { IfOk result (λ p. p.1 ≡ other) }
+    ensures refused { IfErr result (λ e. called ≡ Err e) }
+{
+    match called {
+        Ok(value) => Ok((value, other)),
+        Err(e) => Err(e),
+    }
+}
