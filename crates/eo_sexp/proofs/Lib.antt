@@ -45,3 +45,4 @@ mod AheadRuns
 mod QuotedRuns
 mod PartsOf
 mod BlankRuns
+mod AtomPlaces
