@@ -332,7 +332,6 @@ impl Reader {
         ensures moves { IfOk result (λ r. r.turn ≡ ReaderTurn.Goes → 0 < r.taken) }
         ensures runs { IfOk result (λ r. Runs limits buffer.old self.old rest.now r.taken r.lines r.turn buffer.new self.new) }
     {
-        let at = buffer.bytes().len();
         if begins_quoted(rest[0]) {
             let n = self.bar_ahead(buffer, rest);
             if n > 0 {
@@ -340,13 +339,25 @@ impl Reader {
             }
         }
         if begins_text(rest[0]) {
-            let token = Token::Text { closed: false };
-            let n = self.ahead(buffer, token, rest);
+            let n = self.ahead(buffer, Token::Text { closed: false }, rest);
             if n > 0 {
-                let turn = self.turn_behind(buffer, token, at, n, rest)?;
-                return keep(buffer, rest, n, turn);
+                return self.take_text(buffer, n, rest);
             }
         }
+        self.take_byte(buffer, rest)
+    }
+
+    // Takes the first byte, which stands between two tokens of a list.
+    #[inline(always)]
+    fn take_byte(&mut self, buffer: &mut Buffer, rest: &[u8]) -> Result<Run, AllocError>
+        requires reader { IsReader limits (held buffer.old self.old) (length buffer.old.bytes) }
+        requires gap { self.old.position ≡ Position.Gap }
+        requires room { length buffer.old.bytes + length rest.now ≤ 2 ^ 24 }
+        requires some { 0 < length rest.now }
+        ensures moves { IfOk result (λ r. r.turn ≡ ReaderTurn.Goes → 0 < r.taken) }
+        ensures runs { IfOk result (λ r. Runs limits buffer.old self.old rest.now r.taken r.lines r.turn buffer.new self.new) }
+    {
+        let at = buffer.bytes().len();
         let turn = self.turn_gap(buffer, at, rest[0])?;
         keep(buffer, rest, 0, turn)
     }
@@ -462,6 +473,20 @@ impl Reader {
             lines: 0,
             turn: ReaderTurn::Goes,
         })
+    }
+
+    // Takes the first `n` bytes of a string, and the byte behind them.
+    #[inline(always)]
+    fn take_text(&mut self, buffer: &mut Buffer, n: usize, rest: &[u8]) -> Result<Run, AllocError>
+        requires reader { IsReader limits (held buffer.old self.old) (length buffer.old.bytes) }
+        requires first { IsFirstOf self.old (get_or rest.now 0 0) (Token.Text false) }
+        requires ahead { IsAhead limits buffer.old (Token.Text false) rest.now n }
+        ensures moves { IfOk result (λ r. r.turn ≡ ReaderTurn.Goes → 0 < r.taken) }
+        ensures runs { IfOk result (λ r. Runs limits buffer.old self.old rest.now r.taken r.lines r.turn buffer.new self.new) }
+    {
+        let at = buffer.bytes().len();
+        let turn = self.turn_behind(buffer, Token::Text { closed: false }, at, n, rest)?;
+        keep(buffer, rest, n, turn)
     }
 
     // Takes a word of `n` bytes and the byte behind it.

@@ -1,19 +1,8 @@
-use Rattle.std.proofs.Common.{◌≡◌, ap, length, get_or, subst, arith}
-use Rattle.std.proofs.lemmas.Result.{IfOk-weaker}
-use Rattle.eo_base.specs.Limits.{limits}
-use Rattle.eo_sexp.specs.Built.{with_byte}
-use Rattle.eo_sexp.specs.Reader.{held, Turns}
-use Rattle.eo_sexp.proofs.LimitFacts.{command_is}
-use Rattle.eo_sexp.proofs.AheadRuns.{stops-first}
+use Rattle.std.proofs.Common.{rules}
 use Rattle.eo_sexp.proofs.reader.Reader.step_other.Goals as goal
 
-pub returns-clause-runs : goal.returns-clause-runs
-returns-clause-runs c =
-    let b = c.args.buffer.now in
-    let x = get_or c.args.rest.now 0 0 in
-    let at : length c.bytes-at.result.now ≡ length b.bytes = ap length c.bytes-at.ensures in
-    IfOk-weaker c.keep-2.result _ _
-    (λ k h. h b c.args.self.now c.turn_gap.new.self (omega (arith, c.requires.room, c.requires.some, command_is))
-    (stops-first limits b c.turn_gap.new.buffer c.args.self.now c.turn_gap.new.self c.args.rest.now c.in_ok-turn-2.turn c.requires.reader (omega (arith, c.requires.room, c.requires.some, command_is)) c.requires.some c.in_ok-turn-2.ensures.bytes
-    (subst (λ i. Turns limits (held b c.args.self.now) i x c.in_ok-turn-2.turn (held (with_byte c.turn_gap.new.buffer x) c.turn_gap.new.self)) at c.in_ok-turn-2.ensures.turns)))
-    c.keep-2.ensures.runs
+pub take_quoted-requires-clause-first : goal.take_quoted-requires-clause-first
+take_quoted-requires-clause-first c = record { gap = c.requires.gap; first = search rules }
+
+pub take_text-requires-clause-first : goal.take_text-requires-clause-first
+take_text-requires-clause-first c = record { gap = c.requires.gap; first = search rules }
