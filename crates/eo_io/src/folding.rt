@@ -21,15 +21,26 @@ const PATH_LIMIT: usize = 4_096;
 ///
 /// `Bad`: the path is not UTF-8, no part of it stays, or it is longer than 4,096 bytes once it is
 /// folded. `Memory`: there was no memory left.
-#[tactic(auto, using(crate::proofs::FoldingLemmas::folded_text, crate::proofs::FoldingLemmas::folded_no_text))]
 pub fn fold_path(alloc: Global, from: &[u8], name: &[u8]) -> Result<Text, PathRefused>
     ensures folds { IfOk result (λ path. fold_path from.now name.now ≡ Some path) }
     ensures bad { result ≡ Err Bad → fold_path from.now name.now ≡ None }
 {
-    let path = seen_from(alloc, from, name).map_err(PathRefused::Memory)?;
+    match fold(alloc, from, name) {
+        Ok(Some(path)) => Ok(path),
+        Ok(None) => Err(PathRefused::Bad),
+        Err(e) => Err(PathRefused::Memory(e)),
+    }
+}
+
+/// The same, where `None` is a bad path.
+#[tactic(auto, using(crate::proofs::FoldingLemmas::folded_text, crate::proofs::FoldingLemmas::folded_no_text))]
+fn fold(alloc: Global, from: &[u8], name: &[u8]) -> Result<Option<Text>, AllocError>
+    ensures { IfOk result (λ path. path ≡ fold_path from.now name.now) }
+{
+    let path = seen_from(alloc, from, name)?;
     match str::from_utf8(&path) {
         Ok(path) => folded(alloc, path),
-        Err(_) => Err(PathRefused::Bad),
+        Err(_) => Ok(None),
     }
 }
 
@@ -70,20 +81,19 @@ fn folder_len(path: &[u8]) -> usize
     end
 }
 
-/// A path that is UTF-8, folded.
-fn folded(alloc: Global, path: &str) -> Result<Text, PathRefused>
-    ensures folds { IfOk result (λ folded. path_of_parts (is_absolute path.now) (parts_of path.now) ≡ Some folded) }
-    ensures bad { result ≡ Err Bad → path_of_parts (is_absolute path.now) (parts_of path.now) ≡ None }
+/// A path that is UTF-8, folded; `None` where no part stays, or it is too long.
+fn folded(alloc: Global, path: &str) -> Result<Option<Text>, AllocError>
+    ensures { IfOk result (λ folded. folded ≡ path_of_parts (is_absolute path.now) (parts_of path.now)) }
 {
-    let parts = parts_of(alloc, path).map_err(PathRefused::Memory)?;
+    let parts = parts_of(alloc, path)?;
     if parts.is_empty() {
-        return Err(PathRefused::Bad);
+        return Ok(None);
     }
-    let joined = joined(alloc, &parts, is_absolute(path.as_bytes())).map_err(PathRefused::Memory)?;
+    let joined = joined(alloc, &parts, is_absolute(path.as_bytes()))?;
     if joined.len() > PATH_LIMIT {
-        return Err(PathRefused::Bad);
+        return Ok(None);
     }
-    Text::new(alloc, &joined).map_err(PathRefused::Memory)
+    Ok(Some(Text::new(alloc, &joined)?))
 }
 
 /// The parts with a slash between them, and one before them where the path begins at the root.
