@@ -1,7 +1,7 @@
-use Rattle.std.proofs.Common.{sym, ap, ◌∙◌, [], true, not}
+use Rattle.std.proofs.Common.{sym, ap, ◌∙◌, [], true, false, not, subst}
 use Rattle.eo_base.specs.Limits.{limits}
 use Rattle.eo_sexp.specs.declared.incremental.State.TheVariants as state
-use Rattle.eo_sexp.specs.Machine.{phase_of}
+use Rattle.eo_sexp.specs.Machine.{phase_of, IsSoundAt}
 use Rattle.eo_sexp.specs.Texts.{next_spot}
 use Rattle.eo_sexp.specs.Collecting.{Within}
 use Rattle.eo_sexp.proofs.MachineSteps.{begun-pair, takes-passed, takes-answered, between-none, between-placed}
@@ -21,3 +21,24 @@ returns-then-comment c =
 
 pub returns-in_default : goal.returns-in_default
 returns-in_default c = takes-answered c.args.self.now c.args.x c.in_default.not-Between c.in_default.not-Begun c.in_default.not-Pair c.requires.sound
+
+pub pass-requires-clause-line : goal.pass-requires-clause-line
+pass-requires-clause-line c = let p = between-placed c.args.self.now true (c.in-Between.is ∙ ap (λ b. state.Between b) c.if-comment.true) c.requires.sound in p.line
+
+pub pass-requires-clause-nothing : goal.pass-requires-clause-nothing
+pass-requires-clause-nothing c = between-none c.args.self.now true (c.in-Between.is ∙ ap (λ b. state.Between b) c.if-comment.true) c.requires.sound
+
+pub turn_between-requires-clause-between : goal.turn_between-requires-clause-between
+turn_between-requires-clause-between c = c.in-Between.is ∙ ap (λ b. state.Between b) c.if-comment.false
+
+pub turn_between-requires-clause-nothing : goal.turn_between-requires-clause-nothing
+turn_between-requires-clause-nothing c = between-none c.args.self.now false (c.in-Between.is ∙ ap (λ b. state.Between b) c.if-comment.false) c.requires.sound
+
+pub turn_between-requires-clause-placed : goal.turn_between-requires-clause-placed
+turn_between-requires-clause-placed c = between-placed c.args.self.now false (c.in-Between.is ∙ ap (λ b. state.Between b) c.if-comment.false) c.requires.sound
+
+pub turn_begun-requires-clause-begun : goal.turn_begun-requires-clause-begun
+turn_begun-requires-clause-begun c = let h = subst (λ q. IsSoundAt q c.args.self.now) c.in-Begun.is c.requires.sound in h.0
+
+pub turn_begun-requires-clause-placed : goal.turn_begun-requires-clause-placed
+turn_begun-requires-clause-placed c = let h = subst (λ q. IsSoundAt q c.args.self.now) c.in-Begun.is c.requires.sound in h.2
