@@ -1,4 +1,4 @@
-use Rattle.std.proofs.Common.{◌≡◌, ℕ, ◌+◌, ◌-◌, Bool, true, false, List, ◌∷◌, take, drop, ap, sym, ◌∙◌, subst, arith}
+use Rattle.std.proofs.Common.{◌≡◌, ℕ, ◌+◌, ◌-◌, Bool, true, false, List, ◌∷◌, take, drop, ap, sym, ◌∙◌, subst}
 use Rattle.eo_sexp.specs.Sexp.{sexp_text}
 use Rattle.eo_sexp.specs.Nodes.{trees, first_of, token_text, HasText, AreLinked}
 use Rattle.eo_sexp.specs.declared.token.AtomKind.{AtomKind}
@@ -13,12 +13,6 @@ module _ (bytes : List ℕ) (ns more : List Node) (k : AtomKind) (d e : Bool) (f
 
   first-within : AreLinked bytes ns → HasText bytes e from to
   first-within linked = subst (λ b. HasText bytes b from to) same (subst (AreLinked bytes) is linked).0
-
-pub overflow_sub-result : goal.overflow_sub-result
-overflow_sub-result c =
-    let a = c.in-Atom-default-true-default-default in
-    let h = first-within c.self.inside.parts.now.bytes.items _ _ a.kind a.delimited true a.from a.to a.ensures a.delimited-test c.self.invariant.linked in
-    omega (arith, h.0)
 
 pub returns-in-Atom-default-true-default-default : goal.returns-in-Atom-default-true-default-default
 returns-in-Atom-default-true-default-default c =
