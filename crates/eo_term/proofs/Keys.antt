@@ -16,7 +16,7 @@ use Rattle.eo_term.specs.declared.node.Info.{Info}
 use Rattle.eo_term.specs.declared.nodes.Nodes.{Nodes}
 use Rattle.eo_term.specs.SmallNumbers.{IsSmall}
 use Rattle.eo_term.specs.Terms.{AreApart}
-use Rattle.eo_term.specs.Keys.{literal_node, literal_at, list_at, root_of, UsesOnly, IsWide, literals_of, lists_of, list_items, ages_of, entries_of, IsOld, IsNumbered, IsKeyed, IsKept, IsKeyOf, IsMore, IsNew, HasRootAt, IsCut, Root}
+use Rattle.eo_term.specs.Keys.{literal_node, literal_at, list_at, root_of, UsesOnly, IsWide, literals_of, lists_of, list_items, ages_of, entries_of, IsOld, IsNumbered, IsKeyed, IsKept, IsKeyOf, Numbers, MoreLiterals, MoreLists, IsMore, IsNew, HasRootAt, IsCut, Root}
 use Rattle.eo_term.specs.contracts.node.KeyPartialEq.TheImpl as key_eq
 use Rattle.eo_term.proofs.Apart.{one_place}
 use Rattle.eo_term.proofs.Exact.{key_exact, key_same}
@@ -36,6 +36,45 @@ uses_weaker P Q R S f g (key.Qar i a b) h = tt
 uses_weaker P Q R S f g (key.Pair o is) h = tt
 uses_weaker P Q R S f g (key.Builtin o n l) h = (h.0, g l h.1)
 uses_weaker P Q R S f g (key.Prog n p l) h = g l h
+
+-- a key without a literal and arguments of its own
+pub known_key : (n : Nodes) (d : Node) (is js : List ℕ) (k : Key) → UsesOnly (λ l. ⊥) (λ l. ⊥) k → ((ls : List Literal) (as' : List (List ℕ)) → root_of ls as' k ≡ record { node = d; args = is }) → is ≡ js
+    → IsKeyOf n d js k × IsKeyed n (length n.keys.entries) k
+known_key n d is js k uses root same = (
+  record {
+    live = uses_weaker (λ l. ⊥) (λ l. ⊥) (λ l. l < length (literals_of n)) (λ l. l < length (lists_of n)) (λ l h. absurd h) (λ l h. absurd h) k uses;
+    root = subst (λ (xs : List ℕ). root_of (literals_of n) (lists_of n) k ≡ record { node = d; args = xs }) same (root (literals_of n) (lists_of n));
+  },
+  uses_weaker (λ l. ⊥) (λ l. ⊥) (IsOld (ages_of n.literals.entries) (length n.keys.entries)) (IsOld (ages_of n.lists.entries) (length n.keys.entries)) (λ l h. absurd h) (λ l h. absurd h) k uses,
+)
+
+-- what is numbered, where nothing or one kind alone is added
+numbers_same : {X : Type 0} (n : ℕ) (xs : List X) (ages : List ℕ) → IsNumbered n xs ages → Numbers n xs ages xs ages
+numbers_same n xs ages h = record { numbered = h; same = λ l x e. e; aged = λ l m o. o }
+
+pub more_same : (m : Nodes) → IsKept m → IsMore m m
+more_same m k = record {
+  keys = refl;
+  literals = numbers_same (length m.keys.entries) (literals_of m) (ages_of m.literals.entries) k.literals;
+  lists = numbers_same (length m.keys.entries) (lists_of m) (ages_of m.lists.entries) k.lists;
+  wide = k.wide;
+}
+
+pub more_literals : (m n : Nodes) (terms : ℕ) → IsKept m → n.keys ≡ m.keys → n.lists ≡ m.lists → terms ≡ length m.keys.entries → MoreLiterals terms m.literals.entries n.literals.entries → All IsWide (literals_of n) → IsMore m n
+more_literals m n terms k keys lists count more wide = record {
+  keys = keys;
+  literals = subst (λ j. MoreLiterals j m.literals.entries n.literals.entries) count more;
+  lists = subst (λ ls. MoreLists (length m.keys.entries) m.lists.entries ls.entries) (sym lists) (numbers_same (length m.keys.entries) (lists_of m) (ages_of m.lists.entries) k.lists);
+  wide = wide;
+}
+
+pub more_lists : (m n : Nodes) (terms : ℕ) → IsKept m → n.keys ≡ m.keys → n.literals ≡ m.literals → terms ≡ length m.keys.entries → MoreLists terms m.lists.entries n.lists.entries → IsMore m n
+more_lists m n terms k keys literals count more = record {
+  keys = keys;
+  literals = subst (λ ls. MoreLiterals (length m.keys.entries) m.literals.entries ls.entries) (sym literals) (numbers_same (length m.keys.entries) (literals_of m) (ages_of m.literals.entries) k.literals);
+  lists = subst (λ j. MoreLists j m.lists.entries n.lists.entries) count more;
+  wide = subst (λ ls. All IsWide (keys_of ls.entries)) (sym literals) k.wide;
+}
 
 -- a key stands for the same root where its literal and its arguments are the same
 pub root_same : (ls ms : List Literal) (as' bs : List (List ℕ)) (k : Key) → UsesOnly (λ l. literal_at ms l ≡ literal_at ls l) (λ l. list_at bs l ≡ list_at as' l) k → root_of ms bs k ≡ root_of ls as' k

@@ -24,7 +24,7 @@ slice_get_some (x ∷ xs) zero h = (x, refl)
 slice_get_some (x ∷ xs) (suc i) h = slice_get_some xs i (omega arith)
 
 -- a root over lists is one over longer lists
-PartsBelow-weaker : (n m : ℕ) → n ≤ m → (d : Node) → PartsBelow n d → PartsBelow m d
+pub PartsBelow-weaker : (n m : ℕ) → n ≤ m → (d : Node) → PartsBelow n d → PartsBelow m d
 PartsBelow-weaker n m h (node.Con k) p = tt
 PartsBelow-weaker n m h (node.Num z) p = tt
 PartsBelow-weaker n m h (node.Bits w v) p = tt
