@@ -1,16 +1,16 @@
 -- Answers that are bit strings.
-use Rattle.std.specs.Prelude.{◌≡◌, ℕ, ◌+◌, ◌*◌, ◌%◌, ◌^◌, ◌<◌, ◌≤◌, true, false, nat_eq, nat_le, List, bit_or, ℤ, pos, negsuc, Option, Some, None, unwrap_or, FitsSigned, Result, Ok, Err, IfOk, MatchResult, refl}
+use Rattle.std.specs.Prelude.{◌≡◌, ℕ, ◌+◌, ◌*◌, ◌%◌, ◌^◌, ◌<◌, ◌≤◌, true, false, nat_eq, nat_le, List, bit_or, ℤ, pos, negsuc, Option, Some, None, unwrap_or, MatchOption, Bool, FitsSigned, Result, Ok, Err, IfOk, MatchResult, refl}
 use Rattle.std.proofs.Common.{◌∙◌, arith, rules, tests, inl, inr}
 use Rattle.std.proofs.lemmas.Nat.{pow_pos, mod_below, shl_whole, or_shifted, or_disjoint}
-use Rattle.std.proofs.lemmas.Bool.{cases_lt}
+use Rattle.std.proofs.lemmas.Bool.{cases_lt, lt-ltb, ltb-true}
 use Rattle.std.specs.Int.{w128, cast_unsigned}
 use Rattle.std.specs.Option.{SomeIff}
 use Rattle.std.specs.declared.alloc.AllocError.{AllocError}
 use Rattle.eo_ops.proofs.Bits.{below_zero_bits}
 use Rattle.eo_ops.specs.declared.OpResult.{OpResult}
-use Rattle.eo_ops.specs.declared.OpResult.TheVariants.{Value, Memory}
-use Rattle.eo_ops.specs.declared.Lit.TheVariants.{Bits, Str}
-use Rattle.eo_ops.specs.Operators.{Literal, BitString, Text, OpAnswer, Gives, if_same_width, in_width}
+use Rattle.eo_ops.specs.declared.OpResult.TheVariants.{Value, NumberRange, Memory}
+use Rattle.eo_ops.specs.declared.Lit.TheVariants.{Num, Bits, Str}
+use Rattle.eo_ops.specs.Operators.{Literal, BitString, Text, OpAnswer, Gives, is_in_range, number, if_same_width, in_width}
 use Rattle.eo_ops.specs.OpResult.{Answers}
 
 -- a bit string that is the last bits of a value
@@ -57,3 +57,24 @@ pub answered_text : (r : OpResult) (made : Result (List ℕ) AllocError) (t : Li
     → MatchResult made (λ x. r ≡ Value (Str x)) (λ e. r ≡ Memory e) → IfOk made (λ x. x ≡ t) → answer ≡ Gives (Text t) → Answers r answer
 answered_text r (Ok x) t answer is made gives = rw (is, made) (gives, tt)
 answered_text r (Err e) t answer is made gives = rw (is, gives) refl
+
+-- a number, where it is in range
+fits_range : (z : ℤ) → FitsSigned w128 z → is_in_range z ≡ true
+fits_range (pos n) fits = lt-ltb _ _ fits.sfits
+fits_range (negsuc n) fits = lt-ltb _ _ fits.sfits
+
+beyond_range : (z : ℤ) → (FitsSigned w128 z → ⊥) → is_in_range z ≡ false
+beyond_range z beyond = by z (is_in_range z) refl beyond
+  where
+    by : (z : ℤ) (b : Bool) → is_in_range z ≡ b → (FitsSigned w128 z → ⊥) → b ≡ false
+    by z false e beyond = refl
+    by (pos n) true e beyond = absurd (beyond (record { sfits = ltb-true _ _ e }))
+    by (negsuc n) true e beyond = absurd (beyond (record { sfits = ltb-true _ _ e }))
+
+pub answered_number : (r : OpResult) (o : Option ℤ) (z : ℤ) → MatchOption o (r ≡ NumberRange) (λ y. r ≡ Value (Num y)) → SomeIff o (FitsSigned w128 z) z → Answers r (number z)
+answered_number r (Some y) z is fits =
+    let within = fits_range z fits.0 in
+    rw (is, fits.1, within) (refl, tt)
+answered_number r None z is fits =
+    let beyond = beyond_range z fits in
+    rw (is, beyond) refl

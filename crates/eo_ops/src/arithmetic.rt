@@ -1,7 +1,7 @@
 //! Numbers, and bit strings as numbers modulo two to the power of their width.
 ghost use Rattle.std.specs.Prelude.{◌≡◌, ◌≢◌, ◌≤◌, [], ◌∷◌, ◌+ℤ◌, ◌*ℤ◌, ◌+◌, ◌*◌, ◌/◌, ◌%◌};
 ghost use Rattle.std.specs.Prelude.{map, All};
-ghost use Rattle.eo_ops.specs.Operators.{BitString, arithmetic, negative, division, quotient, remainder, below_zero, greater};
+ghost use Rattle.eo_ops.specs.Operators.{Number, BitString, arithmetic, negative, division, quotient, remainder, below_zero, greater};
 ghost use Rattle.eo_ops.specs.Lit.{lit, IsWellFormed, FitsWidth};
 ghost use Rattle.eo_ops.specs.OpResult.{Answers};
 
@@ -13,7 +13,7 @@ pub(crate) fn add(args: &[Lit]) -> OpResult
     ensures { Answers result (arithmetic ◌+ℤ◌ ◌+◌ (map lit args.now)) }
 {
     match args {
-        [Lit::Num(a), Lit::Num(b)] => number(a.checked_add(*b)),
+        [Lit::Num(a), Lit::Num(b)] => add_numbers(*a, *b),
         [
             Lit::Bits { width, value: a },
             Lit::Bits {
@@ -23,6 +23,12 @@ pub(crate) fn add(args: &[Lit]) -> OpResult
         ] if width == other => add_bits(*width, *a, *b),
         _ => OpResult::Stuck,
     }
+}
+
+fn add_numbers(a: i128, b: i128) -> OpResult
+    ensures { Answers result (arithmetic ◌+ℤ◌ ◌+◌ (Number a ∷ Number b ∷ [])) }
+{
+    number(a.checked_add(b))
 }
 
 fn add_bits(width: u8, a: u128, b: u128) -> OpResult
@@ -37,7 +43,7 @@ pub(crate) fn mul(args: &[Lit]) -> OpResult
     ensures { Answers result (arithmetic ◌*ℤ◌ ◌*◌ (map lit args.now)) }
 {
     match args {
-        [Lit::Num(a), Lit::Num(b)] => number(a.checked_mul(*b)),
+        [Lit::Num(a), Lit::Num(b)] => mul_numbers(*a, *b),
         [
             Lit::Bits { width, value: a },
             Lit::Bits {
@@ -47,6 +53,12 @@ pub(crate) fn mul(args: &[Lit]) -> OpResult
         ] if width == other => mul_bits(*width, *a, *b),
         _ => OpResult::Stuck,
     }
+}
+
+fn mul_numbers(a: i128, b: i128) -> OpResult
+    ensures { Answers result (arithmetic ◌*ℤ◌ ◌*◌ (Number a ∷ Number b ∷ [])) }
+{
+    number(a.checked_mul(b))
 }
 
 fn mul_bits(width: u8, a: u128, b: u128) -> OpResult
@@ -79,7 +91,7 @@ pub(crate) fn zdiv(args: &[Lit]) -> OpResult
     ensures { Answers result (division quotient ◌/◌ (map lit args.now)) }
 {
     match args {
-        [Lit::Num(a), Lit::Num(b)] if *b != 0 => number(a.checked_div_euclid(*b)),
+        [Lit::Num(a), Lit::Num(b)] => zdiv_numbers(*a, *b),
         [
             Lit::Bits { width, value: a },
             Lit::Bits {
@@ -89,6 +101,15 @@ pub(crate) fn zdiv(args: &[Lit]) -> OpResult
         ] if width == other => zdiv_bits(*width, *a, *b),
         _ => OpResult::Stuck,
     }
+}
+
+fn zdiv_numbers(a: i128, b: i128) -> OpResult
+    ensures { Answers result (division quotient ◌/◌ (Number a ∷ Number b ∷ [])) }
+{
+    if b == 0 {
+        return OpResult::Stuck;
+    }
+    number(a.checked_div_euclid(b))
 }
 
 fn zdiv_bits(width: u8, a: u128, b: u128) -> OpResult
@@ -106,7 +127,7 @@ pub(crate) fn zmod(args: &[Lit]) -> OpResult
     ensures { Answers result (division remainder ◌%◌ (map lit args.now)) }
 {
     match args {
-        [Lit::Num(a), Lit::Num(b)] if *b != 0 => number(a.checked_rem_euclid(*b)),
+        [Lit::Num(a), Lit::Num(b)] => zmod_numbers(*a, *b),
         [
             Lit::Bits { width, value: a },
             Lit::Bits {
@@ -116,6 +137,15 @@ pub(crate) fn zmod(args: &[Lit]) -> OpResult
         ] if width == other => zmod_bits(*width, *a, *b),
         _ => OpResult::Stuck,
     }
+}
+
+fn zmod_numbers(a: i128, b: i128) -> OpResult
+    ensures { Answers result (division remainder ◌%◌ (Number a ∷ Number b ∷ [])) }
+{
+    if b == 0 {
+        return OpResult::Stuck;
+    }
+    number(a.checked_rem_euclid(b))
 }
 
 fn zmod_bits(width: u8, a: u128, b: u128) -> OpResult
