@@ -1,8 +1,9 @@
 -- Names that are found by their numbers and by their hashes.
-use Rattle.std.proofs.Common.{◌≡◌, ◌≢◌, refl, sym, ap, subst, ◌∙◌, ℕ, zero, suc, ◌+◌, ◌≤◌, ◌<◌, ◌⊎◌, inl, inr, Bool, true, false, List, [], ◌∷◌, ◌++◌, length, length-append, take, drop, drop-cons, get_or, Option, Some, None, slice_get, if◌then◌else◌, arith}
+use Rattle.std.proofs.Common.{◌≡◌, ◌≢◌, refl, sym, ap, subst, ◌∙◌, ℕ, zero, suc, ◌+◌, ◌≤◌, ◌<◌, ◌⊎◌, inl, inr, Bool, true, false, List, [], ◌∷◌, ◌++◌, length, length-append, take, drop, drop-cons, get_or, set, length-set, Option, Some, None, slice_get, if◌then◌else◌, arith}
 use Rattle.std.specs.Prelude.{option_map, option_and_then, bytes_eq, cond, not, nat_lt}
 use Rattle.std.specs.List.{position, position_or_len, zip}
 use Rattle.std.specs.Map.{lookup, keys_of}
+use Rattle.std.proofs.lemmas.List.{get_or-set_same, get_or-set_other}
 use Rattle.std.proofs.lemmas.Option.{none-some, same_Some, slice_get-map, slice_get_within, slice_get_past, slice_get-get_or}
 use Rattle.std.proofs.lemmas.Slice.Eq.{bytes_eq-Decides}
 use Rattle.std.proofs.lemmas.Slice.Zip.{length-zip}
@@ -359,3 +360,22 @@ pub found-without : (ns : List (List ℕ)) (nb : List ℕ) (ot : List Entry) (q 
 found-without ns nb ot q h =
     let cut = found-cut (ns ++ q ∷ []) nb ot (length ns) (length ot) (λ i e l at. absurd (omega (arith, l, slice_get_within ot i e at))) h in
     subst (λ (os : List Entry). AreFound ns nb os) (take-length ot) (subst (λ (ms : List (List ℕ)). AreFound ms nb (take (length ot) ot)) (take-append_seam ns (q ∷ [])) cut)
+
+-- a list of numbers that was made longer, where need be, and then lets one number lead to a place
+pub led : (old wide : List ℕ) (number place : ℕ) → number < length wide → ((k : ℕ) → k < length old → (k < length wide) × (get_or wide k 0 ≡ get_or old k 0))
+    → ((k : ℕ) → length old ≤ k → k < length wide → get_or wide k 0 ≡ 4294967295) → LeadsTo old number place (set wide number place)
+led old wide number place within same filled =
+    let new = set wide number place in
+    let long : length new ≡ length wide = length-set wide number place in
+    record {
+      here = slice_get-get_or new number 0 (omega arith) ∙ ap Some (get_or-set_same wide number place 0 within);
+      others = λ k apart. elim (cases_lt k (length old)) [
+        | inl low ↦
+            let kept = same k low in
+            inl (slice_get-get_or new k 0 (omega (arith, kept.0)) ∙ ap Some (get_or-set_other wide number k place 0 apart ∙ kept.1) ∙ sym (slice_get-get_or old k 0 low))
+        | inr high ↦ elim (cases_lt k (length wide)) [
+          | inl there ↦ inr (slice_get_past old k high, slice_get-get_or new k 0 (omega arith) ∙ ap Some (get_or-set_other wide number k place 0 apart ∙ filled k high there))
+          | inr past ↦ inl (slice_get_past new k (omega arith) ∙ sym (slice_get_past old k high))
+        ]
+      ];
+    }
