@@ -8,8 +8,8 @@ ghost use Rattle.eo_sig.specs.Reading.{AttributeBelow, CaseBelow, ConstBelow, Is
 
 use super::rows::{ProgramRow, Row, Trial, Want};
 use super::words::PROGRAMS;
-use eo_base::{Name, both};
 use eo_base::limits::PARAMETERS;
+use eo_base::{Name, both};
 use eo_eval::{Evaluator, Outcome};
 use eo_sig::{Attribute, Case, Cases, ConstDecl, Params, ProgramDecl, Signature};
 use eo_term::{BOOL, FALSE, Id, Ids, Node, OpCode, OpName, Table, TermRefused, TextId};
