@@ -1,4 +1,4 @@
-use Rattle.std.proofs.Common.{◌-◌, ℕ, List, [], false, length, take, drop, refl, Bool, sym, ap, subst, ◌∙◌, arith, length-take, append-nil, inl, inr}
+use Rattle.std.proofs.Common.{◌-◌, ◌<◌, ℕ, List, [], false, length, take, drop, refl, Bool, sym, ap, subst, ◌∙◌, arith, length-take, append-nil, inl, inr}
 use Rattle.std.specs.Prelude.{Result, Ok, Err, Option, None, Some, IfErr}
 use Rattle.eo_base.specs.declared.FaultName.TheVariants.{IncludeDepth, FileAbsent, FileLong}
 use Rattle.eo_io.specs.Library.{Rest}
@@ -8,7 +8,7 @@ use Rattle.eo_sexp.specs.Collecting.{here_of}
 use Rattle.eo_run.specs.Answer.{Denotes, AnswerHasCause}
 use Rattle.eo_session.specs.Numbered.{origin_of, number_of}
 use Rattle.eo_run.specs.Progress.{progress_of}
-use Rattle.eo_run.specs.Reading.{progress, behind, at_end, LeadsOn, ChecksPiece, ChecksEnd, IsAsked, IsAskedAtEnd, IsFed, IsEnded}
+use Rattle.eo_run.specs.Reading.{progress, count_of, behind, at_end, LeadsOn, ChecksPiece, ChecksEnd, IsAsked, IsAskedAtEnd, IsFed, IsEnded}
 use Rattle.eo_run.specs.Run.{refusal_at}
 use Rattle.eo_run.specs.Opening.{Keeps, IsNumbered, LeadsIn, Told, IsStop, IsRead, IsTaken, IsLeft, Opens, StaysOpen, TakesPiece, TakesEnd, RunsOpen, RunsFile, place_in}
 use Rattle.eo_session.specs.declared.Next.{Next}
@@ -146,6 +146,17 @@ take_piece-commands-preserved g t c =
       table = extends-trans c.args.paths.now c.commands.paths paths i.table opened.keeps.table;
       stays = stays-trans g.L.Library.told g.L.Library.open_files g.L.Library.faults c.args.files.now c.commands.files c.open_next.new.files i.stays opened.stays;
     }
+
+pub take_piece-commands-smaller : goal.take_piece-commands-smaller
+take_piece-commands-smaller g t c =
+    let s = c.args.source.now in
+    let st = c.commands.run.session.state in
+    let new = c.check_piece.new.session.state in
+    let rest = c.commands.rest.now in
+    let d = c.check_piece.new.collector in
+    let a = c.in-Ok-Some.asked in
+    let asked : IsAsked (origin_of s.from) st new c.commands.collector d rest a = subst (λ (o : Option Asked). ChecksPiece (origin_of s.from) (Ok o) st new c.commands.collector d rest) c.in-Ok-Some.field-0-is c.in-Ok-Some.ensures.checks in
+    subst (λ (q : List ℕ). count_of (behind d q false []) < count_of (behind c.commands.collector rest false [])) (sym (take_rest rest a.used)) asked.fewer
 
 -- ---- what the end makes whole
 
@@ -488,6 +499,17 @@ check_file-returns-in-Ok-clause-runs g t c =
     let mid = g.L.Library.open_files c.open.new.self in
     ready-runs told s (Ok c.in-Ok.at) old new paths (g.L.Library.open_files c.args.files.now) mid c.in-Ready.ensures.opens
     (open-later told (g.L.Library.told c.open.new.self) c.in-Ready.ensures.same s (Ok c.in-Ok.at) old new paths mid c.in-Ok.ensures.runs)
+
+pub check_file-returns-in-Err-clause-runs : goal.check_file-returns-in-Err-clause-runs
+check_file-returns-in-Err-clause-runs g t c =
+    let s = c.args.source.now in
+    let told = g.L.Library.told c.args.files.now in
+    let old = progress_of c.args.run.now in
+    let new = progress_of c.check_open-end.new.run in
+    let paths = c.check_open-end.new.paths in
+    let mid = g.L.Library.open_files c.open.new.self in
+    ready-runs told s (Err c.in-Err.verdict) old new paths (g.L.Library.open_files c.args.files.now) mid c.in-Ready.ensures.opens
+    (open-later told (g.L.Library.told c.open.new.self) c.in-Ready.ensures.same s (Err c.in-Err.verdict) old new paths mid c.in-Err.ensures.runs)
 
 pub check_pieces-pieces-init : goal.check_pieces-pieces-init
 check_pieces-pieces-init g t c =
