@@ -32,13 +32,17 @@ check_command =
     command (codes "check")
     (valued (codes "include") ∷ valued (codes "reference") ∷ flag (codes "closed") ∷ positional (codes "PROOF") ∷ [])
 
+-- a command that takes one word
+abbrev pub taking : (name word : Text) → App
+taking name word = command name (positional word ∷ [])
+
 -- `load FILE`
 abbrev pub load_command : App
-load_command = command (codes "load") (positional (codes "FILE") ∷ [])
+load_command = taking (codes "load") (codes "FILE")
 
 -- `bench N`
 abbrev pub bench_command : App
-bench_command = command (codes "bench") (positional (codes "N") ∷ [])
+bench_command = taking (codes "bench") (codes "N")
 
 abbrev pub requires_subcommand : App → App
 requires_subcommand a = record a { top = record a.top { subcommand_required = true } }

@@ -1,13 +1,13 @@
 //! The words of the command line, read by `clap`.
 ghost use Rattle.std.specs.Prelude.{◌≡◌, IfOk, map, option_map, option_and_then, false};
-ghost use Rattle.clap.specs.Words.{app_of, first_of, rule_of, subcommand_rows_of};
+ghost use Rattle.clap.specs.Words.{app_of, first_of, rule_of, subcommand_rows_of, with_subcommand};
 ghost use Rattle.eo_main.specs.CommandLine as line;
 ghost use Rattle.eo_main.specs.Words.{rows_in};
 
 use crate::Request;
 use clap::error::ErrorKind;
 use clap::{Arg, ArgAction, ArgMatches, Command};
-use eo_base::Text;
+use eo_base::{Text, both};
 use eo_lit::read_numeral;
 use eo_run::CheckJob;
 use std::alloc::{AllocError, Global};
@@ -59,13 +59,25 @@ fn program<'a>(alloc: Global) -> Result<Command<'a>, AllocError>
         .arg(valued(alloc, "reference"))?
         .arg(flag(alloc, "closed"))?
         .arg(positional(alloc, "PROOF"))?;
-    let load = Command::new(alloc, "load").arg(positional(alloc, "FILE"))?;
-    let bench = Command::new(alloc, "bench").arg(positional(alloc, "N"))?;
-    Command::new(alloc, "ethos")
+    let ethos = Command::new(alloc, "ethos")
         .subcommand_required(true)
-        .subcommand(check)?
-        .subcommand(load)?
-        .subcommand(bench)
+        .subcommand(check)?;
+    let ethos = with_command(alloc, ethos, "load", "FILE")?;
+    with_command(alloc, ethos, "bench", "N")
+}
+
+/// The command, and below it one of this name that takes a word.
+fn with_command<'a>(
+    alloc: Global,
+    command: Command<'a>,
+    name: &'a str,
+    word: &'a str,
+) -> Result<Command<'a>, AllocError>
+    ensures { IfOk result (λ with. app_of with ≡ with_subcommand (app_of command.entry) (line.taking name.entry.now word.entry.now).top) }
+{
+    let below = Command::new(alloc, name).arg(positional(alloc, word));
+    let (below, above) = both(below, command)?;
+    above.subcommand(below)
 }
 
 /// `--name=VALUE` or `--name VALUE`

@@ -15,16 +15,10 @@ returns c =
     ∙ ap₂ with_rule (c.in_ok-arg-2.ensures.shape c.valued-2.ensures.local
     ∙ ap₂ with_rule (c.in_ok-arg.ensures.shape c.valued.ensures.local ∙ ap₂ with_rule c.new.ensures.app c.valued.ensures.rule)
     c.valued-2.ensures.rule) c.flag.ensures.rule) c.positional.ensures.rule in
-    let load_is : app_of c.in_ok-load.load ≡ line.load_command =
-    c.in_ok-load.ensures.shape c.positional-2.ensures.local ∙ ap₂ with_rule c.new-2.ensures.app c.positional-2.ensures.rule in
-    let ethos_is : app_of c.subcommand_required.result ≡ line.requires_subcommand (app_of c.new-4.result) = ap app_of_fields c.subcommand_required.ensures in
     let check_local = c.in_ok-check.ensures.globals ∙ ap₂ or (c.in_ok-arg-3.ensures.globals ∙ ap₂ or (c.in_ok-arg-2.ensures.globals
     ∙ ap₂ or (c.in_ok-arg.ensures.globals ∙ ap₂ or c.new.ensures.local c.valued.ensures.local) c.valued-2.ensures.local) c.flag.ensures.local) c.positional.ensures.local in
-    let load_local = c.in_ok-load.ensures.globals ∙ ap₂ or c.new-2.ensures.local c.positional-2.ensures.local in
-    let bench_is : app_of c.in_ok-bench.bench ≡ line.bench_command =
-    c.in_ok-bench.ensures.shape c.positional-3.ensures.local ∙ ap₂ with_rule c.new-3.ensures.app c.positional-3.ensures.rule in
-    let with_check_is = c.in_ok-subcommand.ensures.shape check_local
-    ∙ ap₂ with_subcommand (ethos_is ∙ ap line.requires_subcommand c.new-4.ensures.app) (ap (λ (a : App). a.top) check_is) in
-    let bench_local = c.in_ok-bench.ensures.globals ∙ ap₂ or c.new-3.ensures.local c.positional-3.ensures.local in
-    let with_load_is = c.in_ok-subcommand-2.ensures.shape load_local ∙ ap₂ with_subcommand with_check_is (ap (λ (a : App). a.top) load_is) in
-    IfOk-weaker c.subcommand-3.result _ _ (λ m h. h.shape bench_local ∙ ap₂ with_subcommand with_load_is (ap (λ (a : App). a.top) bench_is)) c.subcommand-3.ensures
+    let ethos_is : app_of c.subcommand_required.result ≡ line.requires_subcommand (app_of c.new-2.result) = ap app_of_fields c.subcommand_required.ensures in
+    let with_check_is = c.in_ok-ethos.ensures.shape check_local
+    ∙ ap₂ with_subcommand (ethos_is ∙ ap line.requires_subcommand c.new-2.ensures.app) (ap (λ (a : App). a.top) check_is) in
+    let with_load_is = c.in_ok-ethos-2.ensures ∙ ap (λ a. with_subcommand a line.load_command.top) with_check_is in
+    IfOk-weaker c.with_command-2.result _ _ (λ m is. is ∙ ap (λ a. with_subcommand a line.bench_command.top) with_load_is) c.with_command-2.ensures
