@@ -1,6 +1,7 @@
-use Rattle.std.proofs.Common.{◌≡◌, List, length, sym, ap, subst, take}
+use Rattle.std.proofs.Common.{◌≡◌, ◌∙◌, List, length, sym, ap, subst, take}
+use Rattle.std.proofs.lemmas.Result.{IfOk-at_ok}
 use Rattle.eo_term.specs.Tree.{Tree}
-use Rattle.eo_term.specs.Terms.{first_trees}
+use Rattle.eo_term.specs.Terms.{Terms, first_trees}
 use Rattle.eo_sig.specs.Reading.{Kept, IsBelow}
 use Rattle.eval_tests.proofs.tests.world.World.first.Goals as goal
 
@@ -9,5 +10,7 @@ as_many ts us k e h = subst (λ (xs : List Tree). IsBelow (length xs) k) (sym e)
 
 pub invariant_of-result : goal.invariant_of-result
 invariant_of-result c =
-    let trees = c.in_ok-table.ensures.trees in
-    (as_many first_trees _ _ trees c.in_ok-sig.ensures.below, c.in_ok-sig.ensures.usable _ (ap (take 4) trees))
+    let trees : c.in_ok-sig.table.trees ≡ first_trees = ap (λ (t : Terms). t.trees) c.in_ok-sig.ensures.other ∙ c.in_ok-table.ensures.trees in
+    let below = IfOk-at_ok _ c.in_ok-sig.ensures.called c.new-2.ensures.below in
+    let usable = IfOk-at_ok _ c.in_ok-sig.ensures.called c.new-2.ensures.usable in
+    (as_many first_trees _ _ trees below, usable _ (ap (take 4) trees))
