@@ -4,7 +4,7 @@ use Rattle.eo_session.specs.Beginning.{IsFirstSignature}
 use Rattle.eo_session.proofs.held.Held.new.Goals as goal
 
 pub first-requires-clause-trees : goal.first-requires-clause-trees
-first-requires-clause-trees c = (λ i. (c.in_ok-table-2.ensures.first i).trees) ∙ c.in_ok-table.ensures.trees
+first-requires-clause-trees c = (λ i. (c.in_ok-signature.ensures.other i).trees) ∙ c.in_ok-table.ensures.trees
 
 pub first-requires-clause-signature : goal.first-requires-clause-signature
-first-requires-clause-signature c = subst (λ r. IfOk r IsFirstSignature) c.in_ok-table-2.ensures.second c.first_signature.ensures
+first-requires-clause-signature c = subst (λ r. IfOk r IsFirstSignature) c.in_ok-signature.ensures.called c.first_signature.ensures
