@@ -4,11 +4,11 @@ ghost use Rattle.eo_term.specs.Terms.{PartsBelow, TextsBelow, IsPlain, IsProper}
 ghost use Rattle.eo_sig.specs.Reading.{IsBelow, AttributeBelow, ConstBelow};
 ghost use Rattle.eo_lists.specs.Outcomes.{IsListOperator};
 
-use eo_base::Name;
+use eo_base::{Name, both};
 use eo_lists::list_op;
 use eo_sig::{Attribute, ConstDecl, Params, Signature, growth_law};
 use eo_term::{BOOL, FALSE, Id, Ids, Node, OpName, Table, TermRefused};
-use std::alloc::Global;
+use std::alloc::{AllocError, Global};
 use std::marker::Model;
 use std::test::Fail;
 
@@ -54,20 +54,19 @@ impl Model for World {
 }
 
 impl World {
-    /// A table and a signature that declares the four constants.
-    pub(super) fn new(alloc: Global) -> Result<World, Fail> {
-        let mut w = World::first(alloc)?;
-        w.declare_all()?;
-        Ok(w)
+    // Nothing is declared yet.
+    fn first(alloc: Global) -> Result<World, AllocError> {
+        let table = first_table(alloc)?;
+        let (sig, table) = both(first_signature(alloc), table)?;
+        Ok(World { alloc, table, sig })
     }
 
-    // Nothing is declared yet.
-    fn first(alloc: Global) -> Result<World, Fail> {
-        Ok(World {
-            alloc,
-            table: first_table(alloc)?,
-            sig: first_signature(alloc)?,
-        })
+    // What a function tells, once the four constants are declared.
+    fn told<T, F: FnOnce(&mut World) -> Result<T, Fail>>(&mut self, f: F) -> Result<T, Fail>
+        requires { F.IsAlwaysCallable f }
+    {
+        self.declare_all()?;
+        f(self)
     }
 
     fn declare_all(&mut self) -> Result<(), Fail> {
@@ -84,6 +83,7 @@ impl World {
         let ty = live(&self.table, BOOL)?;
         let d = constant(self.alloc, name, ty, attribute)?;
         if !self.sig.is_free(d.name.as_bytes()) {
+            drop(d);
             return Err(Fail::new("no free name"));
         }
         self.sig.declare(&self.table, d)?;
@@ -163,16 +163,16 @@ impl World {
     }
 }
 
-/// What a function tells of a new world. It alone owns one: each way out of a function that does
-/// is dear to prove.
+/// What a function tells of a new world, in which the four constants are declared. It alone owns
+/// one: each way out of a function that does is dear to prove.
 pub(super) fn tell<T, F: FnOnce(&mut World) -> Result<T, Fail>>(
     alloc: Global,
     f: F,
 ) -> Result<T, Fail>
     requires { F.IsAlwaysCallable f }
 {
-    let mut w = World::new(alloc)?;
-    let told = f(&mut w);
+    let mut w = World::first(alloc)?;
+    let told = w.told(f);
     drop(w);
     told
 }
@@ -190,18 +190,18 @@ fn number_of(letter: u8) -> usize {
 }
 
 // A table with no more than the first terms.
-fn first_table(alloc: Global) -> Result<Table, Fail>
+fn first_table(alloc: Global) -> Result<Table, AllocError>
     ensures { IfOk result (λ t. 4 ≤ length t.trees) }
 {
-    Ok(Table::new(alloc)?)
+    Table::new(alloc)
 }
 
 // A signature of which a proof knows only where its terms are.
-fn first_signature(alloc: Global) -> Result<Signature, Fail>
+fn first_signature(alloc: Global) -> Result<Signature, AllocError>
     ensures { IfOk result (λ s. (n : ℕ) → 4 ≤ n → IsBelow n s) }
 {
     growth_law();
-    Ok(Signature::new(alloc)?)
+    Signature::new(alloc)
 }
 
 // The term, if it is one of the table.
