@@ -5,11 +5,11 @@ ghost use Rattle.eo_term.specs.Terms.{PartsBelow, TextsBelow, IsPlain, IsProper,
 ghost use Rattle.eo_sig.specs.Reading.{IsBelow, ConstBelow};
 ghost use Rattle.eo_type.specs.Known.{Fit};
 
-use eo_base::Name;
+use eo_base::{Name, both};
 use eo_sig::{Attribute, ConstDecl, LiteralClass, Params, SigRefused, Signature, growth_law};
 use eo_term::{BOOL, Id, Node, OpCode, OpName, TYPE, Table, TermRefused};
 use eo_type::{TypeRefused, Types, settle};
-use std::alloc::Global;
+use std::alloc::{AllocError, Global};
 use std::marker::Model;
 use std::test::Fail;
 
@@ -37,12 +37,10 @@ impl Model for World {
 
 impl World {
     /// Nothing is declared yet.
-    pub(super) fn new(alloc: Global) -> Result<World, Fail> {
-        Ok(World {
-            alloc,
-            table: first_table(alloc)?,
-            sig: first(alloc)?,
-        })
+    pub(super) fn new(alloc: Global) -> Result<World, AllocError> {
+        let table = first_table(alloc)?;
+        let (sig, table) = both(first_signature(alloc), table)?;
+        Ok(World { alloc, table, sig })
     }
 
     /// A constant, by its number.
@@ -209,18 +207,18 @@ pub(super) fn holds<F: FnOnce(&mut World) -> Result<bool, Fail>>(
 }
 
 // A table with no more than the first terms.
-fn first_table(alloc: Global) -> Result<Table, Fail>
+fn first_table(alloc: Global) -> Result<Table, AllocError>
     ensures { IfOk result (λ t. 4 ≤ length t.trees) }
 {
-    Ok(Table::new(alloc)?)
+    Table::new(alloc)
 }
 
 // A signature of which a proof knows only where its terms are.
-fn first(alloc: Global) -> Result<Signature, Fail>
+fn first_signature(alloc: Global) -> Result<Signature, AllocError>
     ensures { IfOk result (λ s. (n : ℕ) → 4 ≤ n → IsBelow n s) }
 {
     growth_law();
-    Ok(Signature::new(alloc)?)
+    Signature::new(alloc)
 }
 
 // The term, if it is one of the table.
