@@ -32,3 +32,9 @@ returns-clause-does c =
     let k = c.in_ok-formula.ensures in
     let tree = one_tree c.args.self.now c.carry_one.new.self c.args.formula c.in_ok-formula.formula k in
     does-same _ _ c.put_fact.result c.put_fact.new.self (λ i. added_fact (sym k.leaves.same i) c.args.name.now (sym tree i)) c.put_fact.ensures.does
+
+pub put_fact-requires-clause-unreserved : goal.put_fact-requires-clause-unreserved
+put_fact-requires-clause-unreserved c = sym c.is_reserved.ensures ∙ c.if-is_reserved.false
+
+pub returns-clause-whole : goal.returns-clause-whole
+returns-clause-whole c = c.put_fact.ensures.whole

@@ -65,3 +65,24 @@ returns-clause-does c =
     does-same _ _ c.put_asserted.result c.put_asserted.new.self
     (asserted-is st t (labels_in h.table names) v c.in_ok-value.ensures.gives.is ∙ (λ i. Ok (with_labels (with_assertion (sym same i) (sym told.value.tree i)) (sym labels i))))
     c.put_asserted.ensures.does
+
+pub formula_of-requires-clause-whole : goal.formula_of-requires-clause-whole
+formula_of-requires-clause-whole c = c.requires.whole
+
+pub carry_named-requires-clause-whole : goal.carry_named-requires-clause-whole
+carry_named-requires-clause-whole c = c.in_ok-value.ensures.keeps.whole
+
+pub carry_named-requires-clause-live : goal.carry_named-requires-clause-live
+carry_named-requires-clause-live c = c.in_ok-value.ensures.gives.live
+
+pub put_asserted-requires-clause-whole : goal.put_asserted-requires-clause-whole
+put_asserted-requires-clause-whole c = c.in_ok-carried.ensures.leaves.whole
+
+pub put_asserted-requires-clause-live : goal.put_asserted-requires-clause-live
+put_asserted-requires-clause-live c = c.in_ok-carried.ensures.value.live
+
+pub put_asserted-requires-clause-below : goal.put_asserted-requires-clause-below
+put_asserted-requires-clause-below c = c.in_ok-carried.ensures.below
+
+pub returns-clause-whole : goal.returns-clause-whole
+returns-clause-whole c = c.put_asserted.ensures.whole

@@ -50,3 +50,6 @@ returns-clause-closed c =
     let is = popped_outside ts c.pop.result (scopes ts h.facts) (scopes ts c.pop.new.self) (c.pop.ensures.pops ts) in
     state_closed h c.requires.held c.pop.new.self (c.pop.ensures.below (length ts) c.requires.held.facts) is c.in-Some.mark c.take_last.new.self c.in-Some.ensures.some
     c.release.new.self c.release.ensures.entries c.release.ensures.macros (c.release.ensures.below (length ts) c.requires.held.signature)
+
+pub returns-clause-table : goal.returns-clause-table
+returns-clause-table c = refl

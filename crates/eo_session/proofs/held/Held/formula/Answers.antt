@@ -8,6 +8,7 @@ use Rattle.eo_session.specs.Stepping.{GivesTerm}
 use Rattle.eo_session.specs.declared.refused.Refused.{Refused}
 use Rattle.eo_base.proofs.Answering.{at_exit}
 use Rattle.eo_session.proofs.Sessions.{formula-fault, formula-is, gives-same, refuses_on}
+use Rattle.eo_session.proofs.Used.{keeps_on}
 use Rattle.eo_session.proofs.held.Held.formula.Goals as goal
 
 pub returns-in_err-id-clause-gives : goal.returns-in_err-id-clause-gives
@@ -23,3 +24,18 @@ returns-clause-gives c =
     gives-same c.formula_of.new.self c.formula_of.result _ _
     (formula-is (state_of c.args.self.now) c.args.s.now t c.in_ok-id.ensures.gives.is ∙ ap (λ (st : State). formula_of st t) (sym c.in_ok-id.ensures.keeps.same))
     c.formula_of.ensures.gives
+
+pub formula_of-requires-clause-whole : goal.formula_of-requires-clause-whole
+formula_of-requires-clause-whole c = c.in_ok-id.ensures.keeps.whole
+
+pub formula_of-requires-clause-live : goal.formula_of-requires-clause-live
+formula_of-requires-clause-live c = c.in_ok-id.ensures.gives.live
+
+pub returns-in_err-id-clause-keeps : goal.returns-in_err-id-clause-keeps
+returns-in_err-id-clause-keeps c = c.in_err-id.ensures.keeps
+
+pub returns-clause-value : goal.returns-clause-value
+returns-clause-value c = c.formula_of.ensures.value
+
+pub returns-clause-keeps : goal.returns-clause-keeps
+returns-clause-keeps c = keeps_on c.args.self.now c.meant.new.self c.formula_of.new.self c.in_ok-id.ensures.keeps c.formula_of.ensures.keeps

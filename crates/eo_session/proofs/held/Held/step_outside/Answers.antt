@@ -47,3 +47,12 @@ returns-clause-does c =
     (outside-ok st s a k c.in_ok-concluded.ensures.gives.is ∙ (λ i. Ok (with_conclusion (sym closed i) s.name (read_conclusion (sym c.close_scope.ensures.table i) d)))
     ∙ sym (concluding-free (state_of c.close_scope.new.self) s.name (read_conclusion c.close_scope.new.self.table d) free))
     c.add_conclusion.ensures.does
+
+pub close_scope-requires : goal.close_scope-requires
+close_scope-requires c = c.in_ok-concluded.ensures.keeps.whole
+
+pub add_conclusion-requires-clause-whole : goal.add_conclusion-requires-clause-whole
+add_conclusion-requires-clause-whole c = c.close_scope.ensures.whole
+
+pub returns-clause-whole : goal.returns-clause-whole
+returns-clause-whole c = c.add_conclusion.ensures.whole
