@@ -1,5 +1,13 @@
+use Rattle.std.proofs.Common.{ap, ◌∙◌}
+use Rattle.eo_term.specs.Tree.{Con}
 use Rattle.eo_session.proofs.Holding.{keeps_table}
 use Rattle.eo_session.proofs.held.Held.next_constant.Goals as goal
+
+pub returns-in-Ok-clause-term : goal.returns-in-Ok-clause-term
+returns-in-Ok-clause-term c = record {
+  live = c.in-Ok.ensures.interned.live;
+  tree = c.in-Ok.ensures.interned.tree ∙ ap Con c.constants-number.ensures.count;
+}
 
 pub returns-in-Ok-clause-keeps : goal.returns-in-Ok-clause-keeps
 returns-in-Ok-clause-keeps c =
