@@ -19,7 +19,7 @@ use Rattle.eo_run.specs.declared.BenchEnd.{BenchEnd}
 use Rattle.eo_run.specs.declared.BenchEnd.TheVariants as ends
 use Rattle.eo_run.specs.declared.Verdict.{Verdict}
 use Rattle.eo_run.specs.declared.Verdict.TheVariants as answer
-use Rattle.eo_main.specs.Ends.{Ends, EndHasCause, EndsInFull}
+use Rattle.eo_main.specs.Ends.{Ends, EndHasCause, EndsInFull, UsageFits}
 use Rattle.eo_main.specs.Program.{due, correct_bench, judged_bench, bench_due, needs_no_files, is_bench, EndsAs, Completes}
 use Rattle.eo_main.specs.declared.Request.{Request}
 use Rattle.eo_main.specs.declared.Request.TheVariants.{Check, Load, Bench}
@@ -259,6 +259,10 @@ no_usage paths a status.Usage w x h = λ _. no_usage_due paths a (sym h.0)
 pub reading_ends : (told : Option Files) (s : Status) (w x : Option (List ℕ)) (reading other : Option Request) → reading ≡ other
     → EndsAs told s reading w x → EndsAs told s other w x
 reading_ends told s w x reading other e h = subst (λ (o : Option Request). EndsAs told s o w x) e h
+
+-- no usage line is written where the words have a reading
+pub reads_ends : (s : Status) (request : Request) (reading : Option Request) → Some request ≡ reading → s ≢ status.Usage → UsageFits s reading
+reads_ends s request reading e never = record { only = λ q. absurd (never q); always = λ none. cc }
 
 -- the words have no reading
 pub no_reading_ends : (told : Option Files) (s : Status) (w x : Option (List ℕ)) → Ends s usage_due w x → EndsAs told s None w x

@@ -2,7 +2,7 @@ use Rattle.std.proofs.Common.{◌≡◌, ◌∙◌, ap, sym, refl, arith, Some, 
 use Rattle.eo_main.specs.CommandLine.{request}
 use Rattle.eo_main.specs.declared.Request.{Request}
 use Rattle.eo_main.specs.declared.Request.TheVariants.{Check, Load, Bench}
-use Rattle.eo_main.proofs.EndLemmas.{reading_ends, no_reading_ends, usage_ends, bench_ends_as, own_has_cause, own_ends, own_usage, own_bench, own_memory, wants_files, asks_bench}
+use Rattle.eo_main.proofs.EndLemmas.{reading_ends, reads_ends, no_reading_ends, usage_ends, bench_ends_as, own_has_cause, own_ends, own_usage, own_bench, own_memory, wants_files, asks_bench}
 use Rattle.eo_main.proofs.AbsentLemmas.{absent_by_letter}
 use Rattle.eo_main.proofs.Refuting.{ok_refutes}
 use Rattle.eo_main.proofs.program.ethos_main.Goals as goal
@@ -71,3 +71,41 @@ returns-in-Ok-Some-Bench-clause-absent g c =
     let reading : Some (Bench n) ≡ request c.args.words.now =
     sym (c.in-Ok-Some-Bench.field-0-is ∙ ap (λ (r : Request). Some r) c.in-Ok-Some-Bench.field-0-0-is) ∙ c.in-Ok-Some-Bench.ensures in
     λ files. absurd (asks_bench (Some (Bench n)) (request c.args.words.now) reading refl files)
+
+-- ---- a check, and a signature file
+
+pub returns-in-Ok-Some-Check-clause-exact : goal.returns-in-Ok-Some-Check-clause-exact
+returns-in-Ok-Some-Check-clause-exact g c =
+    let reading : Some (Check c.in-Ok-Some-Check.job) ≡ request c.args.words.now =
+    sym (c.in-Ok-Some-Check.field-0-is ∙ ap (λ (r : Request). Some r) c.in-Ok-Some-Check.field-0-0-is) ∙ c.in-Ok-Some-Check.ensures in
+    reading_ends _ _ _ _ _ _ reading c.check.ensures.exact
+
+pub returns-in-Ok-Some-Check-clause-cause : goal.returns-in-Ok-Some-Check-clause-cause
+returns-in-Ok-Some-Check-clause-cause g c = c.check.ensures.cause
+
+pub returns-in-Ok-Some-Check-clause-usage : goal.returns-in-Ok-Some-Check-clause-usage
+returns-in-Ok-Some-Check-clause-usage g c =
+    let reading : Some (Check c.in-Ok-Some-Check.job) ≡ request c.args.words.now =
+    sym (c.in-Ok-Some-Check.field-0-is ∙ ap (λ (r : Request). Some r) c.in-Ok-Some-Check.field-0-0-is) ∙ c.in-Ok-Some-Check.ensures in
+    reads_ends _ (Check c.in-Ok-Some-Check.job) _ reading c.check.ensures.usage
+
+pub returns-in-Ok-Some-Check-clause-absent : goal.returns-in-Ok-Some-Check-clause-absent
+returns-in-Ok-Some-Check-clause-absent g c = λ files. c.check.ensures.absent
+
+pub returns-in-Ok-Some-Load-clause-exact : goal.returns-in-Ok-Some-Load-clause-exact
+returns-in-Ok-Some-Load-clause-exact g c =
+    let reading : Some (Load c.in-Ok-Some-Load.file) ≡ request c.args.words.now =
+    sym (c.in-Ok-Some-Load.field-0-is ∙ ap (λ (r : Request). Some r) c.in-Ok-Some-Load.field-0-0-is) ∙ c.in-Ok-Some-Load.ensures in
+    reading_ends _ _ _ _ _ _ reading c.load.ensures.exact
+
+pub returns-in-Ok-Some-Load-clause-cause : goal.returns-in-Ok-Some-Load-clause-cause
+returns-in-Ok-Some-Load-clause-cause g c = c.load.ensures.cause
+
+pub returns-in-Ok-Some-Load-clause-usage : goal.returns-in-Ok-Some-Load-clause-usage
+returns-in-Ok-Some-Load-clause-usage g c =
+    let reading : Some (Load c.in-Ok-Some-Load.file) ≡ request c.args.words.now =
+    sym (c.in-Ok-Some-Load.field-0-is ∙ ap (λ (r : Request). Some r) c.in-Ok-Some-Load.field-0-0-is) ∙ c.in-Ok-Some-Load.ensures in
+    reads_ends _ (Load c.in-Ok-Some-Load.file) _ reading c.load.ensures.usage
+
+pub returns-in-Ok-Some-Load-clause-absent : goal.returns-in-Ok-Some-Load-clause-absent
+returns-in-Ok-Some-Load-clause-absent g c = λ files. c.load.ensures.absent
