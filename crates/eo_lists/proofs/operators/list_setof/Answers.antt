@@ -1,5 +1,6 @@
 use Rattle.std.proofs.Common.{◌≡◌, ◌<◌, ℕ, List, Some, All, length, map, nat_eq, sym, ap, ◌∙◌, subst}
 use Rattle.std.specs.Prelude.{option_and_then}
+use Rattle.eo_term.proofs.Growing.{grows_refl}
 use Rattle.eo_term.specs.Terms.{tree_at}
 use Rattle.eo_term.specs.Tree.{Tree, tree_eq}
 use Rattle.eo_lists.specs.Lists.{set_of, spell}
@@ -32,3 +33,22 @@ returns-clause-gives c =
     subst (GivesList new c.answer.result)
     (sym (ap (option_and_then (λ (zs : List Tree). Some (spell f n (set_of tree_eq zs)))) r.items ∙ ap (λ us. Some (spell f n us)) (set_of_trees t.trees c.laws.ensures.equals is r.live)))
     (c.answer.ensures new (spell f n (map (tree_at t.trees) (set_of nat_eq is))) made)
+
+pub returns-in_default-clause-gives : goal.returns-in_default-clause-gives
+returns-in_default-clause-gives c =
+    let t = c.args.table.now in
+    let f : Tree = tree_at t.trees c.args.form.now.fun in
+    let n : Tree = tree_at t.trees c.args.form.now.end in
+    ap (option_and_then (λ (zs : List Tree). Some (spell f n (set_of tree_eq zs)))) (subst (Reads t c.args.form.now c.args.list) c.in_default.is c.in_ok-found.ensures)
+
+pub returns-clause-grows : goal.returns-clause-grows
+returns-clause-grows c = c.build-made.ensures.grows
+
+pub returns-in_err-found-clause-grows : goal.returns-in_err-found-clause-grows
+returns-in_err-found-clause-grows c = grows_refl c.args.table.now
+
+pub returns-in_default-clause-grows : goal.returns-in_default-clause-grows
+returns-in_default-clause-grows c = grows_refl c.args.table.now
+
+pub returns-in_err-first-clause-grows : goal.returns-in_err-first-clause-grows
+returns-in_err-first-clause-grows c = grows_refl c.args.table.now
