@@ -63,9 +63,7 @@ fn answer_in_pieces(
     for piece in text.chunks(size) {
         answers.feed(rt, piece)?;
     }
-    answers.finish()?;
-    assert_eq!(rt; answers.text(), want, "in pieces of {size}");
-    Ok(())
+    finish(rt, answers, want, "in pieces of", size)
 }
 
 fn in_two(
@@ -96,8 +94,20 @@ fn answer_in_two(
     let (front, back) = text.split_at(at);
     answers.feed(rt, front)?;
     answers.feed(rt, back)?;
+    finish(rt, answers, want, "cut at", at)
+}
+
+// Tells that nothing more comes, and compares the answer with the one that is wanted. A difference
+// is told with how the text was fed.
+fn finish(
+    rt: &impl Abort,
+    answers: &mut Answers,
+    want: &str,
+    fed: &str,
+    size: usize,
+) -> Result<(), Fail> {
     answers.finish()?;
-    assert_eq!(rt; answers.text(), want, "cut at {at}");
+    assert_eq!(rt; answers.text(), want, "{fed} {size}");
     Ok(())
 }
 
@@ -245,17 +255,21 @@ fn may_stand(x: u8) -> bool {
     matches!(x, 9 | 10 | 13 | 32 | 33 | 35..=126 | 128..=255)
 }
 
-// Checks the answer to a string of this byte and a doubled quote, of which the first may stand.
+// Checks the answer to a string of this byte and a doubled quote.
 fn check_byte(rt: &impl Abort, alloc: Global, x: u8) -> Result<(), Fail> {
+    let text = [b'"', x, b'"', b'"', b'"'];
+    if may_stand(x) {
+        check_string(rt, alloc, &text, x)
+    } else {
+        check(rt, alloc, false, &text, "BadByte 1:1 ")
+    }
+}
+
+// The same of a byte that may stand there.
+fn check_string(rt: &impl Abort, alloc: Global, text: &[u8], x: u8) -> Result<(), Fail> {
     let end = if x == 10 { "2:5 " } else { "1:5 " };
     let want = format!(in alloc; "1:0 t{}\"\" end {end}", x as char)?;
-    let told = check(
-        rt,
-        alloc,
-        false,
-        &[b'"', x, b'"', b'"', b'"'],
-        want.as_str(),
-    );
+    let told = check(rt, alloc, false, text, want.as_str());
     drop(want);
     told
 }
@@ -263,11 +277,8 @@ fn check_byte(rt: &impl Abort, alloc: Global, x: u8) -> Result<(), Fail> {
 #[test]
 fn every_byte_of_a_string(rt: HostRuntime) -> Result<(), Fail> {
     for x in 0u8..=255 {
-        if may_stand(x) {
+        if x != b'"' {
             check_byte(&rt, rt.alloc(), x)?;
-        } else if x != b'"' {
-            let text = [b'"', x, b'"', b'"', b'"'];
-            check(&rt, rt.alloc(), false, &text, "BadByte 1:1 ")?;
         }
     }
     Ok(())
@@ -321,9 +332,7 @@ fn answer_long(
     answers.feed(rt, front)?;
     feed_many(rt, alloc, answers, x, count)?;
     answers.feed(rt, back)?;
-    answers.finish()?;
-    assert_eq!(rt; answers.text(), want);
-    Ok(())
+    finish(rt, answers, want, "bytes of a kind:", count)
 }
 
 // Feeds a byte so many times.
@@ -335,11 +344,27 @@ fn feed_many(
     count: usize,
 ) -> Result<(), Fail> {
     let mut fill = Vec::new(alloc);
-    fill.resize(PIECE, x)?;
-    for _ in 0..count / PIECE {
-        answers.feed(rt, fill.as_slice())?;
+    let fed = match fill.resize(PIECE, x) {
+        Ok(()) => feed_pieces(rt, answers, fill.as_slice(), count),
+        Err(e) => Err(e.into()),
+    };
+    drop(fill);
+    fed
+}
+
+// Feeds so many of the bytes, again and again.
+fn feed_pieces(
+    rt: &impl Abort,
+    answers: &mut Answers,
+    bytes: &[u8],
+    count: usize,
+) -> Result<(), Fail>
+    requires { 0 < length bytes.now }
+{
+    for _ in 0..count / bytes.len() {
+        answers.feed(rt, bytes)?;
     }
-    answers.feed(rt, &fill.as_slice()[..count % PIECE])
+    answers.feed(rt, &bytes[..count % bytes.len()])
 }
 
 #[test]
@@ -363,6 +388,5 @@ fn answer_wide(rt: &impl Abort, answers: &mut Answers) -> Result<(), Fail> {
     for _ in 0..65_537 {
         answers.feed(rt, b"a ")?;
     }
-    assert_eq!(rt; answers.text(), "Width 1:131073 ");
-    Ok(())
+    finish(rt, answers, "Width 1:131073 ", "atoms:", 65_537)
 }

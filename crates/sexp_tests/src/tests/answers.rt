@@ -1,5 +1,6 @@
 //! What a collector answers, written down.
-ghost use Rattle.eo_sexp.specs.Collecting.{IsAtCommand};
+ghost use Rattle.std.specs.Prelude.{IsTrue};
+ghost use Rattle.eo_sexp.specs.Collecting.{HasRoom, IsAtCommand, IsLive};
 
 use eo_base::FaultName;
 use eo_sexp::{Children, Collector, Fed, Finished, Kind, Sexp, Spot};
@@ -57,8 +58,7 @@ impl Answers {
         if self.over {
             return Ok(None);
         }
-        let here = self.collector.here();
-        assert!(rt; here.offset < 1_000_000_000 && piece.len() < 1_000_000_000);
+        assert!(rt; has_room(&self.collector, piece));
         match self.collector.feed(piece) {
             Fed::More => Ok(None),
             Fed::Command { used } => {
@@ -114,6 +114,14 @@ impl Answers {
     pub(super) fn text(&self) -> &str {
         self.text.as_str()
     }
+}
+
+// Whether the collector is far from the greatest offset, behind a piece too.
+fn has_room(collector: &Collector, piece: &[u8]) -> bool
+    ensures { IsTrue result → IsLive collector.now → HasRoom collector.now piece.now }
+{
+    let here = collector.here();
+    here.offset < 1_000_000_000 && piece.len() < 1_000_000_000
 }
 
 // The tokens of a command, each behind a letter for its kind.
