@@ -2,6 +2,7 @@ mod world;
 
 use eo_term::{FALSE, HEIGHT_LIMIT, Id, TRUE, TermRefused};
 use std::alloc::Global;
+use std::process::Abort;
 use std::test::Fail;
 use world::World;
 
@@ -16,23 +17,36 @@ fn tell<T, F: FnOnce(&mut World) -> Result<T, Fail>>(alloc: Global, f: F) -> Res
     told
 }
 
-// Whether the parameter 0, as two patterns, matches equal terms, and what it then stands for.
-fn equal(world: &mut World) -> Result<(bool, Option<Id>), Fail> {
-    let par = world.par(0)?;
-    world.match_twice(par, TRUE, TRUE)
+// What a function finds of a new table holds.
+fn holds<F: FnOnce(&mut World) -> Result<bool, Fail>>(
+    rt: &impl Abort,
+    alloc: Global,
+    is_right: F,
+) -> Result<(), Fail>
+    requires { F.IsAlwaysCallable is_right }
+{
+    assert!(rt; tell(alloc, is_right)?);
+    Ok(())
 }
 
-// The same for terms that differ.
-fn different(world: &mut World) -> Result<(bool, Option<Id>), Fail> {
+// Whether the parameter 0, as two patterns, matches equal terms, and then stands for them.
+fn equal(world: &mut World) -> Result<bool, Fail> {
     let par = world.par(0)?;
-    world.match_twice(par, TRUE, FALSE)
+    let (matches, value) = world.match_twice(par, TRUE, TRUE)?;
+    Ok(matches & (value == Some(TRUE)))
+}
+
+// Whether it matches no terms that differ, and then stands for nothing.
+fn different(world: &mut World) -> Result<bool, Fail> {
+    let par = world.par(0)?;
+    let (matches, value) = world.match_twice(par, TRUE, FALSE)?;
+    Ok(!matches & value.is_none())
 }
 
 #[test]
 fn a_repeated_parameter_stands_for_equal_trees(rt: HostRuntime) -> Result<(), Fail> {
-    assert_eq!(rt; tell(rt.alloc(), equal)?, (true, Some(TRUE)));
-    assert_eq!(rt; tell(rt.alloc(), different)?, (false, None));
-    Ok(())
+    holds(&rt, rt.alloc(), equal)?;
+    holds(&rt, rt.alloc(), different)
 }
 
 // Whether an application of parameters becomes the application that it matches.
@@ -46,8 +60,7 @@ fn application(world: &mut World) -> Result<bool, Fail> {
 
 #[test]
 fn a_pattern_becomes_the_term_that_it_matches(rt: HostRuntime) -> Result<(), Fail> {
-    assert!(rt; tell(rt.alloc(), application)?);
-    Ok(())
+    holds(&rt, rt.alloc(), application)
 }
 
 // The term, applied to itself, applied to itself, and so on: as a tree it has 2^levels leaves.
@@ -70,8 +83,7 @@ fn tallest(world: &mut World) -> Result<bool, Fail> {
 
 #[test]
 fn a_term_of_the_greatest_height_is_put_in(rt: HostRuntime) -> Result<(), Fail> {
-    assert!(rt; tell(rt.alloc(), tallest)?);
-    Ok(())
+    holds(&rt, rt.alloc(), tallest)
 }
 
 // Whether an application, put into a term of the greatest height, is refused as too tall.
@@ -85,8 +97,7 @@ fn too_tall(world: &mut World) -> Result<bool, Fail> {
 
 #[test]
 fn a_term_that_becomes_too_tall_is_refused(rt: HostRuntime) -> Result<(), Fail> {
-    assert!(rt; tell(rt.alloc(), too_tall)?);
-    Ok(())
+    holds(&rt, rt.alloc(), too_tall)
 }
 
 // Whether a tower over a parameter becomes the tower over a constant that it matches.
@@ -99,6 +110,5 @@ fn towers(world: &mut World) -> Result<bool, Fail> {
 
 #[test]
 fn shared_parts_are_looked_at_once(rt: HostRuntime) -> Result<(), Fail> {
-    assert!(rt; tell(rt.alloc(), towers)?);
-    Ok(())
+    holds(&rt, rt.alloc(), towers)
 }

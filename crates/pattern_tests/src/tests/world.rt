@@ -1,5 +1,6 @@
 //! A table that a test holds.
 ghost use Rattle.std.specs.Prelude.{◌<◌, length, IfOk};
+ghost use Rattle.eo_pattern.specs.Slots.{AreBelow};
 
 use eo_pattern::{Subst, match_terms, substitute};
 use eo_term::{Id, Node, Table, TermRefused};
@@ -92,6 +93,8 @@ fn live(table: &Table, id: Id) -> Result<Id, Fail>
     Ok(id)
 }
 
+// This and what else makes an assignment owns it alone, and lets go of it by a call: each way out of
+// a function that lets go of it by itself is dear to prove.
 fn match_twice(
     alloc: Global,
     table: &Table,
@@ -104,9 +107,26 @@ fn match_twice(
     requires second { second < length table.now.trees }
 {
     let mut subst = Subst::new(alloc);
+    let matched = match_twice_in(table, &mut subst, pattern, first, second);
+    drop(subst);
+    matched
+}
+
+fn match_twice_in(
+    table: &Table,
+    subst: &mut Subst,
+    pattern: Id,
+    first: Id,
+    second: Id,
+) -> Result<(bool, Option<Id>), AllocError>
+    requires pattern { pattern < length table.now.trees }
+    requires first { first < length table.now.trees }
+    requires second { second < length table.now.trees }
+    requires subst { AreBelow (length table.now.trees) subst.old }
+{
     let room = table.parameters(pattern).bound();
     subst.reserve(room, table.height(pattern) as usize)?;
-    let matches = match_terms(table, &[pattern, pattern], &[first, second], &mut subst);
+    let matches = match_terms(table, &[pattern, pattern], &[first, second], subst);
     Ok((matches, subst.get(0)))
 }
 
@@ -120,10 +140,25 @@ fn match_and_put(
     requires term { term < length table.old.trees }
 {
     let mut subst = Subst::new(alloc);
+    let made = match_and_put_in(table, &mut subst, pattern, term);
+    drop(subst);
+    made
+}
+
+fn match_and_put_in(
+    table: &mut Table,
+    subst: &mut Subst,
+    pattern: Id,
+    term: Id,
+) -> Result<Option<Id>, TermRefused>
+    requires pattern { pattern < length table.old.trees }
+    requires term { term < length table.old.trees }
+    requires subst { AreBelow (length table.old.trees) subst.old }
+{
     let room = table.parameters(pattern).bound();
     subst.reserve(room, table.height(pattern) as usize)?;
-    if match_terms(table, &[pattern], &[term], &mut subst) {
-        Ok(Some(substitute(table, &subst, pattern)?))
+    if match_terms(table, &[pattern], &[term], subst) {
+        Ok(Some(substitute(table, subst, pattern)?))
     } else {
         Ok(None)
     }
@@ -134,7 +169,22 @@ fn put_in(alloc: Global, table: &mut Table, term: Id, value: Id) -> Result<Id, T
     requires value { value < length table.old.trees }
 {
     let mut subst = Subst::new(alloc);
+    let made = put_value_in(table, &mut subst, term, value);
+    drop(subst);
+    made
+}
+
+fn put_value_in(
+    table: &mut Table,
+    subst: &mut Subst,
+    term: Id,
+    value: Id,
+) -> Result<Id, TermRefused>
+    requires term { term < length table.old.trees }
+    requires value { value < length table.old.trees }
+    requires subst { AreBelow (length table.old.trees) subst.old }
+{
     subst.reserve(1, 0)?;
     subst.put(0, value);
-    substitute(table, &subst, term)
+    substitute(table, subst, term)
 }
