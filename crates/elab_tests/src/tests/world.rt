@@ -3,7 +3,9 @@ ghost use Rattle.std.specs.Prelude.{◌≡◌, ◌<◌, ◌≤◌, [], true, len
 ghost use Rattle.eo_sig.specs.Reading.{IsBelow, ConstBelow, MacroBelow, ProgramBelow, RuleBelow};
 ghost use Rattle.eo_term.specs.Growth.{Grows};
 ghost use Rattle.eo_elab.specs.Declaring.{IsCommand, DeclarationBelow};
-ghost use Rattle.eo_names.specs.Names.{AreBelow};
+ghost use Rattle.eo_names.specs.Names.{AreBelow, BindingsBelow};
+ghost use Rattle.eo_names.specs.Ready.{IsReady, Keeps};
+ghost use Rattle.eo_sexp.specs.Collecting.{IsAtCommand, IsLive};
 
 use eo_base::both;
 use eo_elab::{ElabRefused, Locals, Names, declaration, reference_term, term};
@@ -22,7 +24,7 @@ use std::test::Fail;
 const TEXT: usize = 65_536;
 
 /// What became of a text.
-#[derive(Clone, Copy, Debug, PartialEq, Eq)]
+#[derive(Clone, Copy, PartialEq, Eq)]
 pub(super) enum Answer {
     /// It has a meaning, or is declared.
     Done,
@@ -49,6 +51,17 @@ enum Kind {
     Reference { in_assert: bool },
 }
 
+/// What a term of a reference file is.
+#[derive(Clone, Copy, PartialEq, Eq)]
+pub(super) enum Referred {
+    /// It is this bit string.
+    Bits { width: u8, value: u128 },
+    /// It is another term, and this many names were given.
+    Names(usize),
+    /// It has no meaning.
+    Refused(Answer),
+}
+
 /// What is told of a text.
 #[derive(Clone, Copy, PartialEq, Eq)]
 pub(super) enum Told {
@@ -56,29 +69,43 @@ pub(super) enum Told {
     Declared,
     /// The term that it means.
     Means(Id),
-    /// It has a meaning in a reference file, and this many names were given.
-    Names(usize),
-    /// It is this bit string of a reference file.
-    Bits { width: u8, value: u128 },
+    /// What it is in a reference file.
+    Refers(Referred),
     /// It is not declared, or has no meaning.
     Refused(Answer),
 }
 
-/// The parts of a rule that are terms, what joins its premises, and how many there are of the
-/// others.
+/// A text, and what becomes of it.
+pub(super) type Outcome<'a> = (&'a str, Answer);
+
+/// Two texts that are compared.
+pub(super) type Pair<'a> = (&'a str, &'a str);
+
+/// A term of a reference file, and what it is.
+pub(super) type Reference<'a> = (&'a str, &'a Referred);
+
+/// A part of a rule that is a term.
 #[derive(Clone, Copy)]
-pub(super) struct RuleIds {
+pub(super) enum Part {
+    Assumption,
+    /// What all premises are matched with.
+    Pattern,
+    /// The first argument, and the last.
+    First,
+    Last,
+    /// The two terms of the first requirement.
+    Left,
+    Right,
+    Conclusion,
+}
+
+/// How many parts a rule has, and what joins its premises.
+#[derive(Clone, Copy)]
+pub(super) struct Counts {
     pub(super) params: usize,
-    pub(super) assumption: Option<Id>,
-    pub(super) pattern: Option<Id>,
     pub(super) joiner: Option<usize>,
     pub(super) args: usize,
-    pub(super) first: Option<Id>,
-    pub(super) second: Option<Id>,
     pub(super) requirements: usize,
-    pub(super) left: Option<Id>,
-    pub(super) right: Option<Id>,
-    pub(super) conclusion: Id,
     pub(super) sorry: bool,
 }
 
@@ -120,29 +147,29 @@ impl World {
     }
 
     /// Whether that becomes of a declaration.
-    pub(super) fn declares(&mut self, row: (&str, Answer)) -> Result<bool, Fail> {
+    pub(super) fn declares(&mut self, row: Outcome<'_>) -> Result<bool, Fail> {
         let (text, want) = row;
         Ok(self.declare(text)? == want)
     }
 
     /// Whether that becomes of a term.
-    pub(super) fn answers(&mut self, row: (&str, Answer)) -> Result<bool, Fail> {
+    pub(super) fn answers(&mut self, row: Outcome<'_>) -> Result<bool, Fail> {
         let (text, want) = row;
         Ok(answer_of(self.term(text)?) == want)
     }
 
-    /// Whether that is told of a term of a reference file outside of assertions.
-    pub(super) fn refers(&mut self, row: (&str, &Told)) -> Result<bool, Fail> {
+    /// Whether a term of a reference file is that outside of assertions.
+    pub(super) fn refers(&mut self, row: Reference<'_>) -> Result<bool, Fail> {
         let (text, want) = row;
         let told = self.told(Kind::Reference { in_assert: false }, text)?;
-        Ok(told == *want)
+        Ok(told == Told::Refers(*want))
     }
 
-    /// Whether that is told of a term of a reference file in an assertion.
-    pub(super) fn asserts(&mut self, row: (&str, &Told)) -> Result<bool, Fail> {
+    /// Whether a term of a reference file is that in an assertion.
+    pub(super) fn asserts(&mut self, row: Reference<'_>) -> Result<bool, Fail> {
         let (text, want) = row;
         let told = self.told(Kind::Reference { in_assert: true }, text)?;
-        Ok(told == *want)
+        Ok(told == Told::Refers(*want))
     }
 
     /// What is told of a term.
@@ -156,7 +183,7 @@ impl World {
     }
 
     /// Whether both texts have meanings, and the same one.
-    pub(super) fn agree(&mut self, texts: (&str, &str)) -> Result<bool, Fail> {
+    pub(super) fn agree(&mut self, texts: Pair<'_>) -> Result<bool, Fail> {
         let (a, b) = texts;
         let x = self.meant(a)?;
         let y = self.meant(b)?;
@@ -164,26 +191,11 @@ impl World {
     }
 
     /// Whether both texts have meanings, and different ones.
-    pub(super) fn differ(&mut self, texts: (&str, &str)) -> Result<bool, Fail> {
+    pub(super) fn differ(&mut self, texts: Pair<'_>) -> Result<bool, Fail> {
         let (a, b) = texts;
         let x = self.meant(a)?;
         let y = self.meant(b)?;
         Ok(x.is_some() & y.is_some() & (x != y))
-    }
-
-    /// Whether each text has a meaning, and the one that stands beside it.
-    pub(super) fn all_mean(&mut self, rows: &[(&str, Option<Id>)]) -> Result<bool, Fail> {
-        for (text, id) in rows.iter() {
-            if !self.is_meant(text, *id)? {
-                return Ok(false);
-            }
-        }
-        Ok(true)
-    }
-
-    fn is_meant(&mut self, text: &str, id: Option<Id>) -> Result<bool, Fail> {
-        let x = self.meant(text)?;
-        Ok(x.is_some() && x == id)
     }
 
     /// Whether the constant of the name has, behind the declaration, the type that the text means.
@@ -202,27 +214,44 @@ impl World {
         }
     }
 
-    /// The rule of the name.
-    pub(super) fn rule(&self, name: &str) -> Option<RuleIds> {
+    /// Whether the text means that part of the rule of the name.
+    pub(super) fn has_part(&mut self, row: (&str, Part, &str)) -> Result<bool, Fail> {
+        let (name, part, text) = row;
+        let x = self.part(name, part);
+        let y = self.meant(text)?;
+        Ok(x.is_some() & (x == y))
+    }
+
+    fn part(&self, name: &str, part: Part) -> Option<Id> {
         match self.sig.rule(name.as_bytes()) {
-            Some(n) => Some(ids_of(self.sig.rule_of(n))),
+            Some(n) => part_of(self.sig.rule_of(n), part),
+            None => None,
+        }
+    }
+
+    /// How many parts the rule of the name has.
+    pub(super) fn counts(&self, name: &str) -> Option<Counts> {
+        match self.sig.rule(name.as_bytes()) {
+            Some(n) => Some(counts_of(self.sig.rule_of(n))),
             None => None,
         }
     }
 
     // What is told of a text.
     fn told(&mut self, kind: Kind, text: &str) -> Result<Told, Fail> {
-        match read(self.alloc, text.as_bytes())? {
-            Some(text) => Ok(self.told_of(kind, &text.sexp())),
-            None => Ok(Told::Refused(Answer::Unread)),
-        }
+        let Some(text) = read(self.alloc, text.as_bytes())? else {
+            return Ok(Told::Refused(Answer::Unread));
+        };
+        let told = self.told_of(kind, &text.sexp());
+        drop(text);
+        Ok(told)
     }
 
     fn told_of(&mut self, kind: Kind, s: &Sexp<'_>) -> Told {
         match kind {
             Kind::Declaration => self.declare_sexp(s),
             Kind::Term => self.told_of_term(s),
-            Kind::Reference { in_assert } => self.told_of_reference(s, in_assert),
+            Kind::Reference { in_assert } => Told::Refers(self.referred(s, in_assert)),
         }
     }
 
@@ -233,23 +262,29 @@ impl World {
         }
     }
 
-    fn told_of_reference(&mut self, s: &Sexp<'_>, in_assert: bool) -> Told {
+    fn referred(&mut self, s: &Sexp<'_>, in_assert: bool) -> Referred {
         match self.reference_meaning(s, in_assert) {
-            Ok(told) => told,
-            Err(e) => Told::Refused(refused(&e)),
+            Ok(referred) => referred,
+            Err(e) => Referred::Refused(refused(&e)),
         }
     }
 
     fn meaning(&mut self, s: &Sexp<'_>) -> Result<Id, ElabRefused> {
         let locals = parameters(self.alloc, &mut self.table)?;
-        term(self.alloc, s, &locals, &self.sig, &mut self.table)
+        let meant = term(self.alloc, s, &locals, &self.sig, &mut self.table);
+        drop(locals);
+        meant
     }
 
-    fn reference_meaning(&mut self, s: &Sexp<'_>, in_assert: bool) -> Result<Told, ElabRefused> {
+    fn reference_meaning(
+        &mut self,
+        s: &Sexp<'_>,
+        in_assert: bool,
+    ) -> Result<Referred, ElabRefused> {
         self.sig.laws();
         let locals = parameters(self.alloc, &mut self.table)?;
         let mut names = Names::new(self.alloc);
-        let id = reference_term(
+        let meant = reference_meaning(
             self.alloc,
             s,
             &locals,
@@ -257,8 +292,10 @@ impl World {
             &mut self.table,
             in_assert,
             &mut names,
-        )?;
-        Ok(named(self.table.node(id), names.len()))
+        );
+        drop(names);
+        drop(locals);
+        meant
     }
 
     fn declare_sexp(&mut self, s: &Sexp<'_>) -> Told {
@@ -286,6 +323,14 @@ pub(super) fn first_wrong<Row: Copy, F: Fn(&mut World, Row) -> Result<bool, Fail
         }
     }
     Ok(None)
+}
+
+/// Declares what the rows say; each is to become what stands beside it.
+pub(super) fn prepare(world: &mut World, rows: &[Outcome<'_>]) -> Result<(), Fail> {
+    match first_wrong(world, rows, World::declares)? {
+        None => Ok(()),
+        Some(_) => Err(Fail::new("a row was not declared")),
+    }
 }
 
 // What became of a text of which that is told.
@@ -335,29 +380,51 @@ fn add_parameters(table: &mut Table, locals: &mut Locals) -> Result<(), AllocErr
     Ok(())
 }
 
+// What a term of a reference file is, to which names may be given.
+fn reference_meaning(
+    alloc: Global,
+    s: &Sexp<'_>,
+    locals: &Locals,
+    sig: &Signature,
+    table: &mut Table,
+    in_assert: bool,
+    names: &mut Names,
+) -> Result<Referred, ElabRefused>
+    requires ready { IsReady (length table.old.trees) sig.now locals.now }
+    requires names { BindingsBelow (length table.old.trees) names.old }
+    ensures grows { Grows table.old table.new }
+    ensures keeps { Keeps sig.now locals.now table.old.trees table.new.trees }
+{
+    let id = reference_term(alloc, s, locals, sig, table, in_assert, names)?;
+    Ok(named(table.node(id), names.len()))
+}
+
 // A bit string, or how many names were given.
-fn named(node: Node, names: usize) -> Told {
+fn named(node: Node, names: usize) -> Referred {
     match node {
-        Node::Bits { width, value } => Told::Bits { width, value },
-        _ => Told::Names(names),
+        Node::Bits { width, value } => Referred::Bits { width, value },
+        _ => Referred::Names(names),
     }
 }
 
-fn ids_of(rule: &RuleDecl) -> RuleIds {
-    let args = rule.args.as_slice();
-    let requirements = rule.requirements.as_slice();
-    RuleIds {
+fn part_of(rule: &RuleDecl, part: Part) -> Option<Id> {
+    match part {
+        Part::Assumption => rule.assumption,
+        Part::Pattern => pattern_of(&rule.premises),
+        Part::First => rule.args.as_slice().first().copied(),
+        Part::Last => rule.args.as_slice().last().copied(),
+        Part::Left => left_of(rule.requirements.as_slice()),
+        Part::Right => right_of(rule.requirements.as_slice()),
+        Part::Conclusion => Some(rule.conclusion),
+    }
+}
+
+fn counts_of(rule: &RuleDecl) -> Counts {
+    Counts {
         params: rule.params.as_slice().len(),
-        assumption: rule.assumption,
-        pattern: pattern_of(&rule.premises),
         joiner: joiner_of(&rule.premises),
-        args: args.len(),
-        first: args.first().copied(),
-        second: args.last().copied(),
-        requirements: requirements.len(),
-        left: left_of(requirements),
-        right: right_of(requirements),
-        conclusion: rule.conclusion,
+        args: rule.args.as_slice().len(),
+        requirements: rule.requirements.as_slice().len(),
         sorry: rule.sorry,
     }
 }
@@ -414,6 +481,7 @@ fn add_constant(sig: &mut Signature, table: &Table, d: ConstDecl) -> Answer
     ensures ready { IsBelow (length table.now.trees) sig.new }
 {
     if !sig.is_free(d.name.as_bytes()) {
+        drop(d);
         return Answer::Unread;
     }
     match sig.declare(table, d) {
@@ -428,6 +496,7 @@ fn add_macro(sig: &mut Signature, table: &Table, d: MacroDecl) -> Answer
     ensures ready { IsBelow (length table.now.trees) sig.new }
 {
     if !sig.is_free(d.name.as_bytes()) {
+        drop(d);
         return Answer::Unread;
     }
     match sig.define(d) {
@@ -442,6 +511,7 @@ fn add_program(sig: &mut Signature, table: &Table, d: ProgramDecl) -> Answer
     ensures ready { IsBelow (length table.now.trees) sig.new }
 {
     if !sig.is_free(d.name.as_bytes()) {
+        drop(d);
         return Answer::Unread;
     }
     match sig.add_program(table, d) {
@@ -456,6 +526,7 @@ fn add_rule(sig: &mut Signature, table: &Table, d: RuleDecl) -> Answer
     ensures ready { IsBelow (length table.now.trees) sig.new }
 {
     if !sig.is_free_rule(d.name.as_bytes()) {
+        drop(d);
         return Answer::Unread;
     }
     match sig.add_rule(table, d) {
@@ -533,14 +604,26 @@ impl Text {
 }
 
 // A text up to its first s-expression; nothing, where there is none. An atom ends with a space.
-fn read(alloc: Global, text: &[u8]) -> Result<Option<Text>, Fail> {
+fn read(alloc: Global, text: &[u8]) -> Result<Option<Text>, AllocError> {
     let mut collector = Collector::new(alloc, false)?;
+    if is_read(&mut collector, text) {
+        return Ok(Some(Text { collector }));
+    }
+    drop(collector);
+    Ok(None)
+}
+
+// Whether a text is read up to its first s-expression.
+fn is_read(collector: &mut Collector, text: &[u8]) -> bool
+    requires { IsLive collector.old }
+    ensures { IsTrue result → IsAtCommand collector.new }
+{
     let here = collector.here();
     if here.offset > TEXT as u64 || text.len() > TEXT {
-        return Ok(None);
+        return false;
     }
     match collector.feed(text) {
-        Fed::Command { used: _ } => Ok(Some(Text { collector })),
-        _ => Ok(None),
+        Fed::Command { used: _ } => true,
+        _ => false,
     }
 }
