@@ -15,7 +15,7 @@ use std::marker::Model;
 use std::test::Fail;
 
 /// What is told of a command.
-#[derive(Clone, Copy, Debug, PartialEq, Eq)]
+#[derive(Clone, Copy, PartialEq, Eq)]
 pub(super) enum Told {
     Constant,
     /// A macro with so many parameters.
@@ -35,6 +35,9 @@ pub(super) enum Told {
     /// It is no s-expression.
     Unread,
 }
+
+/// A command, and what is told of it.
+pub(super) type Row<'a> = (&'a str, &'a Told);
 
 /// A table, a signature over it, and what is asserted.
 #[derive(Drop)]
@@ -71,9 +74,9 @@ impl World {
 
     /// The first command of which something else is told than what stands beside it. What it
     /// declares is declared, where the name is free.
-    pub(super) fn other(&mut self, rows: &[(&str, Told)]) -> Result<Option<usize>, Fail> {
+    pub(super) fn other(&mut self, rows: &[Row<'_>]) -> Result<Option<usize>, Fail> {
         for (i, (text, want)) in rows.iter().enumerate() {
-            if self.told(text)? != *want {
+            if self.told(text)? != **want {
                 return Ok(Some(i));
             }
         }
@@ -81,10 +84,12 @@ impl World {
     }
 
     fn told(&mut self, text: &str) -> Result<Told, Fail> {
-        match read(self.alloc, text.as_bytes())? {
-            Some(text) => Ok(self.told_of(&text.sexp())),
-            None => Ok(Told::Unread),
-        }
+        let Some(text) = read(self.alloc, text.as_bytes())? else {
+            return Ok(Told::Unread);
+        };
+        let told = self.told_of(&text.sexp());
+        drop(text);
+        Ok(told)
     }
 
     fn told_of(&mut self, s: &Sexp<'_>) -> Told {
@@ -110,10 +115,12 @@ impl World {
     }
 
     fn formula(&mut self, text: &str) -> Result<Id, Fail> {
-        match read(self.alloc, text.as_bytes())? {
-            Some(text) => self.formula_of(&text.sexp()),
-            None => Err(Fail::new("no s-expression")),
-        }
+        let Some(text) = read(self.alloc, text.as_bytes())? else {
+            return Err(Fail::new("no s-expression"));
+        };
+        let formula = self.formula_of(&text.sexp());
+        drop(text);
+        formula
     }
 
     fn formula_of(&mut self, s: &Sexp<'_>) -> Result<Id, Fail> {
@@ -151,9 +158,11 @@ fn declare_constant(sig: &mut Signature, table: &Table, d: ConstDecl) -> Told
     ensures ready { IsBelow (length table.now.trees) sig.new }
 {
     if !d.from_reference {
+        drop(d);
         return Told::Other;
     }
     if !sig.is_free(d.name.as_bytes()) {
+        drop(d);
         return Told::Constant;
     }
     match sig.declare(table, d) {
@@ -168,10 +177,12 @@ fn define(sig: &mut Signature, table: &Table, d: MacroDecl) -> Told
     ensures ready { IsBelow (length table.now.trees) sig.new }
 {
     if !d.from_reference {
+        drop(d);
         return Told::Other;
     }
     let parameters = d.params.as_slice().len();
     if !sig.is_free(d.name.as_bytes()) {
+        drop(d);
         return Told::Macro(parameters);
     }
     match sig.define(d) {
