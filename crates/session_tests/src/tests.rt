@@ -3,105 +3,128 @@ mod run;
 
 use eo_base::FaultName::UnknownRule;
 use run::Answer::{Done, Ended, Fault};
-use run::{Run, tell};
+use run::{Row, Run, tell};
+use std::alloc::Global;
+use std::process::Abort;
 use std::test::Fail;
 
-#[test]
-fn a_step_that_is_refused_ends_the_session(rt: HostRuntime) -> Result<(), Fail> {
-    assert_eq!(rt; tell(rt.alloc(), behind_a_refused_step)?, None);
+// A function that is lent a new session finds no row that is wrong.
+fn all_right<F: FnOnce(&mut Run) -> Result<Option<usize>, Fail>>(
+    rt: &impl Abort,
+    alloc: Global,
+    first_wrong: F,
+) -> Result<(), Fail>
+    requires { F.IsAlwaysCallable first_wrong }
+{
+    assert_eq!(rt; tell(alloc, first_wrong)?, None);
     Ok(())
 }
 
+#[test]
+fn a_step_that_is_refused_ends_the_session(rt: HostRuntime) -> Result<(), Fail> {
+    all_right(&rt, rt.alloc(), behind_a_refused_step)
+}
+
 // What is accepted before a refused step is refused behind it, and so is the step itself.
+const REFUSED: &[Row<'static>] = &[
+    (b"(define @t () true)", &Done(4)),
+    (b"(step @a :rule nope)", &Fault(UnknownRule)),
+    (b"(define @u () true)", &Ended),
+    (b"(step @a :rule nope)", &Ended),
+];
+
 fn behind_a_refused_step(run: &mut Run) -> Result<Option<usize>, Fail> {
-    run.wrong(&[
-        (b"(define @t () true)", Done(4)),
-        (b"(step @a :rule nope)", Fault(UnknownRule)),
-        (b"(define @u () true)", Ended),
-        (b"(step @a :rule nope)", Ended),
-    ])
+    run.wrong(REFUSED)
 }
 
 #[test]
 fn a_session_holds_what_is_alive(rt: HostRuntime) -> Result<(), Fail> {
-    assert_eq!(rt; tell(rt.alloc(), with_scopes)?, None);
-    Ok(())
+    all_right(&rt, rt.alloc(), with_scopes)
 }
 
 // The commands of a benchmark's signature, and a scope that is opened and closed twice.
+const SCOPES: &[Row<'static>] = &[
+    (b"(declare-const Int Type)", &Done(5)),
+    (b"(declare-consts <numeral> Int)", &Done(5)),
+    (b"(declare-const not (-> Bool Bool))", &Done(7)),
+    (
+        b"(declare-const or (-> Bool Bool Bool) :right-assoc-nil false)",
+        &Done(9),
+    ),
+    (b"(declare-const at (-> Int Bool))", &Done(11)),
+    (
+        b"(declare-rule hop ((n Int)) :args (n) :conclusion (or (not (at n)) (at (eo::add n 1))))",
+        &Done(21),
+    ),
+    (
+        b"(declare-rule unit ((a Bool) (b Bool)) :premises (a (or (not a) b)) :conclusion b)",
+        &Done(27),
+    ),
+    (
+        b"(declare-rule contra ((a Bool)) :premises (a (not a)) :conclusion false)",
+        &Done(27),
+    ),
+    (
+        b"(declare-rule scope ((a Bool) (b Bool)) :assumption a :premises (b) :conclusion (or (not a) b))",
+        &Done(27),
+    ),
+    (b"(assume-push @h (at 0))", &Done(29)),
+    (b"(define @t () (not (at (eo::add 0 0))))", &Done(32)),
+    (b"(step @i :rule hop :args (0))", &Done(38)),
+    (b"(step @j :rule unit :premises (@h @i))", &Done(38)),
+    (b"(step-pop @a :rule scope :premises (@j))", &Done(35)),
+    (b"(assume-push @h (at 0))", &Done(35)),
+    (b"(step-pop @b :rule scope :premises (@h))", &Done(38)),
+    (b"(define @u () (at (eo::add 0 0)))", &Done(40)),
+];
+
 fn with_scopes(run: &mut Run) -> Result<Option<usize>, Fail> {
-    run.wrong(&[
-        (b"(declare-const Int Type)", Done(5)),
-        (b"(declare-consts <numeral> Int)", Done(5)),
-        (b"(declare-const not (-> Bool Bool))", Done(7)),
-        (
-            b"(declare-const or (-> Bool Bool Bool) :right-assoc-nil false)",
-            Done(9),
-        ),
-        (b"(declare-const at (-> Int Bool))", Done(11)),
-        (
-            b"(declare-rule hop ((n Int)) :args (n) :conclusion (or (not (at n)) (at (eo::add n 1))))",
-            Done(21),
-        ),
-        (
-            b"(declare-rule unit ((a Bool) (b Bool)) :premises (a (or (not a) b)) :conclusion b)",
-            Done(27),
-        ),
-        (
-            b"(declare-rule contra ((a Bool)) :premises (a (not a)) :conclusion false)",
-            Done(27),
-        ),
-        (
-            b"(declare-rule scope ((a Bool) (b Bool)) :assumption a :premises (b) :conclusion (or (not a) b))",
-            Done(27),
-        ),
-        (b"(assume-push @h (at 0))", Done(29)),
-        (b"(define @t () (not (at (eo::add 0 0))))", Done(32)),
-        (b"(step @i :rule hop :args (0))", Done(38)),
-        (b"(step @j :rule unit :premises (@h @i))", Done(38)),
-        (b"(step-pop @a :rule scope :premises (@j))", Done(35)),
-        (b"(assume-push @h (at 0))", Done(35)),
-        (b"(step-pop @b :rule scope :premises (@h))", Done(38)),
-        (b"(define @u () (at (eo::add 0 0)))", Done(40)),
-    ])
+    run.wrong(SCOPES)
 }
 
 #[test]
 fn scopes_leave_nothing_behind(rt: HostRuntime) -> Result<(), Fail> {
-    assert_eq!(rt; tell(rt.alloc(), with_many_scopes)?, None);
-    Ok(())
+    all_right(&rt, rt.alloc(), with_many_scopes)
 }
+
+// A scope that is opened and closed.
+const SCOPE: &[Row<'static>] = &[
+    (b"(declare-const Int Type)", &Done(5)),
+    (b"(declare-consts <numeral> Int)", &Done(5)),
+    (b"(declare-const not (-> Bool Bool))", &Done(7)),
+    (
+        b"(declare-const or (-> Bool Bool Bool) :right-assoc-nil false)",
+        &Done(9),
+    ),
+    (b"(declare-const at (-> Int Bool))", &Done(11)),
+    (
+        b"(declare-rule scope ((a Bool) (b Bool)) :assumption a :premises (b) :conclusion (or (not a) b))",
+        &Done(18),
+    ),
+    (b"(assume-push @h (at 0))", &Done(20)),
+    (b"(step-pop @a :rule scope :premises (@h))", &Done(25)),
+];
 
 // Scopes that are opened and closed one after another, each with the same conclusion. The first one
 // leaves its terms, and no other does.
 fn with_many_scopes(run: &mut Run) -> Result<Option<usize>, Fail> {
-    let first = run.wrong(&[
-        (b"(declare-const Int Type)", Done(5)),
-        (b"(declare-consts <numeral> Int)", Done(5)),
-        (b"(declare-const not (-> Bool Bool))", Done(7)),
-        (
-            b"(declare-const or (-> Bool Bool Bool) :right-assoc-nil false)",
-            Done(9),
-        ),
-        (b"(declare-const at (-> Int Bool))", Done(11)),
-        (
-            b"(declare-rule scope ((a Bool) (b Bool)) :assumption a :premises (b) :conclusion (or (not a) b))",
-            Done(18),
-        ),
-        (b"(assume-push @h (at 0))", Done(20)),
-        (b"(step-pop @a :rule scope :premises (@h))", Done(25)),
-    ])?;
+    let first = run.wrong(SCOPE)?;
     if first.is_some() {
         return Ok(first);
     }
     for i in 0..10_000_u16 {
-        let text = closing(i);
-        let wrong = run.wrong(&[(b"(assume-push @h (at 0))", Done(25)), (&text, Done(25))])?;
-        if wrong.is_some() {
+        if !leaves_nothing(run, i)? {
             return Ok(Some(i as usize));
         }
     }
     Ok(None)
+}
+
+// Whether a scope that is opened and closed leaves no terms.
+fn leaves_nothing(run: &mut Run, i: u16) -> Result<bool, Fail> {
+    let opened = run.is_right(b"(assume-push @h (at 0))", Done(25))?;
+    let closed = run.is_right(&closing(i), Done(25))?;
+    Ok(opened & closed)
 }
 
 // The command that closes a scope, with a name of four digits.
@@ -120,43 +143,46 @@ fn digit(i: u16) -> u8 {
 
 #[test]
 fn a_shared_term_is_counted_once(rt: HostRuntime) -> Result<(), Fail> {
-    assert_eq!(rt; tell(rt.alloc(), with_shared_terms)?, None);
-    Ok(())
+    all_right(&rt, rt.alloc(), with_shared_terms)
 }
+
+// A conjunction that may hold the one before twice, and a first name.
+const SHARED: &[Row<'static>] = &[
+    (b"(declare-const p Bool)", &Done(5)),
+    (
+        b"(declare-const and (-> Bool Bool Bool) :right-assoc-nil true)",
+        &Done(8),
+    ),
+    (
+        b"(declare-parameterized-const = ((A Type :implicit)) (-> A A Bool))",
+        &Done(12),
+    ),
+    (
+        b"(declare-rule refl ((A Type) (x A)) :args (x) :conclusion (= x x))",
+        &Done(15),
+    ),
+    (b"(define @t00 () p)", &Done(15)),
+];
+
+// What is derived of the last conjunction of all.
+const REFLECTED: &[Row<'static>] = &[(
+    b"(step @s (= @t64 @t64) :rule refl :args (@t64))",
+    &Done(15 + 192 + 2),
+)];
 
 // Conjunctions of the one before with itself, 64 times: each has three terms more, though as a tree
 // the last has 2^64 leaves and more.
 fn with_shared_terms(run: &mut Run) -> Result<Option<usize>, Fail> {
-    let first = run.wrong(&[
-        (b"(declare-const p Bool)", Done(5)),
-        (
-            b"(declare-const and (-> Bool Bool Bool) :right-assoc-nil true)",
-            Done(8),
-        ),
-        (
-            b"(declare-parameterized-const = ((A Type :implicit)) (-> A A Bool))",
-            Done(12),
-        ),
-        (
-            b"(declare-rule refl ((A Type) (x A)) :args (x) :conclusion (= x x))",
-            Done(15),
-        ),
-        (b"(define @t00 () p)", Done(15)),
-    ])?;
+    let first = run.wrong(SHARED)?;
     if first.is_some() {
         return Ok(first);
     }
     for k in 0..64_u16 {
-        let text = doubled(k, k + 1);
-        let wrong = run.wrong(&[(&text, Done(18 + 3 * k as usize))])?;
-        if wrong.is_some() {
+        if !run.is_right(&doubled(k, k + 1), Done(18 + 3 * k as usize))? {
             return Ok(Some(k as usize));
         }
     }
-    run.wrong(&[(
-        b"(step @s (= @t64 @t64) :rule refl :args (@t64))",
-        Done(15 + 192 + 2),
-    )])
+    run.wrong(REFLECTED)
 }
 
 // The command that defines a conjunction by the one before, with names of two digits.

@@ -1,4 +1,7 @@
 //! A session that is fed commands as texts.
+ghost use Rattle.std.specs.Prelude.{IsTrue};
+ghost use Rattle.eo_sexp.specs.Collecting.{IsAtCommand, IsLive};
+
 use eo_base::FaultName;
 use eo_session::{Origin, Refused, Session};
 use eo_sexp::{Collector, Fed, Sexp};
@@ -10,13 +13,16 @@ use std::test::Fail;
 const TEXT: usize = 1_000;
 
 /// What a session answers.
-#[derive(Clone, Copy, Debug, PartialEq, Eq)]
+#[derive(Clone, Copy, PartialEq, Eq)]
 pub(super) enum Answer {
     /// It is accepted, and so many terms are alive then.
     Done(usize),
     Fault(FaultName),
     Ended,
 }
+
+/// A text, and what its command is answered.
+pub(super) type Row<'a> = (&'a [u8], &'a Answer);
 
 /// A session.
 #[derive(Drop)]
@@ -42,14 +48,19 @@ impl Run {
 
     /// The first row whose text, as a command of the proof, is answered in another way than the row
     /// says, if one is.
-    pub(super) fn wrong(&mut self, rows: &[(&[u8], Answer)]) -> Result<Option<usize>, Fail> {
+    pub(super) fn wrong(&mut self, rows: &[Row<'_>]) -> Result<Option<usize>, Fail> {
         for i in 0..rows.len() {
             let (text, want) = rows[i];
-            if self.answer(text)? != want {
+            if !self.is_right(text, *want)? {
                 return Ok(Some(i));
             }
         }
         Ok(None)
+    }
+
+    /// Whether the command of a text is answered so.
+    pub(super) fn is_right(&mut self, text: &[u8], want: Answer) -> Result<bool, Fail> {
+        Ok(self.answer(text)? == want)
     }
 
     // What the command of a text is answered.
@@ -57,7 +68,9 @@ impl Run {
         let Some(text) = read(self.alloc, text)? else {
             return Err(Fail::new("no command"));
         };
-        told(&mut self.session, &text)
+        let answer = told(&mut self.session, &text);
+        drop(text);
+        answer
     }
 }
 
@@ -111,12 +124,24 @@ impl Text {
 // The text, where it is one list.
 fn read(alloc: Global, text: &[u8]) -> Result<Option<Text>, AllocError> {
     let mut collector = Collector::new(alloc, false)?;
+    if is_read(&mut collector, text) {
+        return Ok(Some(Text { collector }));
+    }
+    drop(collector);
+    Ok(None)
+}
+
+// Whether a text is read up to the end of its first list.
+fn is_read(collector: &mut Collector, text: &[u8]) -> bool
+    requires { IsLive collector.old }
+    ensures { IsTrue result → IsAtCommand collector.new }
+{
     let here = collector.here();
     if here.offset > TEXT as u64 || text.len() > TEXT {
-        return Ok(None);
+        return false;
     }
     match collector.feed(text) {
-        Fed::Command { used: _ } => Ok(Some(Text { collector })),
-        _ => Ok(None),
+        Fed::Command { used: _ } => true,
+        _ => false,
     }
 }
