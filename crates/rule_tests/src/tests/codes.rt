@@ -1,5 +1,5 @@
 //! Terms as codes: a letter for what a term is, and then its parts.
-use super::world::{AND, World};
+use super::world::{AND, INT, NOT, World};
 use eo_term::{BOOL, FALSE, Id, OpName, TRUE, TYPE};
 use std::test::Fail;
 
@@ -25,23 +25,30 @@ impl World {
     ///
     /// With two parts, there are `&`, an item before a conjunction, and `#`, the item of a
     /// conjunction at this place; `%`, two conjunctions as one; `+`, their sum; and `@`, which
-    /// applies the first to the second.
+    /// applies the first to the second; `>`, the type of functions from one type to another, and `^`,
+    /// that of functions whose argument is bound as `x`.
     pub(super) fn terms(&mut self, code: &str) -> Result<Vec<Id>, Fail> {
         let mut terms = Vec::new(self.alloc());
+        self.read_all(code, &mut terms)?;
+        Ok(terms)
+    }
+
+    // Reads the terms of a code into an empty list.
+    fn read_all(&mut self, code: &str, terms: &mut Vec<Id>) -> Result<(), Fail> {
         for letter in code.as_bytes().iter().rev() {
-            let id = self.read(*letter, &mut terms)?;
+            let id = self.read(*letter, terms)?;
             terms.push(id)?;
         }
         terms.reverse();
-        Ok(terms)
+        Ok(())
     }
 
     /// The one term of a code.
     pub(super) fn term(&mut self, code: &str) -> Result<Id, Fail> {
-        match self.terms(code)?.as_slice() {
-            [id] => Ok(*id),
-            _ => Err(Fail::new("not one term")),
-        }
+        let terms = self.terms(code)?;
+        let one = one_of(terms.as_slice());
+        drop(terms);
+        one
     }
 
     /// The one term of a code, or none.
@@ -55,11 +62,10 @@ impl World {
 
     /// The two terms of a code, or none.
     pub(super) fn pair(&mut self, code: &str) -> Result<Option<(Id, Id)>, Fail> {
-        match self.terms(code)?.as_slice() {
-            [] => Ok(None),
-            [first, second] => Ok(Some((*first, *second))),
-            _ => Err(Fail::new("not two terms")),
-        }
+        let terms = self.terms(code)?;
+        let pair = pair_of(terms.as_slice());
+        drop(terms);
+        pair
     }
 
     // The term of a letter, before these, of which the first stands last.
@@ -69,8 +75,7 @@ impl World {
         }
         let first = next(behind)?;
         if let Some(number) = applied_by(letter) {
-            let fun = self.con(number)?;
-            return self.app(fun, first);
+            return self.applied(number, first);
         }
         if is_of_two(letter) {
             let second = next(behind)?;
@@ -103,6 +108,8 @@ impl World {
         match letter {
             b'&' => self.and(first, second),
             b'@' => self.app(first, second),
+            b'>' => self.arr(first, second),
+            b'^' => self.qar(first, second),
             b'+' => self.op(OpName::Add, &[first, second]),
             b'#' => self.listed(OpName::ListNth, first, second),
             _ => self.listed(OpName::ListConcat, first, second),
@@ -113,6 +120,23 @@ impl World {
     fn listed(&mut self, op: OpName, first: Id, second: Id) -> Result<Id, Fail> {
         let and = self.con(AND)?;
         self.op(op, &[and, first, second])
+    }
+}
+
+// The one term, if there is one alone.
+fn one_of(terms: &[Id]) -> Result<Id, Fail> {
+    match terms {
+        [id] => Ok(*id),
+        _ => Err(Fail::new("not one term")),
+    }
+}
+
+// The two terms, or none.
+fn pair_of(terms: &[Id]) -> Result<Option<(Id, Id)>, Fail> {
+    match terms {
+        [] => Ok(None),
+        [first, second] => Ok(Some((*first, *second))),
+        _ => Err(Fail::new("not two terms")),
     }
 }
 
@@ -133,7 +157,7 @@ fn leaf_of(letter: u8) -> Option<Leaf> {
         b'f' => Some(Leaf::Term(FALSE)),
         b'p' => Some(Leaf::Constant(4)),
         b'q' => Some(Leaf::Constant(5)),
-        b'I' => Some(Leaf::Constant(8)),
+        b'I' => Some(Leaf::Constant(INT)),
         b'c' => Some(Leaf::Constant(9)),
         b'0' => Some(Leaf::Number(0)),
         b'1' => Some(Leaf::Number(1)),
@@ -148,7 +172,7 @@ fn leaf_of(letter: u8) -> Option<Leaf> {
 // The constant that a letter applies to one part, if it does.
 fn applied_by(letter: u8) -> Option<usize> {
     match letter {
-        b'~' => Some(6),
+        b'~' => Some(NOT),
         b'V' => Some(10),
         b'Z' => Some(11),
         b'F' => Some(12),
@@ -159,5 +183,5 @@ fn applied_by(letter: u8) -> Option<usize> {
 
 // Whether a letter has two parts.
 fn is_of_two(letter: u8) -> bool {
-    matches!(letter, b'&' | b'@' | b'+' | b'#' | b'%')
+    matches!(letter, b'&' | b'@' | b'>' | b'^' | b'+' | b'#' | b'%')
 }

@@ -1,6 +1,9 @@
-//! Rules to be declared, and uses of them with what they give. Terms stand as codes (`codes`).
+//! Constants and rules to be declared, and uses of them with what they give. Terms stand as codes (`codes`).
 use eo_base::FaultName;
 use eo_term::Id;
+
+/// A constant: its name, its type, and the terminator of its lists if it has one.
+pub(super) type ConstRow<'a> = (&'a str, &'a str, &'a str);
 
 /// A rule: its name, the types of its parameters, its assumption if it has one, its premises, its
 /// arguments, the two terms that it requires to be equal if it does, and its conclusion. Behind a

@@ -1,7 +1,7 @@
 //! Uses of rules: each check by itself. A term has at most the height 2,000.
 use super::rows::Trial;
 use super::rows::Want::{Fault, Formula};
-use super::world::wrong;
+use super::world::all_right;
 use eo_base::FaultName::{
     ConclusionDiffers, EvalCalls, EvalDepth, IllTyped, NotBool, NumberRange, PremiseMismatch,
     Stuck, TermHeight, WrongKind,
@@ -10,8 +10,7 @@ use std::test::Fail;
 
 #[test]
 fn what_is_given_is_matched(rt: HostRuntime) -> Result<(), Fail> {
-    assert_eq!(rt; wrong(rt.alloc(), MATCHES)?, None);
-    Ok(())
+    all_right(rt.alloc(), MATCHES)
 }
 
 const MATCHES: &[Trial<'static>] = &[
@@ -99,8 +98,7 @@ const MATCHES: &[Trial<'static>] = &[
 
 #[test]
 fn types_are_checked(rt: HostRuntime) -> Result<(), Fail> {
-    assert_eq!(rt; wrong(rt.alloc(), TYPES)?, None);
-    Ok(())
+    all_right(rt.alloc(), TYPES)
 }
 
 const TYPES: &[Trial<'static>] = &[
@@ -168,8 +166,7 @@ const TYPES: &[Trial<'static>] = &[
 
 #[test]
 fn conclusions_are_evaluated(rt: HostRuntime) -> Result<(), Fail> {
-    assert_eq!(rt; wrong(rt.alloc(), EVALUATIONS)?, None);
-    Ok(())
+    all_right(rt.alloc(), EVALUATIONS)
 }
 
 const EVALUATIONS: &[Trial<'static>] = &[
@@ -225,8 +222,7 @@ const EVALUATIONS: &[Trial<'static>] = &[
 
 #[test]
 fn conclusions_are_low_formulas(rt: HostRuntime) -> Result<(), Fail> {
-    assert_eq!(rt; wrong(rt.alloc(), CONCLUSIONS)?, None);
-    Ok(())
+    all_right(rt.alloc(), CONCLUSIONS)
 }
 
 const CONCLUSIONS: &[Trial<'static>] = &[

@@ -16,7 +16,7 @@ ghost use Rattle.eo_sig.specs.Signature.{are_ordered};
 ghost use Rattle.eo_sig.specs.Usable.{AreOrdered, IsUsable};
 ghost use Rattle.eo_rule.specs.Reading.{IsUseOf};
 
-use super::rows::{Form, Given, RuleRow, Told, Trial, UseRow, Want};
+use super::rows::{ConstRow, Form, Given, RuleRow, Told, Trial, UseRow, Want};
 use eo_base::{Name, both};
 use eo_eval::Evaluator;
 use eo_pattern::Subst;
@@ -25,19 +25,38 @@ use eo_sig::{
     Attribute, Case, Cases, ConstDecl, IdPairs, LiteralClass, Param, Params, PremiseShape,
     ProgramDecl, RuleDecl, Signature,
 };
-use eo_term::{BOOL, Id, Ids, Node, OpCode, OpName, ParamSet, TRUE, TYPE, Table, TermRefused};
+use eo_term::{BOOL, Id, Ids, Node, OpCode, OpName, ParamSet, Table};
 use eo_type::Types;
-use std::alloc::Global;
+use std::alloc::{AllocError, Global};
 use std::marker::Model;
 use std::test::Fail;
+
+/// The number of the constant `not`.
+pub(super) const NOT: usize = 6;
 
 /// The number of the constant `and`.
 pub(super) const AND: usize = 7;
 
-/// A table and a signature over it. It declares the constants `p` and `q` of type `Bool`, 4 and 5,
-/// `not`, 6, `and` with the terminator `true`, 7, `Int`, 8, which is the type of numerals, and `c`
-/// of that type, 9. A vector type `vec n` is that of `zeros`, 11, on the number n - 1, and a type
-/// `proof f` that of `proved`, 13, on the formula whose negation f is: `vec` is 10, `proof` 12.
+/// The number of the constant `Int`.
+pub(super) const INT: usize = 8;
+
+// The constants in order. The first has the number 4. `Int` is the type of numerals. A vector type
+// `vec n` is that of `zeros` on the number n - 1, and a type `proof f` that of `proved` on the formula
+// whose negation f is.
+const CONSTANTS: &[ConstRow<'static>] = &[
+    ("p", "B", ""),
+    ("q", "B", ""),
+    ("not", ">BB", ""),
+    ("and", ">B>BB", "t"),
+    ("Int", "T", ""),
+    ("c", "I", ""),
+    ("vec", ">IT", ""),
+    ("zeros", "^IV+x1", ""),
+    ("proof", ">BT", ""),
+    ("proved", "^BF~x", ""),
+];
+
+/// A table, and a signature over it that declares these constants.
 ///
 /// A call that gets a term of another table fails.
 #[derive(Drop)]
@@ -61,60 +80,32 @@ impl Model for World {
 
 impl World {
     // Nothing is declared yet.
-    fn first(alloc: Global) -> Result<World, Fail> {
+    fn first(alloc: Global) -> Result<World, AllocError> {
         let table = Table::new(alloc)?;
         let (sig, table) = both(Signature::new(alloc), table)?;
         Ok(World { alloc, table, sig })
     }
 
-    // Declares all constants.
+    // Declares all constants, and gives numerals a type.
     fn declare_all(&mut self) -> Result<(), Fail> {
-        self.declare_formulas()?;
-        self.declare_numbers()?;
-        self.declare_vectors()?;
-        self.declare_proofs()
-    }
-
-    // Declares the constants of formulas.
-    fn declare_formulas(&mut self) -> Result<(), Fail> {
-        let to_bool = self.arr(BOOL, BOOL)?;
-        let to_both = self.arr(BOOL, to_bool)?;
-        self.declare(b"p", BOOL, None)?;
-        self.declare(b"q", BOOL, None)?;
-        self.declare(b"not", to_bool, None)?;
-        self.declare(b"and", to_both, Some(TRUE))
-    }
-
-    // Declares those of numbers.
-    fn declare_numbers(&mut self) -> Result<(), Fail> {
-        self.declare(b"Int", TYPE, None)?;
-        let int = self.con(8)?;
-        self.declare(b"c", int, None)?;
+        self.declare_constants(CONSTANTS)?;
+        let int = self.con(INT)?;
         self.type_numerals(int)
     }
 
-    // Declares vectors, of which the type holds a number.
-    fn declare_vectors(&mut self) -> Result<(), Fail> {
-        let int = self.con(8)?;
-        let to_type = self.arr(int, TYPE)?;
-        self.declare(b"vec", to_type, None)?;
-        let number = self.par(0)?;
-        let one = self.num(1)?;
-        let more = self.op(OpName::Add, &[number, one])?;
-        let vector = self.vec(more)?;
-        let to_vector = self.qar(int, vector)?;
-        self.declare(b"zeros", to_vector, None)
+    // Declares constants.
+    fn declare_constants(&mut self, rows: &[ConstRow<'_>]) -> Result<(), Fail> {
+        for row in rows {
+            self.declare_constant(row)?;
+        }
+        Ok(())
     }
 
-    // Declares proofs, of which the type holds a formula.
-    fn declare_proofs(&mut self) -> Result<(), Fail> {
-        let to_type = self.arr(BOOL, TYPE)?;
-        self.declare(b"proof", to_type, None)?;
-        let formula = self.par(0)?;
-        let negated = self.not(formula)?;
-        let proof = self.proof(negated)?;
-        let to_proof = self.qar(BOOL, proof)?;
-        self.declare(b"proved", to_proof, None)
+    fn declare_constant(&mut self, row: &ConstRow<'_>) -> Result<(), Fail> {
+        let (name, ty, end) = *row;
+        let ty = self.term(ty)?;
+        let end = self.optional(end)?;
+        self.declare(name.as_bytes(), ty, end)
     }
 
     // Gives numerals a type.
@@ -137,12 +128,12 @@ impl World {
 
     /// A constant, by its number.
     pub(super) fn con(&mut self, number: usize) -> Result<Id, Fail> {
-        Ok(made(&self.sig, &mut self.table, Node::Con(number))?)
+        made(&self.sig, &mut self.table, Node::Con(number))
     }
 
     /// A number.
     pub(super) fn num(&mut self, number: i128) -> Result<Id, Fail> {
-        Ok(made(&self.sig, &mut self.table, Node::Num(number))?)
+        made(&self.sig, &mut self.table, Node::Num(number))
     }
 
     /// A parameter, by its number.
@@ -150,72 +141,47 @@ impl World {
         if number >= 64 {
             return Err(Fail::new("no parameter"));
         }
-        Ok(made(&self.sig, &mut self.table, Node::Par(number))?)
+        made(&self.sig, &mut self.table, Node::Par(number))
     }
 
-    // The type of functions from one type to another.
-    fn arr(&mut self, from: Id, to: Id) -> Result<Id, Fail> {
+    /// The type of functions from one type to another.
+    pub(super) fn arr(&mut self, from: Id, to: Id) -> Result<Id, Fail> {
         let from = live(&self.table, from)?;
         let to = live(&self.table, to)?;
-        Ok(made(&self.sig, &mut self.table, Node::Arr { from, to })?)
+        made(&self.sig, &mut self.table, Node::Arr { from, to })
     }
 
-    // The type of functions whose argument is bound as the parameter 0.
-    fn qar(&mut self, ty: Id, to: Id) -> Result<Id, Fail> {
+    /// The type of functions whose argument is bound as the parameter 0.
+    pub(super) fn qar(&mut self, ty: Id, to: Id) -> Result<Id, Fail> {
         let ty = live(&self.table, ty)?;
         let to = live(&self.table, to)?;
-        Ok(made(&self.sig, &mut self.table, Node::Qar { par: 0, ty, to })?)
+        made(&self.sig, &mut self.table, Node::Qar { par: 0, ty, to })
     }
 
     /// A term applied to another.
     pub(super) fn app(&mut self, fun: Id, arg: Id) -> Result<Id, Fail> {
         let fun = live(&self.table, fun)?;
         let arg = live(&self.table, arg)?;
-        Ok(made(&self.sig, &mut self.table, Node::App { fun, arg })?)
+        made(&self.sig, &mut self.table, Node::App { fun, arg })
     }
 
-    /// The negation of a term.
-    pub(super) fn not(&mut self, id: Id) -> Result<Id, Fail> {
-        let not = self.con(6)?;
-        self.app(not, id)
+    /// A constant, by its number, applied to a term.
+    pub(super) fn applied(&mut self, number: usize, arg: Id) -> Result<Id, Fail> {
+        let fun = self.con(number)?;
+        self.app(fun, arg)
     }
 
     /// The item before the conjunction.
     pub(super) fn and(&mut self, first: Id, rest: Id) -> Result<Id, Fail> {
-        let and = self.con(AND)?;
-        let front = self.app(and, first)?;
+        let front = self.applied(AND, first)?;
         self.app(front, rest)
-    }
-
-    /// The type of vectors of this length.
-    pub(super) fn vec(&mut self, length: Id) -> Result<Id, Fail> {
-        let vec = self.con(10)?;
-        self.app(vec, length)
-    }
-
-    /// A vector of one item more than the number.
-    pub(super) fn zeros(&mut self, number: Id) -> Result<Id, Fail> {
-        let zeros = self.con(11)?;
-        self.app(zeros, number)
-    }
-
-    /// The type of proofs of a formula.
-    pub(super) fn proof(&mut self, formula: Id) -> Result<Id, Fail> {
-        let proof = self.con(12)?;
-        self.app(proof, formula)
-    }
-
-    /// A proof of the negation of a formula.
-    pub(super) fn proved(&mut self, formula: Id) -> Result<Id, Fail> {
-        let proved = self.con(13)?;
-        self.app(proved, formula)
     }
 
     /// The negation of a term, and of that, and so on.
     pub(super) fn nots(&mut self, id: Id, times: usize) -> Result<Id, Fail> {
         let mut id = id;
         for _ in 0..times {
-            id = self.not(id)?;
+            id = self.applied(NOT, id)?;
         }
         Ok(id)
     }
@@ -225,13 +191,13 @@ impl World {
         if args.len() != op.arity() || !are_live(&self.table, args) {
             return Err(Fail::new("no arguments of the operator"));
         }
-        Ok(made_op(&self.sig, &mut self.table, OpCode::Builtin(op), args)?)
+        made_op(&self.sig, &mut self.table, OpCode::Builtin(op), args)
     }
 
     /// A program, by its number, on a term.
     pub(super) fn call(&mut self, program: usize, arg: Id) -> Result<Id, Fail> {
         let arg = live(&self.table, arg)?;
-        Ok(made_op(&self.sig, &mut self.table, OpCode::Prog(program), &[arg])?)
+        made_op(&self.sig, &mut self.table, OpCode::Prog(program), &[arg])
     }
 
     /// Adds a program with these cases, each a pattern and a body.
@@ -252,9 +218,21 @@ impl World {
     // Adds the program 0, with these cases, each a pattern and a body.
     fn declare_program(&mut self, rows: &[(&str, &str)]) -> Result<(), Fail> {
         let mut cases = Vec::new(self.alloc);
+        let declared = self.declare_cases(rows, &mut cases);
+        drop(cases);
+        declared
+    }
+
+    // The same, with the terms of the cases behind these.
+    fn declare_cases(
+        &mut self,
+        rows: &[(&str, &str)],
+        cases: &mut Vec<(Id, Id)>,
+    ) -> Result<(), Fail> {
         for (pattern, body) in rows {
-            let case = (self.term(pattern)?, self.term(body)?);
-            cases.push(case)?;
+            let pattern = self.term(pattern)?;
+            let body = self.term(body)?;
+            cases.push((pattern, body))?;
         }
         self.program(b"u", cases.as_slice())
     }
@@ -375,21 +353,18 @@ impl World {
     }
 }
 
-/// The first use of a rule that gives another answer than its row says, if one does: its trial, and
-/// its place there. Each trial has a new world.
-pub(super) fn wrong<'a>(
-    alloc: Global,
-    trials: &[Trial<'a>],
-) -> Result<Option<(&'a str, usize)>, Fail> {
+/// Fails at the first use of a rule that gives another answer than its row says: its trial, and its
+/// place there. Each trial has a new world.
+pub(super) fn all_right(alloc: Global, trials: &[Trial<'_>]) -> Result<(), Fail> {
     for trial in trials {
         if let Some(i) = wrong_in(alloc, trial)? {
-            return Ok(Some((trial.name, i)));
+            return Err(Fail::new(format_args!("{}: use {i}", trial.name)));
         }
     }
-    Ok(None)
+    Ok(())
 }
 
-// The same in one trial. This alone owns a world, and lets go of it by a call: each way out of a
+// The first such use of one trial, if one is. This alone owns a world, and lets go of it by a call: each way out of a
 // function that lets go of one by itself is dear to prove.
 fn wrong_in(alloc: Global, trial: &Trial<'_>) -> Result<Option<usize>, Fail> {
     let mut w = World::first(alloc)?;
@@ -481,7 +456,7 @@ fn are_live(table: &Table, ids: &[Id]) -> bool
 }
 
 // The term with this root.
-fn made(sig: &Signature, table: &mut Table, node: Node) -> Result<Id, TermRefused>
+fn made(sig: &Signature, table: &mut Table, node: Node) -> Result<Id, Fail>
     requires plain { IsPlain node }
     requires parts { PartsBelow (length table.old.trees) node }
     requires texts { TextsBelow (length table.old.texts) node }
@@ -490,18 +465,18 @@ fn made(sig: &Signature, table: &mut Table, node: Node) -> Result<Id, TermRefuse
     ensures grows { GrowsUnder sig.now table.old table.new }
 {
     sig.laws();
-    table.intern(node)
+    Ok(table.intern(node)?)
 }
 
 // An operator on these arguments.
-fn made_op(sig: &Signature, table: &mut Table, code: OpCode, args: &[Id]) -> Result<Id, TermRefused>
+fn made_op(sig: &Signature, table: &mut Table, code: OpCode, args: &[Id]) -> Result<Id, Fail>
     requires count { HasArity code (length args.now) }
     requires args { All (λ i. i < length table.old.trees) args.now }
     requires below { IsBelow (length table.old.trees) sig.now }
     ensures grows { GrowsUnder sig.now table.old table.new }
 {
     sig.laws();
-    table.intern_op(code, args)
+    Ok(table.intern_op(code, args)?)
 }
 
 // The attribute of a constant with this terminator or none.
@@ -563,9 +538,10 @@ fn params(alloc: Global, table: &Table, types: &[Id]) -> Result<Params, Fail>
 fn param(alloc: Global, table: &Table, ty: Id) -> Result<Param, Fail>
     ensures { IfOk result (λ (p : Param). p.ty < length table.now.trees) }
 {
+    let ty = live(table, ty)?;
     Ok(Param {
         name: Name::new(alloc, b"x")?,
-        ty: live(table, ty)?,
+        ty,
         implicit: false,
         list: false,
     })
@@ -634,9 +610,10 @@ fn cases_of(alloc: Global, table: &Table, rows: &[(Id, Id)]) -> Result<Cases, Fa
 fn case_of(alloc: Global, table: &Table, pattern: Id, body: Id) -> Result<Case, Fail>
     ensures { IfOk result (CaseBelow (length table.now.trees)) }
 {
+    let body = live(table, body)?;
     Ok(Case {
         patterns: terms(alloc, table, &[pattern])?,
-        body: live(table, body)?,
+        body,
     })
 }
 
@@ -666,18 +643,40 @@ fn program(
 fn rule(alloc: Global, table: &Table, name: &[u8], form: &Form) -> Result<RuleDecl, Fail>
     ensures { IfOk result (RuleBelow (length table.now.trees)) }
 {
-    let assumption = live_or_none(table, form.assumption)?;
-    let conclusion = live(table, form.conclusion)?;
+    let mut d = bare_rule(alloc, table, name, form.conclusion)?;
+    add_parts(alloc, table, form, &mut d)?;
+    Ok(d)
+}
+
+// A rule that has a name and a conclusion.
+fn bare_rule(alloc: Global, table: &Table, name: &[u8], conclusion: Id) -> Result<RuleDecl, Fail>
+    ensures { IfOk result (RuleBelow (length table.now.trees)) }
+{
+    let conclusion = live(table, conclusion)?;
+    let name = Name::new(alloc, name)?;
     Ok(RuleDecl {
-        name: Name::new(alloc, name)?,
-        params: params(alloc, table, form.types.as_slice())?,
-        assumption,
-        premises: shape(alloc, table, form)?,
-        args: terms(alloc, table, form.args.as_slice())?,
-        requirements: requirements(alloc, table, form.requirement)?,
+        name,
+        params: Params::new(alloc),
+        assumption: None,
+        premises: PremiseShape::Each(Ids::new(alloc)),
+        args: Ids::new(alloc),
+        requirements: IdPairs::new(alloc),
         conclusion,
         sorry: false,
     })
+}
+
+// Gives a rule all other parts.
+fn add_parts(alloc: Global, table: &Table, form: &Form, d: &mut RuleDecl) -> Result<(), Fail>
+    requires { RuleBelow (length table.now.trees) d.old }
+    ensures { RuleBelow (length table.now.trees) d.new }
+{
+    d.params = params(alloc, table, form.types.as_slice())?;
+    d.assumption = live_or_none(table, form.assumption)?;
+    d.premises = shape(alloc, table, form)?;
+    d.args = terms(alloc, table, form.args.as_slice())?;
+    d.requirements = requirements(alloc, table, form.requirement)?;
+    Ok(())
 }
 
 // What its premises are matched with.
@@ -729,6 +728,7 @@ fn values(alloc: Global, table: &Table, ids: &[Id]) -> Result<Ids, Fail>
 {
     let list = terms(alloc, table, ids)?;
     if !are_values(table, list.as_slice()) {
+        drop(list);
         return Err(Fail::new("no value"));
     }
     Ok(list)
