@@ -1,7 +1,7 @@
 //! What is declared, by its name and its number.
-use super::world::{Answer, World, holds};
+use super::world::{Answer, Sample, World, holds};
 use eo_sig::{Entry, is_reserved};
-use eo_term::{BOOL, Id, TRUE};
+use eo_term::{BOOL, TRUE};
 use std::test::Fail;
 
 #[test]
@@ -32,24 +32,31 @@ fn constants_are_named(w: &mut World) -> Result<bool, Fail> {
     Ok(constants_are_declared(w)? && constants_are_found(w))
 }
 
+const CONSTANTS: &[(&[u8], Option<Entry>)] = &[
+    (b"p", Some(Entry::Constant(4))),
+    (b"q", Some(Entry::Constant(5))),
+    (b"r", None),
+];
+
 fn constants_are_found(w: &World) -> bool {
-    let rows = [
-        (b"p".as_slice(), Some(Entry::Constant(4))),
-        (b"q", Some(Entry::Constant(5))),
-        (b"r", None),
-    ];
-    stand_for(w, &rows) && w.constant_type(b"q") == Some(BOOL)
+    stand_for(w, CONSTANTS) && w.constant_type(b"q") == Some(BOOL)
 }
 
+const DECLARED: &[(&[u8], Answer)] = &[
+    (b"p", Answer::Number(4)),
+    (b"p", Answer::Taken),
+    (b"q", Answer::Number(5)),
+    (b"true", Answer::Taken),
+];
+
 fn constants_are_declared(w: &mut World) -> Result<bool, Fail> {
-    let rows = [
-        (b"p".as_slice(), Answer::Number(4)),
-        (b"p", Answer::Taken),
-        (b"q", Answer::Number(5)),
-        (b"true", Answer::Taken),
-    ];
+    declare(w, DECLARED)
+}
+
+// Whether each constant, in turn, has the answer beside it.
+fn declare(w: &mut World, rows: &[(&[u8], Answer)]) -> Result<bool, Fail> {
     for (name, answer) in rows {
-        if w.declare(name, BOOL)? != answer {
+        if w.declare(name)? != *answer {
             return Ok(false);
         }
     }
@@ -63,24 +70,20 @@ fn an_implicit_parameter_occurs_in_an_argument(rt: HostRuntime) -> Result<(), Fa
 }
 
 // An implicit parameter in no argument's type, or in one under an operator, and in one.
+const IMPLICIT: &[(Sample, Answer)] = &[
+    (Sample::Bool, Answer::UnboundParam),
+    (Sample::OfValues, Answer::UnboundParam),
+    (Sample::InOperator, Answer::UnboundParam),
+    (Sample::OfArguments, Answer::Number(4)),
+    (Sample::OfArguments, Answer::Taken),
+];
+
 fn implicit_parameters_occur(w: &mut World) -> Result<bool, Fail> {
-    let open = w.open()?;
-    let of_arguments = w.function(open, BOOL)?;
-    let of_values = w.function(BOOL, open)?;
-    let hidden = w.negated(open)?;
-    let in_operator = w.function(hidden, BOOL)?;
-    let rows = [
-        (BOOL, Answer::UnboundParam),
-        (of_values, Answer::UnboundParam),
-        (in_operator, Answer::UnboundParam),
-        (of_arguments, Answer::Number(4)),
-        (of_arguments, Answer::Taken),
-    ];
-    declare_implicit(w, &rows)
+    declare_implicit(w, IMPLICIT)
 }
 
 // Whether a constant `c` of each type, in turn, has the answer beside it.
-fn declare_implicit(w: &mut World, rows: &[(Id, Answer)]) -> Result<bool, Fail> {
+fn declare_implicit(w: &mut World, rows: &[(Sample, Answer)]) -> Result<bool, Fail> {
     for (ty, answer) in rows {
         if w.declare_implicit(b"c", *ty)? != *answer {
             return Ok(false);
@@ -90,7 +93,7 @@ fn declare_implicit(w: &mut World, rows: &[(Id, Answer)]) -> Result<bool, Fail> 
 }
 
 /// A name, a pattern, what it gives, and what becomes of it.
-type Row<'a> = (&'a [u8], Id, Id, Answer);
+type Row<'a> = (&'a [u8], Sample, Sample, Answer);
 
 #[test]
 fn a_program_is_found_by_its_name(rt: HostRuntime) -> Result<(), Fail> {
@@ -102,28 +105,28 @@ fn programs_are_named(w: &mut World) -> Result<bool, Fail> {
     Ok(programs_are_added(w)? && programs_are_found(w))
 }
 
+const PROGRAMS: &[(&[u8], Option<Entry>)] = &[
+    (b"f", Some(Entry::Program(0))),
+    (b"g", Some(Entry::Program(1))),
+    (b"h", None),
+];
+
 fn programs_are_found(w: &World) -> bool {
-    let rows = [
-        (b"f".as_slice(), Some(Entry::Program(0))),
-        (b"g", Some(Entry::Program(1))),
-        (b"h", None),
-    ];
-    stand_for(w, &rows) && w.program_body(b"g") == Some(TRUE)
+    stand_for(w, PROGRAMS) && w.program_body(b"g") == Some(TRUE)
 }
 
 // Programs whose body is not bound, whose pattern holds an operator, or whose name is taken.
+const ADDED_PROGRAMS: &[Row<'static>] = &[
+    (b"f", Sample::True, Sample::Open, Answer::UnboundParam),
+    (b"f", Sample::Operator, Sample::True, Answer::BadPattern),
+    (b"Bool", Sample::Open, Sample::Open, Answer::Taken),
+    (b"f", Sample::Open, Sample::Operator, Answer::Number(0)),
+    (b"f", Sample::Open, Sample::True, Answer::Taken),
+    (b"g", Sample::Open, Sample::True, Answer::Number(1)),
+];
+
 fn programs_are_added(w: &mut World) -> Result<bool, Fail> {
-    let open = w.open()?;
-    let operator = w.negated(open)?;
-    let rows = [
-        (b"f".as_slice(), TRUE, open, Answer::UnboundParam),
-        (b"f", operator, TRUE, Answer::BadPattern),
-        (b"Bool", open, open, Answer::Taken),
-        (b"f", open, operator, Answer::Number(0)),
-        (b"f", open, TRUE, Answer::Taken),
-        (b"g", open, TRUE, Answer::Number(1)),
-    ];
-    add_programs(w, &rows)
+    add_programs(w, ADDED_PROGRAMS)
 }
 
 // Whether each program, in turn, has the answer of its row.
@@ -146,13 +149,14 @@ fn rules_are_named(w: &mut World) -> Result<bool, Fail> {
     Ok(rules_are_added(w)? && rules_are_found(w))
 }
 
+const RULES: &[(&[u8], Option<usize>)] = &[
+    (b"split", Some(0)),
+    (b"truth", Some(1)),
+    (b"other", None),
+];
+
 fn rules_are_found(w: &World) -> bool {
-    let rows = [
-        (b"split".as_slice(), Some(0)),
-        (b"truth", Some(1)),
-        (b"other", None),
-    ];
-    have_numbers(w, &rows) && w.rule_conclusion(b"truth") == Some(TRUE)
+    have_numbers(w, RULES) && w.rule_conclusion(b"truth") == Some(TRUE)
 }
 
 // Whether each name is that of the rule with the number beside it, or of none.
@@ -166,17 +170,16 @@ fn have_numbers(w: &World, rows: &[(&[u8], Option<usize>)]) -> bool {
 }
 
 // Rules whose conclusion is not bound, whose pattern holds an operator, or whose name is taken.
+const ADDED_RULES: &[Row<'static>] = &[
+    (b"split", Sample::True, Sample::Open, Answer::UnboundParam),
+    (b"split", Sample::Operator, Sample::True, Answer::BadPattern),
+    (b"split", Sample::Open, Sample::Operator, Answer::Number(0)),
+    (b"split", Sample::Open, Sample::Open, Answer::Taken),
+    (b"truth", Sample::True, Sample::True, Answer::Number(1)),
+];
+
 fn rules_are_added(w: &mut World) -> Result<bool, Fail> {
-    let open = w.open()?;
-    let operator = w.negated(open)?;
-    let rows = [
-        (b"split".as_slice(), TRUE, open, Answer::UnboundParam),
-        (b"split", operator, TRUE, Answer::BadPattern),
-        (b"split", open, operator, Answer::Number(0)),
-        (b"split", open, open, Answer::Taken),
-        (b"truth", TRUE, TRUE, Answer::Number(1)),
-    ];
-    add_rules(w, &rows)
+    add_rules(w, ADDED_RULES)
 }
 
 // Whether each rule, in turn, has the answer of its row.

@@ -7,10 +7,27 @@ use eo_sig::{
     Attribute, Case, Cases, ConstDecl, Entry, IdPairs, Param, Params, PremiseShape, ProgramDecl,
     RuleDecl, SigRefused, Signature,
 };
-use eo_term::{BOOL, Id, Ids, Node, OpCode, OpName, TYPE, Table};
+use eo_term::{BOOL, Id, Ids, Node, OpCode, OpName, TRUE, TYPE, Table};
 use std::alloc::{AllocError, Global};
 use std::marker::Model;
 use std::test::Fail;
+
+/// A term.
+#[derive(Clone, Copy)]
+pub(super) enum Sample {
+    Bool,
+    True,
+    /// The parameter 0.
+    Open,
+    /// The operator `eo::neg` on that.
+    Operator,
+    /// The type of functions from the parameter to `Bool`.
+    OfArguments,
+    /// That of functions from `Bool` to the parameter.
+    OfValues,
+    /// That of functions from the operator to `Bool`.
+    InOperator,
+}
 
 /// What became of a declaration.
 #[derive(Clone, Copy, Debug, PartialEq, Eq)]
@@ -49,35 +66,62 @@ impl World {
         Ok(World { alloc, table, sig })
     }
 
-    /// The parameter 0.
-    pub(super) fn open(&mut self) -> Result<Id, Fail> {
+    // The term of a sample.
+    fn term(&mut self, sample: Sample) -> Result<Id, Fail> {
+        match sample {
+            Sample::Bool => Ok(BOOL),
+            Sample::True => Ok(TRUE),
+            Sample::Open => self.open(),
+            Sample::Operator => self.negated(),
+            Sample::OfArguments => self.from_open(),
+            Sample::OfValues => self.to_open(),
+            Sample::InOperator => self.from_negated(),
+        }
+    }
+
+    // The parameter 0.
+    fn open(&mut self) -> Result<Id, Fail> {
         Ok(self.table.intern(Node::Par(0))?)
     }
 
-    /// The operator `eo::neg` on a term.
-    pub(super) fn negated(&mut self, id: Id) -> Result<Id, Fail> {
-        let id = live(&self.table, id)?;
-        Ok(self.table.intern_op(OpCode::Builtin(OpName::Neg), &[id])?)
+    // The operator `eo::neg` on that.
+    fn negated(&mut self) -> Result<Id, Fail> {
+        let open = self.table.intern(Node::Par(0))?;
+        Ok(self.table.intern_op(OpCode::Builtin(OpName::Neg), &[open])?)
     }
 
-    /// The type of functions from one type to another.
-    pub(super) fn function(&mut self, from: Id, to: Id) -> Result<Id, Fail> {
+    fn from_open(&mut self) -> Result<Id, Fail> {
+        let open = self.open()?;
+        self.function(open, BOOL)
+    }
+
+    fn to_open(&mut self) -> Result<Id, Fail> {
+        let open = self.open()?;
+        self.function(BOOL, open)
+    }
+
+    fn from_negated(&mut self) -> Result<Id, Fail> {
+        let hidden = self.negated()?;
+        self.function(hidden, BOOL)
+    }
+
+    // The type of functions from one type to another.
+    fn function(&mut self, from: Id, to: Id) -> Result<Id, Fail> {
         let from = live(&self.table, from)?;
         let to = live(&self.table, to)?;
         Ok(self.table.intern(Node::Arr { from, to })?)
     }
 
-    /// Declares a constant of this type, without parameters.
-    pub(super) fn declare(&mut self, name: &[u8], ty: Id) -> Result<Answer, Fail> {
-        let params = Params::new(self.alloc);
-        let d = constant(self.alloc, &self.table, name, params, ty)?;
+    /// Declares a constant of type `Bool`, without parameters.
+    pub(super) fn declare(&mut self, name: &[u8]) -> Result<Answer, Fail> {
+        let d = constant(self.alloc, &self.table, name, BOOL)?;
         Ok(self.declared(d))
     }
 
     /// Declares a constant of this type, whose parameter 0 is implicit and a type.
-    pub(super) fn declare_implicit(&mut self, name: &[u8], ty: Id) -> Result<Answer, Fail> {
-        let params = parameter(self.alloc, &self.table, TYPE, true)?;
-        let d = constant(self.alloc, &self.table, name, params, ty)?;
+    pub(super) fn declare_implicit(&mut self, name: &[u8], ty: Sample) -> Result<Answer, Fail> {
+        let ty = self.term(ty)?;
+        let d = implicit_constant(self.alloc, &self.table, name, ty)?;
         Ok(self.declared(d))
     }
 
@@ -85,6 +129,7 @@ impl World {
         requires { ConstBelow self.old d }
     {
         if !self.sig.is_free(d.name.as_bytes()) {
+            drop(d);
             return Answer::Taken;
         }
         what_became(self.sig.declare(&self.table, d))
@@ -95,23 +140,34 @@ impl World {
     pub(super) fn add_program(
         &mut self,
         name: &[u8],
-        pattern: Id,
-        body: Id,
+        pattern: Sample,
+        body: Sample,
     ) -> Result<Answer, Fail> {
+        let pattern = self.term(pattern)?;
+        let body = self.term(body)?;
         let d = program(self.alloc, &self.table, name, pattern, body)?;
+        Ok(self.programmed(d))
+    }
+
+    fn programmed(&mut self, d: ProgramDecl) -> Answer
+        requires { ProgramBelow self.old d }
+    {
         if !self.sig.is_free(d.name.as_bytes()) {
-            return Ok(Answer::Taken);
+            drop(d);
+            return Answer::Taken;
         }
-        Ok(what_became(self.sig.add_program(&self.table, d)))
+        what_became(self.sig.add_program(&self.table, d))
     }
 
     /// Adds a rule over a parameter of type `Bool`, with one argument.
     pub(super) fn add_rule(
         &mut self,
         name: &[u8],
-        arg: Id,
-        conclusion: Id,
+        arg: Sample,
+        conclusion: Sample,
     ) -> Result<Answer, Fail> {
+        let arg = self.term(arg)?;
+        let conclusion = self.term(conclusion)?;
         let d = rule(self.alloc, &self.table, name, arg, conclusion)?;
         Ok(self.ruled(d))
     }
@@ -120,6 +176,7 @@ impl World {
         requires { RuleBelow self.old d }
     {
         if !self.sig.is_free_rule(d.name.as_bytes()) {
+            drop(d);
             return Answer::Taken;
         }
         what_became(self.sig.add_rule(&self.table, d))
@@ -198,10 +255,12 @@ fn live(table: &Table, id: Id) -> Result<Id, Fail>
 fn parameter(alloc: Global, table: &Table, ty: Id, implicit: bool) -> Result<Params, Fail>
     ensures { IfOk result (All (λ p. p.ty < length table.now.trees)) }
 {
+    let ty = live(table, ty)?;
+    let name = Name::new(alloc, b"x")?;
     let mut params = Params::new(alloc);
     params.push(Param {
-        name: Name::new(alloc, b"x")?,
-        ty: live(table, ty)?,
+        name,
+        ty,
         implicit,
         list: false,
     })?;
@@ -213,40 +272,44 @@ fn one(alloc: Global, table: &Table, id: Id) -> Result<Ids, Fail>
     ensures all { IfOk result (All (λ i. i < length table.now.trees)) }
     ensures one { IfOk result (λ s. length s ≡ 1) }
 {
+    let id = live(table, id)?;
     let mut ids = Ids::new(alloc);
-    ids.push(live(table, id)?)?;
+    ids.push(id)?;
     Ok(ids)
 }
 
-fn constant(
-    alloc: Global,
-    table: &Table,
-    name: &[u8],
-    params: Params,
-    ty: Id,
-) -> Result<ConstDecl, Fail>
-    requires params { All (λ p. p.ty < length table.now.trees) params }
-    ensures below { IfOk result (ConstBelow (length table.now.trees)) }
+// A constant without parameters.
+fn constant(alloc: Global, table: &Table, name: &[u8], ty: Id) -> Result<ConstDecl, Fail>
+    ensures { IfOk result (ConstBelow (length table.now.trees)) }
 {
     let ty = live(table, ty)?;
+    let name = Name::new(alloc, name)?;
     Ok(ConstDecl {
-        name: Name::new(alloc, name)?,
-        params,
+        name,
+        params: Params::new(alloc),
         ty,
         attribute: Attribute::Plain,
         from_reference: false,
     })
 }
 
+// A constant whose parameter 0 is implicit and a type.
+fn implicit_constant(alloc: Global, table: &Table, name: &[u8], ty: Id) -> Result<ConstDecl, Fail>
+    ensures { IfOk result (ConstBelow (length table.now.trees)) }
+{
+    let mut d = constant(alloc, table, name, ty)?;
+    d.params = parameter(alloc, table, TYPE, true)?;
+    Ok(d)
+}
+
 // One case, with one pattern.
 fn case(alloc: Global, table: &Table, pattern: Id, body: Id) -> Result<Cases, Fail>
     ensures { IfOk result (All (CaseBelow (length table.now.trees))) }
 {
+    let body = live(table, body)?;
+    let patterns = one(alloc, table, pattern)?;
     let mut cases = Cases::new(alloc);
-    cases.push(Case {
-        patterns: one(alloc, table, pattern)?,
-        body: live(table, body)?,
-    })?;
+    cases.push(Case { patterns, body })?;
     Ok(cases)
 }
 
@@ -259,12 +322,25 @@ fn program(
 ) -> Result<ProgramDecl, Fail>
     ensures { IfOk result (ProgramBelow (length table.now.trees)) }
 {
+    let mut d = bare_program(alloc, table, name)?;
+    d.params = parameter(alloc, table, BOOL, false)?;
+    d.inputs = one(alloc, table, BOOL)?;
+    d.cases = case(alloc, table, pattern, body)?;
+    Ok(d)
+}
+
+// A program with values of type `Bool`, which takes nothing.
+fn bare_program(alloc: Global, table: &Table, name: &[u8]) -> Result<ProgramDecl, Fail>
+    ensures { IfOk result (ProgramBelow (length table.now.trees)) }
+{
+    let output = live(table, BOOL)?;
+    let name = Name::new(alloc, name)?;
     Ok(ProgramDecl {
-        name: Name::new(alloc, name)?,
-        params: parameter(alloc, table, BOOL, false)?,
-        inputs: one(alloc, table, BOOL)?,
-        output: live(table, BOOL)?,
-        cases: case(alloc, table, pattern, body)?,
+        name,
+        params: Params::new(alloc),
+        inputs: Ids::new(alloc),
+        output,
+        cases: Cases::new(alloc),
     })
 }
 
@@ -277,14 +353,26 @@ fn rule(
 ) -> Result<RuleDecl, Fail>
     ensures { IfOk result (RuleBelow (length table.now.trees)) }
 {
+    let mut d = bare_rule(alloc, table, name, conclusion)?;
+    d.params = parameter(alloc, table, BOOL, false)?;
+    d.args = one(alloc, table, arg)?;
+    Ok(d)
+}
+
+// A rule that takes nothing.
+fn bare_rule(alloc: Global, table: &Table, name: &[u8], conclusion: Id) -> Result<RuleDecl, Fail>
+    ensures { IfOk result (RuleBelow (length table.now.trees)) }
+{
+    let conclusion = live(table, conclusion)?;
+    let name = Name::new(alloc, name)?;
     Ok(RuleDecl {
-        name: Name::new(alloc, name)?,
-        params: parameter(alloc, table, BOOL, false)?,
+        name,
+        params: Params::new(alloc),
         assumption: None,
         premises: PremiseShape::Each(Ids::new(alloc)),
-        args: one(alloc, table, arg)?,
+        args: Ids::new(alloc),
         requirements: IdPairs::new(alloc),
-        conclusion: live(table, conclusion)?,
+        conclusion,
         sorry: false,
     })
 }
