@@ -3,7 +3,7 @@ ghost use Rattle.eo_io.specs.Library.{Rest};
 
 use eo_io::*;
 use std::alloc::{AllocError, Global};
-use std::path::Path;
+use std::path::{Path, PathBuf};
 use std::test::Fail;
 use std::{env, fs, io, process};
 
@@ -37,26 +37,44 @@ fn read_rest<L: Library>(library: &mut L, bytes: &mut Vec<u8>) -> Result<bool, A
     Ok(false)
 }
 
-/// Opens a file, reads it and closes it: what opening answered, whether reading came to the end,
-/// and what was read.
+/// Opens a file, reads it and closes it: what opening answered, and whether reading came to the end.
 fn read_file<L: Library>(
-    alloc: Global,
     library: &mut L,
     path: &[u8],
-) -> Result<(Opened, bool, Vec<u8>), AllocError>
+    bytes: &mut Vec<u8>,
+) -> Result<(Opened, bool), AllocError>
     requires { L.open_files library.old ≡ [] }
     ensures { L.open_files library.new ≡ [] }
 {
-    let mut bytes = Vec::new(alloc);
     let opened = library.open(path);
     match opened {
-        Opened::Absent | Opened::Failed => Ok((opened, false, bytes)),
+        Opened::Absent | Opened::Failed => Ok((opened, false)),
         Opened::Ready => {
-            let ended = read_rest(library, &mut bytes);
+            let ended = read_rest(library, bytes);
             library.close();
-            Ok((opened, ended?, bytes))
+            Ok((opened, ended?))
         }
     }
+}
+
+/// A file: what opening it answers, whether reading it comes to the end, and what bytes it gives.
+type Reading<'a> = (&'a [u8], Opened, bool, &'a [u8]);
+
+// The first of these files that is not read so, one behind the other.
+fn wrong_reading<L: Library>(
+    alloc: Global,
+    library: &mut L,
+    rows: &[Reading<'_>],
+) -> Result<Option<usize>, AllocError>
+    requires { L.open_files library.old ≡ [] }
+{
+    for (i, row) in rows.iter().enumerate() {
+        let (path, opened, ended, bytes) = *row;
+        if !is_read_so(alloc, library, path, (opened, ended, bytes))? {
+            return Ok(Some(i));
+        }
+    }
+    Ok(None)
 }
 
 // Whether opening the file answers this, and reading it comes to the end or not, with these bytes.
@@ -69,19 +87,12 @@ fn is_read_so<L: Library>(
     requires { L.open_files library.old ≡ [] }
     ensures { L.open_files library.new ≡ [] }
 {
-    let (opened, ended, bytes) = read_file(alloc, library, path)?;
+    let mut bytes = Vec::new(alloc);
+    let (opened, ended) = read_file(library, path, &mut bytes)?;
     Ok((opened, ended, bytes.as_slice()) == want)
 }
 
-// A library with two files, of which one was added twice.
-fn library_of_two(alloc: Global) -> Result<HonestLibrary, AllocError>
-    ensures { IfOk result (λ library. library.unread ≡ []) }
-{
-    let mut library = HonestLibrary::new(alloc)?;
-    add_two(&mut library)?;
-    Ok(library)
-}
-
+// Adds two files, one of them twice.
 fn add_two(library: &mut HonestLibrary) -> Result<(), AllocError>
     ensures { OnOk result (library.new.unread ≡ library.old.unread) }
 {
@@ -90,68 +101,70 @@ fn add_two(library: &mut HonestLibrary) -> Result<(), AllocError>
     library.add(b"a", b"the second one")
 }
 
-// Whether both files of that library are read, and a third is absent.
-fn reads_two(alloc: Global, library: &mut HonestLibrary) -> Result<[bool; 3], AllocError>
+// Two files that were added, and a third that is absent.
+const OF_TWO: &[Reading<'static>] = &[
+    (b"a", Opened::Ready, true, b"the second one"),
+    (b"b", Opened::Ready, true, b""),
+    (b"c", Opened::Absent, false, b""),
+];
+
+fn reads_two(alloc: Global, library: &mut HonestLibrary) -> Result<Option<usize>, AllocError>
     requires { library.old.unread ≡ [] }
 {
-    Ok([
-        is_read_so(
-            alloc,
-            library,
-            b"a",
-            (Opened::Ready, true, b"the second one"),
-        )?,
-        is_read_so(alloc, library, b"b", (Opened::Ready, true, b""))?,
-        is_read_so(alloc, library, b"c", (Opened::Absent, false, b""))?,
-    ])
+    add_two(library)?;
+    wrong_reading(alloc, library, OF_TWO)
 }
 
-fn told_of_two(alloc: Global) -> Result<[bool; 3], AllocError> {
-    let mut library = library_of_two(alloc)?;
-    reads_two(alloc, &mut library)
+fn told_of_two(alloc: Global) -> Result<Option<usize>, AllocError> {
+    let mut library = HonestLibrary::new(alloc)?;
+    let told = reads_two(alloc, &mut library);
+    drop(library);
+    told
 }
 
 #[test]
 fn honest_library(rt: HostRuntime) -> Result<(), Fail> {
-    assert_eq!(rt; told_of_two(rt.alloc())?, [true; 3]);
+    assert_eq!(rt; told_of_two(rt.alloc())?, None);
     Ok(())
 }
 
-// A library with one file, of which no read gives more than three bytes.
-fn library_of_pieces(alloc: Global) -> Result<MemoryLibrary, AllocError>
-    ensures { IfOk result (λ library. library.stored.unread ≡ []) }
+// Adds a file, of which no read gives more than three bytes.
+fn add_pieces(library: &mut MemoryLibrary) -> Result<(), AllocError>
+    ensures { OnOk result (library.new.stored.unread ≡ library.old.stored.unread) }
 {
-    let mut library = MemoryLibrary::new(alloc)?;
     library.add(b"a", b"abcdefg")?;
     library.piece(3);
-    Ok(library)
+    Ok(())
 }
 
-// Whether the file is read whole, then not to the end, and then not opened, and another is absent.
-fn reads_pieces(alloc: Global, library: &mut MemoryLibrary) -> Result<[bool; 4], AllocError>
+// That file by an open and four reads, then by an open, a read, and a read that fails, and then by an
+// open that fails; and another, which is absent.
+const OF_PIECES: &[Reading<'static>] = &[
+    (b"a", Opened::Ready, true, b"abcdefg"),
+    (b"a", Opened::Ready, false, b"abc"),
+    (b"a", Opened::Failed, false, b""),
+    (b"b", Opened::Absent, false, b""),
+];
+
+fn reads_pieces(alloc: Global, library: &mut MemoryLibrary) -> Result<Option<usize>, AllocError>
     requires { library.old.stored.unread ≡ [] }
 {
-    // an open and four reads
-    let whole = is_read_so(alloc, library, b"a", (Opened::Ready, true, b"abcdefg"))?;
+    add_pieces(library)?;
     library.fail(8)?;
     library.fail(9)?;
-    Ok([
-        whole,
-        // an open, a read, and a read that fails
-        is_read_so(alloc, library, b"a", (Opened::Ready, false, b"abc"))?,
-        is_read_so(alloc, library, b"a", (Opened::Failed, false, b""))?,
-        is_read_so(alloc, library, b"b", (Opened::Absent, false, b""))?,
-    ])
+    wrong_reading(alloc, library, OF_PIECES)
 }
 
-fn told_of_pieces(alloc: Global) -> Result<[bool; 4], AllocError> {
-    let mut library = library_of_pieces(alloc)?;
-    reads_pieces(alloc, &mut library)
+fn told_of_pieces(alloc: Global) -> Result<Option<usize>, AllocError> {
+    let mut library = MemoryLibrary::new(alloc)?;
+    let told = reads_pieces(alloc, &mut library);
+    drop(library);
+    told
 }
 
 #[test]
 fn memory_library(rt: HostRuntime) -> Result<(), Fail> {
-    assert_eq!(rt; told_of_pieces(rt.alloc())?, [true; 4]);
+    assert_eq!(rt; told_of_pieces(rt.alloc())?, None);
     Ok(())
 }
 
@@ -166,17 +179,17 @@ fn writes_pieces(sink: &mut MemorySink) -> Result<[bool; 4], AllocError> {
     sink.piece(2);
     let whole = is_written_so(sink, b"hello", true, b"hello");
     sink.fail(5)?;
-    Ok([
-        whole,
-        is_written_so(sink, b"abc", false, b"helloab"),
-        is_written_so(sink, b"cdef", false, b"helloabcd"),
-        is_written_so(sink, b"", true, b"helloabcd"),
-    ])
+    let failed = is_written_so(sink, b"abc", false, b"helloab");
+    let full = is_written_so(sink, b"cdef", false, b"helloabcd");
+    let nothing = is_written_so(sink, b"", true, b"helloabcd");
+    Ok([whole, failed, full, nothing])
 }
 
 fn told_of_sink(alloc: Global) -> Result<[bool; 4], AllocError> {
     let mut sink = MemorySink::new(alloc, 9)?;
-    writes_pieces(&mut sink)
+    let told = writes_pieces(&mut sink);
+    drop(sink);
+    told
 }
 
 #[test]
@@ -187,11 +200,10 @@ fn memory_sink(rt: HostRuntime) -> Result<(), Fail> {
 
 // The numbers of two paths, and of the first once more.
 fn add_paths(paths: &mut Paths) -> Result<[usize; 3], AllocError> {
-    Ok([
-        paths.add(b"lib/a.eo")?,
-        paths.add(b"b.eo")?,
-        paths.add(b"lib/a.eo")?,
-    ])
+    let first = paths.add(b"lib/a.eo")?;
+    let second = paths.add(b"b.eo")?;
+    let again = paths.add(b"lib/a.eo")?;
+    Ok([first, second, again])
 }
 
 // Those numbers, and those of a path that was added and of one that was not.
@@ -202,7 +214,9 @@ fn number_paths(paths: &mut Paths) -> Result<([usize; 3], [Option<usize>; 2]), A
 
 fn told_of_paths(alloc: Global) -> Result<([usize; 3], [Option<usize>; 2]), AllocError> {
     let mut paths = Paths::new(alloc);
-    number_paths(&mut paths)
+    let told = number_paths(&mut paths);
+    drop(paths);
+    told
 }
 
 #[test]
@@ -265,38 +279,56 @@ const FOLDINGS: &[Folding<'static>] = &[
     (b"\xff/a.eo", b"/b.eo", Some("/b.eo")),
 ];
 
+fn wrong_of_foldings(alloc: Global) -> Result<Option<&'static [u8]>, AllocError> {
+    wrong_folding(alloc, FOLDINGS)
+}
+
 #[test]
 fn folded_paths(rt: HostRuntime) -> Result<(), Fail> {
-    assert_eq!(rt; wrong_folding(rt.alloc(), FOLDINGS)?, None);
+    assert_eq!(rt; wrong_of_foldings(rt.alloc())?, None);
     Ok(())
 }
 
 #[test]
 fn folded_paths_have_a_limit(rt: HostRuntime) -> Result<(), Fail> {
-    let name = "a".repeat(rt.alloc(), 4_097)?;
-    let slashes = "/".repeat(rt.alloc(), 4_096)?;
-    let answer = limit_holds(rt.alloc(), &name, &name[1..], &slashes);
-    drop(name);
-    drop(slashes);
-    assert_eq!(rt; answer, Ok(true));
+    assert!(rt; limit_holds(rt.alloc())?);
+    assert!(rt; padding_is_free(rt.alloc())?);
     Ok(())
 }
 
-// Whether a folding may be as long as the second name and no longer, also where slashes behind a name
-// play no part.
-fn limit_holds(
-    alloc: Global,
-    name: &str,
-    longest: &str,
-    slashes: &str,
-) -> Result<bool, AllocError> {
-    let padded = format!(in alloc; "./{longest}{slashes}")?;
-    Ok(
-        is_folded_so(alloc, b"", longest.as_bytes(), Some(longest))?
-            && is_folded_so(alloc, b"", padded.as_bytes(), Some(longest))?
-            && is_folded_so(alloc, b"", name.as_bytes(), None)?
-            && is_folded_so(alloc, b"/a", longest.as_bytes(), None)?,
-    )
+// Whether a folding may have 4,096 bytes, and no more.
+fn limit_holds(alloc: Global) -> Result<bool, AllocError> {
+    let name = "a".repeat(alloc, 4_097)?;
+    let holds = is_longest(alloc, &name, &name[1..]);
+    drop(name);
+    holds
+}
+
+// Whether a folding may be as long as the second name, and no longer.
+fn is_longest(alloc: Global, name: &str, longest: &str) -> Result<bool, AllocError> {
+    let folded = is_folded_so(alloc, b"", longest.as_bytes(), Some(longest))?;
+    let refused = is_folded_so(alloc, b"", name.as_bytes(), None)?;
+    let below = is_folded_so(alloc, b"/a", longest.as_bytes(), None)?;
+    Ok(folded & refused & below)
+}
+
+// Whether slashes behind a name of 4,096 bytes play no part.
+fn padding_is_free(alloc: Global) -> Result<bool, AllocError> {
+    let longest = "a".repeat(alloc, 4_096)?;
+    let free = is_padded_so(alloc, &longest);
+    drop(longest);
+    free
+}
+
+// Whether as many slashes behind a name as it has bytes play no part.
+fn is_padded_so(alloc: Global, name: &str) -> Result<bool, AllocError> {
+    let slashes = "/".repeat(alloc, name.len())?;
+    let padded = format!(in alloc; "./{name}{slashes}");
+    drop(slashes);
+    let padded = padded?;
+    let folded = is_folded_so(alloc, b"", padded.as_bytes(), Some(name));
+    drop(padded);
+    folded
 }
 
 // Whether a file of the folder is read so.
@@ -316,29 +348,55 @@ fn is_read_in<L: Library>(
 
 const WRITTEN: &str = "(exit) ; and more\n";
 
-// Whether a file of the folder is read, an absent one and one whose name is no text are absent, and
-// the folder itself is opened and not read.
+const ABSENT: (Opened, bool, &[u8]) = (Opened::Absent, false, b"");
+
+// Whether a file of the folder is read, and one that is not there is absent.
+fn reads_files<L: Library>(
+    alloc: Global,
+    library: &mut L,
+    folder: Path<'_>,
+) -> Result<bool, AllocError>
+    requires { L.open_files library.old ≡ [] }
+    ensures { L.open_files library.new ≡ [] }
+{
+    let there = (Opened::Ready, true, WRITTEN.as_bytes());
+    let is_there = is_read_in(alloc, library, folder, "file.eo", there)?;
+    let is_absent = is_read_in(alloc, library, folder, "absent.eo", ABSENT)?;
+    Ok(is_there & is_absent)
+}
+
+// Whether a file whose name is no text is absent, and the folder itself is opened and not read.
+fn reads_no_files<L: Library>(
+    alloc: Global,
+    library: &mut L,
+    folder: Path<'_>,
+) -> Result<bool, AllocError>
+    requires { L.open_files library.old ≡ [] }
+    ensures { L.open_files library.new ≡ [] }
+{
+    let unread = (Opened::Ready, false, b"".as_slice());
+    let is_absent = is_read_so(alloc, library, b"\xff", ABSENT)?;
+    let is_unread = is_read_so(alloc, library, folder.as_str().as_bytes(), unread)?;
+    Ok(is_absent & is_unread)
+}
+
 fn reads_folder<L: Library>(
     alloc: Global,
     library: &mut L,
     folder: Path<'_>,
-) -> Result<[bool; 4], AllocError>
+) -> Result<[bool; 2], AllocError>
     requires { L.open_files library.old ≡ [] }
 {
-    let there = (Opened::Ready, true, WRITTEN.as_bytes());
-    let missing = (Opened::Absent, false, b"".as_slice());
-    let closed = (Opened::Ready, false, b"".as_slice());
-    Ok([
-        is_read_in(alloc, library, folder, "file.eo", there)?,
-        is_read_in(alloc, library, folder, "absent.eo", missing)?,
-        is_read_so(alloc, library, b"\xff", missing)?,
-        is_read_so(alloc, library, folder.as_str().as_bytes(), closed)?,
-    ])
+    let files = reads_files(alloc, library, folder)?;
+    let others = reads_no_files(alloc, library, folder)?;
+    Ok([files, others])
 }
 
-fn told_of_folder(rt: &HostRuntime, folder: Path<'_>) -> Result<[bool; 4], AllocError> {
+fn told_of_folder(rt: &HostRuntime, folder: Path<'_>) -> Result<[bool; 2], AllocError> {
     let mut library = DiskLibrary::new(rt, rt.alloc())?;
-    reads_folder(rt.alloc(), &mut library, folder)
+    let told = reads_folder(rt.alloc(), &mut library, folder);
+    drop(library);
+    told
 }
 
 fn make_folder(rt: &HostRuntime, folder: Path<'_>) -> io::Result<()> {
@@ -348,22 +406,43 @@ fn make_folder(rt: &HostRuntime, folder: Path<'_>) -> io::Result<()> {
 }
 
 // What is told of a folder that is there for that time.
-fn told_meanwhile(rt: &HostRuntime, folder: Path<'_>) -> io::Result<[bool; 4]> {
+fn told_meanwhile(rt: &HostRuntime, folder: Path<'_>) -> io::Result<[bool; 2]> {
     make_folder(rt, folder)?;
     let told = told_of_folder(rt, folder);
     fs::remove_dir_all(rt, folder)?;
     Ok(told?)
 }
 
-fn told_of_disk(rt: &HostRuntime) -> io::Result<[bool; 4]> {
+// The folder of this name among those that are there for a time.
+fn folder_named(rt: &HostRuntime, name: &str) -> io::Result<PathBuf> {
+    let parent = env::temp_dir(rt)?;
+    let folder = parent.join(rt.alloc(), name);
+    drop(parent);
+    Ok(folder?)
+}
+
+// A folder of this process's own.
+fn own_folder(rt: &HostRuntime) -> io::Result<PathBuf> {
     let name = format!(in rt.alloc(); "ethos_eo_io_{}", process::id(rt.process()))?;
-    let folder = env::temp_dir(rt)?.join(rt.alloc(), &name)?;
-    told_meanwhile(rt, folder.as_path())
+    let folder = folder_named(rt, &name);
+    drop(name);
+    folder
+}
+
+fn told_of_disk(rt: &HostRuntime) -> io::Result<[bool; 2]> {
+    let folder = own_folder(rt)?;
+    let told = told_meanwhile(rt, folder.as_path());
+    drop(folder);
+    told
+}
+
+fn is_written_out(rt: &HostRuntime) -> bool {
+    write_all(&mut StdSink::new(rt), b"written\n")
 }
 
 #[test]
 fn system(rt: HostRuntime) -> Result<(), Fail> {
-    assert_eq!(rt; told_of_disk(&rt)?, [true; 4]);
-    assert!(rt; write_all(&mut StdSink::new(&rt), b"written\n"));
+    assert_eq!(rt; told_of_disk(&rt)?, [true; 2]);
+    assert!(rt; is_written_out(&rt));
     Ok(())
 }
