@@ -5,15 +5,15 @@ use std::alloc::{AllocError, Global};
 use std::test::Fail;
 use world::World;
 
-// What a function tells of a new table. It alone owns one: each way out of a function that does is
+// Whether the check holds in a new table. It alone owns one: each way out of a function that does is
 // dear to prove.
-fn tell<T, F: FnOnce(&mut World) -> Result<T, Fail>>(alloc: Global, f: F) -> Result<T, Fail>
-    requires { F.IsAlwaysCallable f }
+fn holds<F: FnOnce(&mut World) -> Result<bool, Fail>>(alloc: Global, check: F) -> Result<bool, Fail>
+    requires { F.IsAlwaysCallable check }
 {
     let mut world = World::new(alloc)?;
-    let told = f(&mut world);
+    let answer = check(&mut world);
     drop(world);
-    told
+    answer
 }
 
 fn pair(world: &mut World) -> Result<Id, Fail> {
@@ -23,27 +23,30 @@ fn pair(world: &mut World) -> Result<Id, Fail> {
     })
 }
 
-// Whether an application that is made twice is one term, and how many terms there are.
-fn application(world: &mut World) -> Result<(bool, usize), Fail> {
+// An application that is made twice is one term, the fifth.
+fn application_is_one(world: &mut World) -> Result<bool, Fail> {
     let first = pair(world)?;
     let second = pair(world)?;
-    Ok((first == second, world.len()))
+    Ok((first == second) & (world.len() == 5))
 }
 
-// Whether an operator is one term when it is made twice, and another over the same arguments in
-// another order.
-fn operator(world: &mut World) -> Result<(bool, bool), Fail> {
-    let and = OpCode::Builtin(OpName::And);
-    let first = world.apply(and, &[TRUE, FALSE])?;
-    let second = world.apply(and, &[TRUE, FALSE])?;
-    let turned = world.apply(and, &[FALSE, TRUE])?;
-    Ok((first == second, first == turned))
+fn and(world: &mut World, args: &[Id; 2]) -> Result<Id, Fail> {
+    world.apply(OpCode::Builtin(OpName::And), args)
+}
+
+// An operator is one term when it is made twice, and another over the same arguments in another
+// order.
+fn operator_is_one(world: &mut World) -> Result<bool, Fail> {
+    let first = and(world, &[TRUE, FALSE])?;
+    let second = and(world, &[TRUE, FALSE])?;
+    let turned = and(world, &[FALSE, TRUE])?;
+    Ok((first == second) & (first != turned))
 }
 
 #[test]
 fn one_tree_has_one_id(rt: HostRuntime) -> Result<(), Fail> {
-    assert_eq!(rt; tell(rt.alloc(), application)?, (true, 5));
-    assert_eq!(rt; tell(rt.alloc(), operator)?, (true, false));
+    assert!(rt; holds(rt.alloc(), application_is_one)?);
+    assert!(rt; holds(rt.alloc(), operator_is_one)?);
     Ok(())
 }
 
@@ -56,129 +59,139 @@ fn chain(world: &mut World) -> Result<Id, Fail> {
     Ok(id)
 }
 
-// What is told of that term, and how many terms there are.
-fn end(world: &mut World) -> Result<((u32, bool, bool), usize), Fail> {
+// That term is as tall as it was made, and has a new term for each step.
+fn limit_is_reached(world: &mut World) -> Result<bool, Fail> {
     let id = chain(world)?;
-    Ok((world.told(id)?, world.len()))
+    Ok((world.told(id)? == (2000, true, true)) & (world.len() == 2003))
 }
 
-// Whether an application of that term, and an operator over it, are too tall, and how many terms
-// there are then.
-fn beyond(world: &mut World) -> Result<(bool, bool, usize), Fail> {
+// An application of that term, and an operator over it, are too tall, and no terms.
+fn more_is_refused(world: &mut World) -> Result<bool, Fail> {
     let id = chain(world)?;
     let applied = world.is_too_tall(Node::App { fun: id, arg: TRUE })?;
     let over = world.is_op_too_tall(OpCode::Prog(0), &[id])?;
-    Ok((applied, over, world.len()))
+    Ok(applied & over & (world.len() == 2003))
 }
 
 #[test]
 fn a_chain_of_applications_ends_at_the_limit(rt: HostRuntime) -> Result<(), Fail> {
-    assert_eq!(rt; tell(rt.alloc(), end)?, ((2000, true, true), 2003));
-    assert_eq!(rt; tell(rt.alloc(), beyond)?, (true, true, 2003));
+    assert!(rt; holds(rt.alloc(), limit_is_reached)?);
+    assert!(rt; holds(rt.alloc(), more_is_refused)?);
     Ok(())
 }
 
-// Whether a term with this root is told with it, and with this height, as a value or not, and as
-// closed or not.
+// Whether a term has this root, and is told with this height, as a value or not, and as closed or
+// not.
+fn is(world: &World, id: Id, node: &Node, told: (u32, bool, bool)) -> Result<bool, Fail> {
+    let root = world.node(id)?;
+    Ok((root == *node) & (world.told(id)? == told))
+}
+
+// Whether the term that is made with this root is told so.
 fn reads_back(world: &mut World, node: Node, told: (u32, bool, bool)) -> Result<bool, Fail> {
     let id = world.make(node)?;
-    Ok(world.node(id)? == node && world.told(id)? == told)
+    is(world, id, &node, told)
 }
 
-fn leaves(world: &mut World) -> Result<[bool; 5], Fail> {
-    Ok([
-        reads_back(world, Node::Con(7), (1, true, true))?,
-        reads_back(world, Node::Num(-1), (1, true, true))?,
-        reads_back(world, Node::Num(1 << 63), (1, true, true))?,
-        reads_back(world, Node::Num(i128::MIN), (1, true, true))?,
-        reads_back(world, Node::Par(3), (1, false, false))?,
-    ])
+fn leaves_read_back(world: &mut World) -> Result<bool, Fail> {
+    let constant = reads_back(world, Node::Con(7), (1, true, true))?;
+    let parameter = reads_back(world, Node::Par(3), (1, false, false))?;
+    Ok(constant & parameter)
 }
 
-// What is told of the longest bit string.
-fn longest(world: &mut World) -> Result<(Node, (u32, bool, bool)), Fail> {
+fn numbers_read_back(world: &mut World) -> Result<bool, Fail> {
+    let small = reads_back(world, Node::Num(-1), (1, true, true))?;
+    let large = reads_back(world, Node::Num(1 << 63), (1, true, true))?;
+    let least = reads_back(world, Node::Num(i128::MIN), (1, true, true))?;
+    Ok(small & large & least)
+}
+
+// The longest bit string.
+fn bits_read_back(world: &mut World) -> Result<bool, Fail> {
     let id = world.ones()?;
-    Ok((world.node(id)?, world.told(id)?))
-}
-
-fn texts(world: &mut World) -> Result<[bool; 3], Fail> {
-    let name = world.text(&[104, 0x2_ffff])?;
-    Ok([
-        world.is_text(name, &[104, 0x2_ffff])?,
-        reads_back(world, Node::Str(name), (1, true, true))?,
-        reads_back(world, Node::Var { name, ty: BOOL }, (2, true, true))?,
-    ])
-}
-
-fn trees(world: &mut World) -> Result<[bool; 3], Fail> {
-    let (fun, par, ty) = (TYPE, 0, BOOL);
-    let arg = world.make(Node::Par(3))?;
-    let to = world.make(Node::Arr { from: ty, to: ty })?;
-    Ok([
-        reads_back(world, Node::App { fun, arg }, (2, false, false))?,
-        reads_back(world, Node::Arr { from: ty, to: ty }, (2, true, true))?,
-        reads_back(world, Node::Qar { par, ty, to }, (3, false, true))?,
-    ])
-}
-
-#[test]
-fn each_kind_of_node_reads_back(rt: HostRuntime) -> Result<(), Fail> {
-    assert_eq!(rt; tell(rt.alloc(), leaves)?, [true; 5]);
     let ones = Node::Bits {
         width: 128,
         value: u128::MAX,
     };
-    assert_eq!(rt; tell(rt.alloc(), longest)?, (ones, (1, true, true)));
-    assert_eq!(rt; tell(rt.alloc(), texts)?, [true; 3]);
-    assert_eq!(rt; tell(rt.alloc(), trees)?, [true; 3]);
+    is(world, id, &ones, (1, true, true))
+}
+
+fn texts_read_back(world: &mut World) -> Result<bool, Fail> {
+    let name = world.text(&[104, 0x2_ffff])?;
+    let text = world.is_text(name, &[104, 0x2_ffff])?;
+    let string = reads_back(world, Node::Str(name), (1, true, true))?;
+    let variable = reads_back(world, Node::Var { name, ty: BOOL }, (2, true, true))?;
+    Ok(text & string & variable)
+}
+
+fn application_reads_back(world: &mut World) -> Result<bool, Fail> {
+    let arg = world.make(Node::Par(3))?;
+    reads_back(world, Node::App { fun: TYPE, arg }, (2, false, false))
+}
+
+fn function_types_read_back(world: &mut World) -> Result<bool, Fail> {
+    let (par, ty) = (0, BOOL);
+    let to = world.make(Node::Arr { from: ty, to: ty })?;
+    let free = reads_back(world, Node::Arr { from: ty, to: ty }, (2, true, true))?;
+    let bound = reads_back(world, Node::Qar { par, ty, to }, (3, false, true))?;
+    Ok(free & bound)
+}
+
+#[test]
+fn each_kind_of_node_reads_back(rt: HostRuntime) -> Result<(), Fail> {
+    assert!(rt; holds(rt.alloc(), leaves_read_back)?);
+    assert!(rt; holds(rt.alloc(), numbers_read_back)?);
+    assert!(rt; holds(rt.alloc(), bits_read_back)?);
+    assert!(rt; holds(rt.alloc(), texts_read_back)?);
+    assert!(rt; holds(rt.alloc(), application_reads_back)?);
+    assert!(rt; holds(rt.alloc(), function_types_read_back)?);
     Ok(())
 }
 
-// What is told of a program over a parameter.
-fn program(world: &mut World) -> Result<(Node, (u32, bool, bool)), Fail> {
+// The root of a call of a program on two arguments.
+fn call() -> Node {
+    Node::Op {
+        code: OpCode::Prog(7),
+        count: 2,
+    }
+}
+
+// A program over a parameter.
+fn program_reads_back(world: &mut World) -> Result<bool, Fail> {
     let par = world.make(Node::Par(0))?;
     let id = world.apply(OpCode::Prog(7), &[TRUE, par])?;
-    Ok((world.node(id)?, world.told(id)?))
+    is(world, id, &call(), (2, false, false))
 }
 
 #[test]
 fn an_operator_reads_back(rt: HostRuntime) -> Result<(), Fail> {
-    let node = Node::Op {
-        code: OpCode::Prog(7),
-        count: 2,
-    };
-    assert_eq!(rt; tell(rt.alloc(), program)?, (node, (2, false, false)));
+    assert!(rt; holds(rt.alloc(), program_reads_back)?);
     Ok(())
 }
 
-// What is told of a term that was carried, and how many terms there are.
-fn carried(world: &mut World) -> Result<(Node, u32, usize), Fail> {
+// Of what was made for it, a carried term leaves its part alone.
+fn one_tree_is_kept(world: &mut World) -> Result<bool, Fail> {
     let kept = world.carried()?;
     let (height, _, _) = world.told(kept)?;
-    Ok((world.node(kept)?, height, world.len()))
+    Ok((world.node(kept)? == call()) & (height == 3) & (world.len() == 6))
 }
 
 #[test]
 fn carry_keeps_one_tree(rt: HostRuntime) -> Result<(), Fail> {
-    let node = Node::Op {
-        code: OpCode::Prog(7),
-        count: 2,
-    };
-    assert_eq!(rt; tell(rt.alloc(), carried)?, (node, 3, 6));
+    assert!(rt; holds(rt.alloc(), one_tree_is_kept)?);
     Ok(())
 }
 
-// How many terms there are before and after a release, and what a number that is then made has for
-// its root.
-fn released(world: &mut World) -> Result<((usize, usize), Node), Fail> {
+// A term is there before a release and no more behind it, and a number that is then made reads back.
+fn newer_terms_are_dropped(world: &mut World) -> Result<bool, Fail> {
     let counts = world.released()?;
     let number = world.make(Node::Num(-3))?;
-    Ok((counts, world.node(number)?))
+    Ok((counts == (5, 4)) & (world.node(number)? == Node::Num(-3)))
 }
 
 #[test]
 fn release_drops_the_newer_terms(rt: HostRuntime) -> Result<(), Fail> {
-    assert_eq!(rt; tell(rt.alloc(), released)?, ((5, 4), Node::Num(-3)));
+    assert!(rt; holds(rt.alloc(), newer_terms_are_dropped)?);
     Ok(())
 }
 
@@ -193,48 +206,57 @@ fn with_parameters(world: &mut World) -> Result<Id, Fail> {
     })
 }
 
-// Which of the parameters 3, 4 and 5 the set has.
-fn members(set: ParamSet) -> [bool; 3] {
-    [set.has(3), set.has(4), set.has(5)]
+// Whether the set has the parameters 3 and 5 or not, and has not 4.
+fn has(set: ParamSet, third: bool, fifth: bool) -> bool {
+    (set.has(3) == third) & !set.has(4) & (set.has(5) == fifth)
 }
 
-// Which of those occur in the term, and a bound of them.
-fn occurring(world: &mut World) -> Result<([bool; 3], usize), Fail> {
+// Both occur in the term.
+fn parameters_are_told(world: &mut World) -> Result<bool, Fail> {
     let id = with_parameters(world)?;
     let known = world.parameters(id)?;
-    Ok((members(known), known.bound()))
+    Ok(has(known, true, true) & (known.bound() == 6))
 }
 
-// Which of them occur outside every operator.
-fn occurring_openly(world: &mut World) -> Result<[bool; 3], Fail> {
+// One of them occurs outside every operator.
+fn open_parameters_are_told(world: &mut World) -> Result<bool, Fail> {
     let id = with_parameters(world)?;
-    Ok(members(world.open_parameters(id)?))
+    Ok(has(world.open_parameters(id)?, true, false))
 }
 
-fn kinds(world: &mut World) -> Result<[bool; 3], Fail> {
+// The term has an operator, may be no declared type, and uses another parameter than the third.
+fn kinds_are_told(world: &mut World) -> Result<bool, Fail> {
     let id = with_parameters(world)?;
-    world.kinds(id)
+    Ok(world.kinds(id)? == [false, false, false])
 }
 
 #[test]
 fn what_is_kept_with_a_term_is_told(rt: HostRuntime) -> Result<(), Fail> {
-    assert_eq!(rt; tell(rt.alloc(), occurring)?, ([true, false, true], 6));
-    assert_eq!(rt; tell(rt.alloc(), occurring_openly)?, [true, false, false]);
-    assert_eq!(rt; tell(rt.alloc(), kinds)?, [false, false, false]);
+    assert!(rt; holds(rt.alloc(), parameters_are_told)?);
+    assert!(rt; holds(rt.alloc(), open_parameters_are_told)?);
+    assert!(rt; holds(rt.alloc(), kinds_are_told)?);
     Ok(())
 }
 
-// What a memo tells at first, and then of a term for which another is kept, and of that other.
-fn found(memo: &mut Memo) -> Result<[Option<Id>; 3], AllocError> {
+// A memo tells nothing at first, and then of a term for which another is kept, and not of that
+// other.
+fn what_is_kept_is_told(memo: &mut Memo) -> Result<bool, AllocError> {
     let first = memo.get(TRUE);
     memo.keep(TRUE, FALSE)?;
-    Ok([first, memo.get(TRUE), memo.get(FALSE)])
+    let kept = memo.get(TRUE) == Some(FALSE);
+    Ok(first.is_none() & kept & memo.get(FALSE).is_none())
+}
+
+// The same of a new memo, which it alone owns.
+fn new_memo_tells(alloc: Global) -> Result<bool, AllocError> {
+    let mut memo = Memo::new(alloc);
+    let answer = what_is_kept_is_told(&mut memo);
+    drop(memo);
+    answer
 }
 
 #[test]
 fn a_memo_tells_what_it_keeps(rt: HostRuntime) -> Result<(), Fail> {
-    let mut memo = Memo::new(rt.alloc());
-    let told = found(&mut memo);
-    assert_eq!(rt; told?, [None, Some(FALSE), None]);
+    assert!(rt; new_memo_tells(rt.alloc())?);
     Ok(())
 }
