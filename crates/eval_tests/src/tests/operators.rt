@@ -1,13 +1,12 @@
 //! Operators, and nodes that are none.
 use super::rows::Trial;
 use super::rows::Want::{Deep, Range, Stuck, Value};
-use super::world::wrong;
+use super::world::assert_right;
 use std::test::Fail;
 
 #[test]
 fn a_choice_evaluates_one_branch(rt: HostRuntime) -> Result<(), Fail> {
-    assert_eq!(rt; wrong(rt.alloc(), CHOICES)?, None);
-    Ok(())
+    assert_right(&rt, rt.alloc(), CHOICES)
 }
 
 const CHOICES: &[Trial<'static>] = &[Trial {
@@ -25,8 +24,7 @@ const CHOICES: &[Trial<'static>] = &[Trial {
 
 #[test]
 fn a_test_has_a_value_where_its_argument_is_stuck(rt: HostRuntime) -> Result<(), Fail> {
-    assert_eq!(rt; wrong(rt.alloc(), TESTS)?, None);
-    Ok(())
+    assert_right(&rt, rt.alloc(), TESTS)
 }
 
 const TESTS: &[Trial<'static>] = &[Trial {
@@ -42,8 +40,7 @@ const TESTS: &[Trial<'static>] = &[Trial {
 
 #[test]
 fn a_comparison_evaluates_both_terms(rt: HostRuntime) -> Result<(), Fail> {
-    assert_eq!(rt; wrong(rt.alloc(), COMPARISONS)?, None);
-    Ok(())
+    assert_right(&rt, rt.alloc(), COMPARISONS)
 }
 
 // Both terms are evaluated, the second also where the first is stuck.
@@ -62,8 +59,7 @@ const COMPARISONS: &[Trial<'static>] = &[Trial {
 
 #[test]
 fn a_requirement_compares_two_terms(rt: HostRuntime) -> Result<(), Fail> {
-    assert_eq!(rt; wrong(rt.alloc(), REQUIREMENTS)?, None);
-    Ok(())
+    assert_right(&rt, rt.alloc(), REQUIREMENTS)
 }
 
 // The third term is evaluated where the first two have one value, and the second always.
@@ -82,8 +78,7 @@ const REQUIREMENTS: &[Trial<'static>] = &[Trial {
 
 #[test]
 fn parts_are_evaluated_from_left_to_right(rt: HostRuntime) -> Result<(), Fail> {
-    assert_eq!(rt; wrong(rt.alloc(), NODES)?, None);
-    Ok(())
+    assert_right(&rt, rt.alloc(), NODES)
 }
 
 // A node ends with its first part that has no value. The type of a function whose argument is
@@ -103,8 +98,7 @@ const NODES: &[Trial<'static>] = &[Trial {
 
 #[test]
 fn each_kind_of_operator_has_a_value(rt: HostRuntime) -> Result<(), Fail> {
-    assert_eq!(rt; wrong(rt.alloc(), KINDS)?, None);
-    Ok(())
+    assert_right(&rt, rt.alloc(), KINDS)
 }
 
 const KINDS: &[Trial<'static>] = &[

@@ -2,13 +2,12 @@
 //! of `words`.
 use super::rows::Trial;
 use super::rows::Want::{Deep, Stuck, Tall, Value};
-use super::world::{wrong, wrong_by_one};
+use super::world::{assert_right, wrong_by_one};
 use std::test::Fail;
 
 #[test]
 fn the_first_case_that_matches_is_taken(rt: HostRuntime) -> Result<(), Fail> {
-    assert_eq!(rt; wrong(rt.alloc(), CASES)?, None);
-    Ok(())
+    assert_right(&rt, rt.alloc(), CASES)
 }
 
 const CASES: &[Trial<'static>] = &[
@@ -37,8 +36,7 @@ const CASES: &[Trial<'static>] = &[
 
 #[test]
 fn a_thousand_calls_may_be_open(rt: HostRuntime) -> Result<(), Fail> {
-    assert_eq!(rt; wrong(rt.alloc(), DEPTHS)?, None);
-    Ok(())
+    assert_right(&rt, rt.alloc(), DEPTHS)
 }
 
 const DEPTHS: &[Trial<'static>] = &[
@@ -77,8 +75,7 @@ const DEPTHS: &[Trial<'static>] = &[
 
 #[test]
 fn what_was_evaluated_is_remembered(rt: HostRuntime) -> Result<(), Fail> {
-    assert_eq!(rt; wrong(rt.alloc(), REMEMBERED)?, None);
-    Ok(())
+    assert_right(&rt, rt.alloc(), REMEMBERED)
 }
 
 const REMEMBERED: &[Trial<'static>] = &[
@@ -114,8 +111,7 @@ const NEGATIONS: &[Trial<'static>] = &[
 
 #[test]
 fn what_stands_for_parameters_is_that_of_the_call(rt: HostRuntime) -> Result<(), Fail> {
-    assert_eq!(rt; wrong(rt.alloc(), PARAMETERS)?, None);
-    Ok(())
+    assert_right(&rt, rt.alloc(), PARAMETERS)
 }
 
 const PARAMETERS: &[Trial<'static>] = &[
@@ -143,8 +139,7 @@ const PARAMETERS: &[Trial<'static>] = &[
 
 #[test]
 fn a_body_may_be_too_tall(rt: HostRuntime) -> Result<(), Fail> {
-    assert_eq!(rt; wrong(rt.alloc(), TALL_BODIES)?, None);
-    Ok(())
+    assert_right(&rt, rt.alloc(), TALL_BODIES)
 }
 
 const TALL_BODIES: &[Trial<'static>] = &[

@@ -138,7 +138,14 @@ impl World {
     /// The one term of some words.
     pub(super) fn term(&mut self, words: &str) -> Result<Id, Fail> {
         let mut terms = Vec::new(self.alloc());
-        self.push_terms(words, &mut terms)?;
+        let term = self.one_term(words, &mut terms);
+        drop(terms);
+        term
+    }
+
+    // The one term of some words, which stands alone among these.
+    fn one_term(&mut self, words: &str, terms: &mut Vec<Id>) -> Result<Id, Fail> {
+        self.push_terms(words, terms)?;
         match terms.as_slice() {
             [id] => Ok(*id),
             _ => Err(Fail::new("not one term")),
@@ -148,7 +155,9 @@ impl World {
     /// The terms of some words, before these, of which the first stands last.
     pub(super) fn push_terms(&mut self, words: &str, behind: &mut Vec<Id>) -> Result<(), Fail> {
         let words: Vec<&str> = words.split(' ').collect(self.alloc())?;
-        self.push_all(words.as_slice(), behind)
+        let pushed = self.push_all(words.as_slice(), behind);
+        drop(words);
+        pushed
     }
 
     fn push_all(&mut self, words: &[&str], behind: &mut Vec<Id>) -> Result<(), Fail> {

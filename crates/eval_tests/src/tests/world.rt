@@ -16,6 +16,7 @@ use eo_term::{BOOL, FALSE, Id, Ids, Node, OpCode, OpName, Table, TermRefused, Te
 use eo_type::Types;
 use std::alloc::Global;
 use std::marker::Model;
+use std::process::Abort;
 use std::test::Fail;
 
 /// A table and a signature over it. It declares the constants `p`, the number 4, and `or`, the
@@ -118,9 +119,16 @@ impl World {
     }
 
     fn declare_program(&mut self, row: &ProgramRow<'_>) -> Result<(), Fail> {
-        let (name, width, cases) = *row;
         let mut terms = Vec::new(self.alloc);
-        self.push_cases(cases, &mut terms)?;
+        let declared = self.declare_by(row, &mut terms);
+        drop(terms);
+        declared
+    }
+
+    // Declares a program by its terms, which are put here.
+    fn declare_by(&mut self, row: &ProgramRow<'_>, terms: &mut Vec<Id>) -> Result<(), Fail> {
+        let (name, width, cases) = *row;
+        self.push_cases(cases, terms)?;
         terms.reverse();
         self.add_program(name.as_bytes(), width, terms.as_slice())
     }
@@ -185,12 +193,20 @@ impl World {
     }
 }
 
-/// The first term that ends in another way than its row says, if one does: its trial, and its place
-/// there. Each trial has a new world and a new evaluator.
-pub(super) fn wrong<'a>(
+/// Asserts that each term ends as its row says: else the trial and the place of one that does not are
+/// told.
+pub(super) fn assert_right(
+    rt: &impl Abort,
     alloc: Global,
-    trials: &[Trial<'a>],
-) -> Result<Option<(&'a str, usize)>, Fail> {
+    trials: &[Trial<'_>],
+) -> Result<(), Fail> {
+    assert_eq!(rt; wrong(alloc, trials)?, None);
+    Ok(())
+}
+
+// The first term that ends in another way than its row says, if one does: its trial, and its place
+// there. Each trial has a new world and a new evaluator.
+fn wrong<'a>(alloc: Global, trials: &[Trial<'a>]) -> Result<Option<(&'a str, usize)>, Fail> {
     for trial in trials {
         if let Some(i) = wrong_alone(alloc, trial)? {
             return Ok(Some((trial.name, i)));
@@ -396,7 +412,7 @@ fn program(
 {
     let output = live(table, BOOL)?;
     let cases = cases_of(alloc, table, width, terms)?;
-    let name = Name::new(alloc, name)?;
+    let (name, cases) = both(Name::new(alloc, name), cases)?;
     Ok(ProgramDecl {
         name,
         params: Params::new(alloc),
