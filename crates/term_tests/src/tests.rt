@@ -124,6 +124,13 @@ fn texts_read_back(world: &mut World) -> Result<bool, Fail> {
     Ok(text & string & variable)
 }
 
+fn literals_read_back(world: &mut World) -> Result<bool, Fail> {
+    let numbers = numbers_read_back(world)?;
+    let bits = bits_read_back(world)?;
+    let texts = texts_read_back(world)?;
+    Ok(numbers & bits & texts)
+}
+
 fn application_reads_back(world: &mut World) -> Result<bool, Fail> {
     let arg = world.make(Node::Par(3))?;
     reads_back(world, Node::App { fun: TYPE, arg }, (2, false, false))
@@ -137,14 +144,17 @@ fn function_types_read_back(world: &mut World) -> Result<bool, Fail> {
     Ok(free & bound)
 }
 
+fn trees_read_back(world: &mut World) -> Result<bool, Fail> {
+    let application = application_reads_back(world)?;
+    let function_types = function_types_read_back(world)?;
+    Ok(application & function_types)
+}
+
 #[test]
 fn each_kind_of_node_reads_back(rt: HostRuntime) -> Result<(), Fail> {
     assert!(rt; holds(rt.alloc(), leaves_read_back)?);
-    assert!(rt; holds(rt.alloc(), numbers_read_back)?);
-    assert!(rt; holds(rt.alloc(), bits_read_back)?);
-    assert!(rt; holds(rt.alloc(), texts_read_back)?);
-    assert!(rt; holds(rt.alloc(), application_reads_back)?);
-    assert!(rt; holds(rt.alloc(), function_types_read_back)?);
+    assert!(rt; holds(rt.alloc(), literals_read_back)?);
+    assert!(rt; holds(rt.alloc(), trees_read_back)?);
     Ok(())
 }
 
