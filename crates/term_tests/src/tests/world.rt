@@ -155,30 +155,20 @@ fn is_fit(table: &Table, node: &Node) -> bool
     ensures texts { IsTrue result → TextsBelow (length table.now.texts) node.now }
     ensures proper { IsTrue result → IsProper node.now }
 {
+    let count = table.len();
+    let texts = table.mark().texts();
     match *node {
-        Node::Con(_) | Node::Num(_) => true,
-        Node::Str(text) => has_text(table, text),
-        Node::Par(number) => number < 64,
-        Node::Var { name, ty } => has_text(table, name) && has(table, ty),
-        Node::App { fun, arg } => has(table, fun) && has(table, arg),
-        Node::Arr { from, to } => has(table, from) && has(table, to),
-        Node::Qar { ty, to, .. } => has(table, ty) && has(table, to),
-        _ => false,
+        Node::Con(_) => true,
+        Node::Num(_) => true,
+        Node::Bits { .. } => false,
+        Node::Str(text) => text.place() < texts,
+        Node::Par(i) => i < 64,
+        Node::Var { name, ty } => name.place() < texts && ty.place() < count,
+        Node::App { fun, arg } => fun.place() < count && arg.place() < count,
+        Node::Arr { from, to } => from.place() < count && to.place() < count,
+        Node::Qar { ty, to, .. } => ty.place() < count && to.place() < count,
+        Node::Op { .. } => false,
     }
-}
-
-// Whether the term is one of the table.
-fn has(table: &Table, id: Id) -> bool
-    ensures { IsTrue result → id < length table.now.trees }
-{
-    id.place() < table.len()
-}
-
-// Whether the text is one of the table.
-fn has_text(table: &Table, text: TextId) -> bool
-    ensures { IsTrue result → text < length table.now.texts }
-{
-    text.place() < table.mark().texts()
 }
 
 // The term with this root, if it is one over the table.
