@@ -11,9 +11,11 @@ ghost use Rattle.eo_sexp.specs.Collecting.{IsLive, HasRoom};
 ghost use Rattle.eo_sexp.specs.Cutting.{IsWaiting};
 ghost use Rattle.read_bench.specs.Counting.{commands_of, commands_behind, Gives};
 
+use eo_base::both;
 use eo_sexp::{Collector, Fed, Finished, answers_law, pieces_law};
 use std::alloc::{AllocError, Global};
 use std::time::Instant;
+use std::vec::IntoIter;
 use std::{env, io};
 
 const PIECE: usize = 65_536;
@@ -32,12 +34,24 @@ fn repeated(
     requires { 0 < length part.now }
 {
     let mut text = Vec::new(alloc);
+    let ((), text) = both(write_to(&mut text, head, part, tail, size), text)?;
+    Ok(text)
+}
+
+fn write_to(
+    text: &mut Vec<u8>,
+    head: &[u8],
+    part: &[u8],
+    tail: &[u8],
+    size: usize,
+) -> Result<(), AllocError>
+    requires { 0 < length part.now }
+{
     text.extend_from_slice(head)?;
     for _ in 0..size / part.len() {
         text.extend_from_slice(part)?;
     }
-    text.extend_from_slice(tail)?;
-    Ok(text)
+    text.extend_from_slice(tail)
 }
 
 /// What a piece of a text gave.
@@ -192,11 +206,21 @@ fn time_text(rt: &HostRuntime, name: &str, text: &[u8], timed: bool) -> io::Resu
         println!(rt; "{name}: {commands} commands")?;
     }
     if timed {
-        let us = time.as_micros();
-        let rate = if us == 0 { 0 } else { text.len() as u128 / us };
-        println!(rt; "{} bytes, {} us, {} MB/s", text.len(), us, rate)?;
+        print_rate(rt, text.len(), time.as_micros())?;
     }
     Ok(())
+}
+
+fn print_rate(rt: &HostRuntime, bytes: usize, us: u128) -> io::Result<()> {
+    let rate = if us == 0 { 0 } else { bytes as u128 / us };
+    println!(rt; "{bytes} bytes, {us} us, {rate} MB/s")
+}
+
+fn is_asked(only: Option<&str>, name: &str) -> bool {
+    match only {
+        Some(word) => word == name,
+        None => true,
+    }
 }
 
 /// Reads a text of each kind, or only of the one that is asked for.
@@ -207,10 +231,8 @@ fn time_all(rt: &HostRuntime, asked: Option<usize>, only: Option<&str>) -> io::R
     };
     for kind in 0..5usize {
         let name = name_of(kind);
-        if let Some(word) = only {
-            if word != name {
-                continue;
-            }
+        if !is_asked(only, name) {
+            continue;
         }
         let Ok(text) = text_of(rt.alloc(), kind, size) else {
             return Ok(());
@@ -225,18 +247,27 @@ fn time_all(rt: &HostRuntime, asked: Option<usize>, only: Option<&str>) -> io::R
 /// What the command line asks for: how many MiB of each kind, and the only kind.
 fn asked(rt: &HostRuntime) -> io::Result<(Option<usize>, Option<String>)> {
     let mut words = env::args(rt)?;
-    drop(words.next());
-    let size = words
-        .next()
-        .and_then(|word| word.as_str().parse::<usize>().ok());
-    let only = words.next();
+    let asked = read_words(&mut words);
     drop(words);
-    Ok((size, only))
+    Ok(asked)
+}
+
+fn read_words(words: &mut IntoIter<String>) -> (Option<usize>, Option<String>) {
+    drop(words.next());
+    let size = number_of(words.next());
+    (size, words.next())
+}
+
+fn number_of(word: Option<String>) -> Option<usize> {
+    let word = word?;
+    let number = word.as_str().parse::<usize>().ok();
+    drop(word);
+    number
 }
 
 fn main(rt: HostRuntime) -> io::Result<()> {
     let (size, only) = asked(&rt)?;
-    let timed = time_all(&rt, size, only.as_ref().map(|word| word.as_str()));
+    let timed = time_all(&rt, size, only.as_deref());
     drop(only);
     timed
 }
