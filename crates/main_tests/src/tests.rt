@@ -14,6 +14,7 @@ use memory_runs::{
     long_text,
 };
 use std::alloc::{AllocError, Global};
+use std::process::Abort;
 
 /// A proof, and the line that is printed.
 type Row<'a> = (&'a [u8], &'a [u8]);
@@ -24,12 +25,27 @@ const ASSERTS_FALSE: File<'static> = (b"r.smt2", b"(assert false)\n");
 
 const ASSUMES_FALSE: File<'static> = (b"p.eo", b"(assume @p1 false)\n");
 
+/// Asserts that none is wrong, and else tells the first.
+fn assert_none(rt: &impl Abort, wrong: Option<usize>) {
+    assert_eq!(rt; wrong, None);
+}
+
+/// Asserts that what was tried had memory and is right.
+fn assert_right(rt: &impl Abort, is_right: Result<bool, AllocError>) {
+    assert_eq!(rt; is_right, Ok(true));
+}
+
+/// Asserts that so many calls were made, and that each of them may fail.
+fn assert_calls(rt: &impl Abort, made: Result<Option<u64>, AllocError>, want: u64) {
+    assert_eq!(rt; made, Ok(Some(want)));
+}
+
 #[test]
 fn absent_file(rt: HostRuntime) {
     let want = Want::Ends(Status::Refused, b"refused F35 FileAbsent p.eo:1:0\n");
-    assert_eq!(rt;
+    assert_right(
+        &rt,
         does(rt.alloc(), &(CHECK, ASSERTS_FALSE, &[]), 8, 0, &want),
-        Ok(true)
     );
 }
 
@@ -37,7 +53,7 @@ fn absent_file(rt: HostRuntime) {
 fn failing_calls_of_the_library(rt: HostRuntime) {
     let want = Want::Ends(Status::Ok, CORRECT);
     let job: Job<'_> = (CHECK, ASSERTS_FALSE, &[ASSUMES_FALSE]);
-    assert_eq!(rt; calls(rt.alloc(), &job, 8, &want), Ok(Some(9)));
+    assert_calls(&rt, calls(rt.alloc(), &job, 8, &want), 9);
 }
 
 /// Whether the first check does what is wanted into a sink of so much room, whose writes take at
@@ -66,9 +82,9 @@ fn check_into(
 #[test]
 fn failing_and_short_writes(rt: HostRuntime) {
     let fault = Want::Ends(Status::WriteFault, b"");
-    assert_eq!(rt; check_into(rt.alloc(), ROOM, ROOM, 1, &fault), Ok(true));
+    assert_right(&rt, check_into(rt.alloc(), ROOM, ROOM, 1, &fault));
     let whole = Want::Ends(Status::Ok, CORRECT);
-    assert_eq!(rt; check_into(rt.alloc(), ROOM, 1, 0, &whole), Ok(true));
+    assert_right(&rt, check_into(rt.alloc(), ROOM, 1, 0, &whole));
 }
 
 /// Whether the two files give this line, whole and with reads of 1 and of 3 bytes.
@@ -94,7 +110,7 @@ fn wrong(alloc: Global, rows: &[Row<'_>]) -> Option<usize> {
 
 #[test]
 fn proofs_in_the_whole_lexicon(rt: HostRuntime) {
-    const ROWS: [Row<'static>; 17] = [
+    const ROWS: &[Row<'static>] = &[
         (b"(include \"b", b"refused F02 Unclosed p.eo:1:11\n"),
         (b"(assume @p1 true))", b"refused F03 ExtraClose p.eo:1:17\n"),
         (b"unsat\n", b"refused F41 NoRefutation p.eo:2:6\n"),
@@ -128,17 +144,14 @@ fn proofs_in_the_whole_lexicon(rt: HostRuntime) {
         (b"assume", b"refused F11 BadCommand p.eo:1:0\n"),
         (b"(assume a true){", b"refused F01 BadByte p.eo:1:15\n"),
     ];
-    assert_eq!(rt; wrong(rt.alloc(), &ROWS), None);
+    assert_none(&rt, wrong(rt.alloc(), ROWS));
 }
 
 #[test]
 fn a_proof_without_the_end_of_its_pair(rt: HostRuntime) {
     let proof = b"(\n(assume @p1 false)\n";
     let line = b"refused F02 Unclosed p.eo:3:21\n";
-    assert_eq!(rt;
-        prints(rt.alloc(), b"(assert false)\n", proof, line),
-        Ok(true)
-    );
+    assert_right(&rt, prints(rt.alloc(), b"(assert false)\n", proof, line));
 }
 
 /// Whether a proof of so many `(` gives this line.
@@ -150,7 +163,7 @@ fn opens_print(alloc: Global, count: u32, line: &[u8]) -> Result<bool, AllocErro
 #[test]
 fn nested_lists(rt: HostRuntime) {
     let unclosed = opens_print(rt.alloc(), 513, b"refused F02 Unclosed p.eo:1:513\n");
-    assert_eq!(rt; unclosed, Ok(true));
+    assert_right(&rt, unclosed);
     let too_deep = opens_print(rt.alloc(), 514, b"refused F07 Nesting p.eo:1:513\n");
-    assert_eq!(rt; too_deep, Ok(true));
+    assert_right(&rt, too_deep);
 }

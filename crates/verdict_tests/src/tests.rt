@@ -10,6 +10,7 @@ mod suite;
 use eo_base::Status;
 use memory_runs::{CHECK, File, Want, first_wrong, honest_does};
 use std::alloc::{AllocError, Global};
+use std::process::Abort;
 
 /// A reference file and a proof, and the line and the status that they give.
 type Row<'a> = (&'a [u8], &'a [u8], &'a [u8], Status);
@@ -64,9 +65,19 @@ fn wrong_refusal(alloc: Global, rows: &[Refusal<'_>]) -> Option<usize> {
     first_wrong(alloc, rows, is_refused)
 }
 
+/// Asserts that none is wrong, and else tells the first.
+fn assert_none(rt: &impl Abort, wrong: Option<usize>) {
+    assert_eq!(rt; wrong, None);
+}
+
+/// Asserts that what was tried had memory and is right.
+fn assert_right(rt: &impl Abort, is_right: Result<bool, AllocError>) {
+    assert_eq!(rt; is_right, Ok(true));
+}
+
 #[test]
 fn verdicts_of_files(rt: HostRuntime) {
-    const ROWS: [Row<'static>; 7] = [
+    const ROWS: &[Row<'static>] = &[
         (ASSERTS_FALSE, b"(assume @p1 false)\n", CORRECT, Status::Ok),
         (
             ASSERTS_TRUE,
@@ -105,12 +116,12 @@ fn verdicts_of_files(rt: HostRuntime) {
             Status::Refused,
         ),
     ];
-    assert_eq!(rt; wrong(rt.alloc(), &ROWS), None);
+    assert_none(&rt, wrong(rt.alloc(), ROWS));
 }
 
 #[test]
 fn programs_of_a_proof(rt: HostRuntime) {
-    const ROWS: [Refusal<'static>; 6] = [
+    const ROWS: &[Refusal<'static>] = &[
         (
             b"(program $u ((x Bool) (y Bool)) :signature (Bool) Bool ((($u x) y)))",
             b"refused F21 UnboundParam p.eo:1:0\n",
@@ -136,16 +147,16 @@ fn programs_of_a_proof(rt: HostRuntime) {
             b"refused F41 NoRefutation p.eo:1:79\n",
         ),
     ];
-    assert_eq!(rt; wrong_refusal(rt.alloc(), &ROWS), None);
+    assert_none(&rt, wrong_refusal(rt.alloc(), ROWS));
     const PROOF: &[u8] =
         b"(program $u ((x Bool)) :signature (Bool) Bool ((($u true) false) (($u x) ($u true))))\n(assume a false)\n";
     let row = (ASSERTS_FALSE, PROOF, CORRECT, Status::Ok);
-    assert_eq!(rt; is_right(rt.alloc(), row), Ok(true));
+    assert_right(&rt, is_right(rt.alloc(), row));
 }
 
 #[test]
 fn declarations_of_a_proof(rt: HostRuntime) {
-    const ROWS: [Refusal<'static>; 8] = [
+    const ROWS: &[Refusal<'static>] = &[
         (
             b"(declare-const p Bool)(declare-const p Bool)",
             b"refused F12 Redeclared p.eo:1:22\n",
@@ -176,8 +187,8 @@ fn declarations_of_a_proof(rt: HostRuntime) {
             b"refused F28 NotAsserted p.eo:1:42\n",
         ),
     ];
-    assert_eq!(rt; wrong_refusal(rt.alloc(), &ROWS), None);
+    assert_none(&rt, wrong_refusal(rt.alloc(), ROWS));
     const PROOF: &[u8] = b"(define f ((x Bool)) x)\n(assume a (let ((y (f false))) y))\n";
     let row = (ASSERTS_FALSE, PROOF, CORRECT, Status::Ok);
-    assert_eq!(rt; is_right(rt.alloc(), row), Ok(true));
+    assert_right(&rt, is_right(rt.alloc(), row));
 }

@@ -1,4 +1,5 @@
 //! Checks against reference files, which are SMT-LIB benchmarks.
+use super::assert_none;
 use eo_cpc::suite;
 use memory_runs::{File, Job, Want, does_in_pieces, first_wrong};
 use std::alloc::{AllocError, Global};
@@ -18,7 +19,7 @@ fn a_benchmark_is_refuted(rt: HostRuntime) {
 (assert p)\n(assert (not p))\n(check-sat)\n";
     const EXCLUSION: &[u8] = b"(declare-const p Bool)\n(declare-const q Bool)\n(assert (or p q))\n\
 (assert (not p))\n(assert (not q))\n";
-    const ROWS: [Row<'static>; 4] = [
+    const ROWS: &[Row<'static>] = &[
         (
             CONTRADICTION,
             b"unsat\n(\n(declare-const p Bool)\n(define @t1 () (not p))\n(assume @p1 p)\n\
@@ -45,14 +46,14 @@ fn a_benchmark_is_refuted(rt: HostRuntime) {
             b"correct\n",
         ),
     ];
-    assert_eq!(rt; wrong(rt.alloc(), &ROWS), None);
+    assert_none(&rt, wrong(rt.alloc(), ROWS));
 }
 
 #[test]
 fn a_step_needs_its_premises(rt: HostRuntime) {
     const SCOPED: &[u8] = b"(declare-const p Bool)\n(declare-const q Bool)\n(declare-const c Int)\n\
 (declare-fun g (Int) Int)\n(assert false)\n";
-    const ROWS: [Row<'static>; 4] = [
+    const ROWS: &[Row<'static>] = &[
         (
             DECLARED,
             b"(assume @p1 p)\n(step @p3 false :rule contra :premises (@p1 @p1))\n",
@@ -81,12 +82,12 @@ fn a_step_needs_its_premises(rt: HostRuntime) {
             b"refused F27 NotBool p.eo:7:166\n",
         ),
     ];
-    assert_eq!(rt; wrong(rt.alloc(), &ROWS), None);
+    assert_none(&rt, wrong(rt.alloc(), ROWS));
 }
 
 #[test]
 fn scopes_and_marked_rules_behind_a_signature(rt: HostRuntime) {
-    const ROWS: [Row<'static>; 6] = [
+    const ROWS: &[Row<'static>] = &[
         (
             DECLARED,
             b"(assume-push @a p)\n(step-pop @s (=> p p) :rule scope :premises (@a))\n\
@@ -120,14 +121,14 @@ fn scopes_and_marked_rules_behind_a_signature(rt: HostRuntime) {
             b"correct\n",
         ),
     ];
-    assert_eq!(rt; wrong(rt.alloc(), &ROWS), None);
+    assert_none(&rt, wrong(rt.alloc(), ROWS));
 }
 
 #[test]
 fn an_assumption_is_an_asserted_value(rt: HostRuntime) {
     const NAMED: &[u8] = b"(declare-const p Bool)\n(declare-const q Bool)\n\
 (assert (! (let ((x (not p))) (and x x)) :named h))\n";
-    const ROWS: [Row<'static>; 5] = [
+    const ROWS: &[Row<'static>] = &[
         (
             NAMED,
             b"(assume @p1 (and (not p) (not p)))\n(assume @p2 h)\n",
@@ -154,12 +155,12 @@ fn an_assumption_is_an_asserted_value(rt: HostRuntime) {
             b"refused F41 NoRefutation p.eo:1:16\n",
         ),
     ];
-    assert_eq!(rt; wrong(rt.alloc(), &ROWS), None);
+    assert_none(&rt, wrong(rt.alloc(), ROWS));
 }
 
 #[test]
 fn the_first_fault_of_a_proof(rt: HostRuntime) {
-    const ROWS: [Row<'static>; 21] = [
+    const ROWS: &[Row<'static>] = &[
         (
             DECLARED,
             b"(frob)",
@@ -262,7 +263,7 @@ fn the_first_fault_of_a_proof(rt: HostRuntime) {
             b"refused F09 BadPath p.eo:1:0\n",
         ),
     ];
-    assert_eq!(rt; wrong(rt.alloc(), &ROWS), None);
+    assert_none(&rt, wrong(rt.alloc(), ROWS));
 }
 
 #[test]
@@ -273,7 +274,7 @@ fn a_whole_benchmark(rt: HostRuntime) {
 (define-fun g ((x V)) Bool (not (f x)))\n(assert (! (f |a b|) :named a1))\n\
 (assert (! (g |a b|) :named a2))\n(echo \"done)\")\n(check-sat)\n(get-proof)\n\
 (get-value ((f |a b|)))\n(exit)\n)) \xff \" ";
-    const ROWS: [Row<'static>; 3] = [
+    const ROWS: &[Row<'static>] = &[
         (
             TEXT,
             b"(define @t () (f |a b|))(assume @p1 a1)(assume @p2 a2)(assume @p3 @t)\n\
@@ -292,12 +293,12 @@ fn a_whole_benchmark(rt: HostRuntime) {
             b"refused F12 Redeclared p.eo:1:0\n",
         ),
     ];
-    assert_eq!(rt; wrong(rt.alloc(), &ROWS), None);
+    assert_none(&rt, wrong(rt.alloc(), ROWS));
 }
 
 #[test]
 fn the_first_fault_of_a_reference_file(rt: HostRuntime) {
-    const ROWS: [Row<'static>; 21] = [
+    const ROWS: &[Row<'static>] = &[
         (b"(push 1)", b"", b"refused F10 UnknownCommand r.smt2:1:0\n"),
         (
             b"(define x () true)",
@@ -395,7 +396,7 @@ fn the_first_fault_of_a_reference_file(rt: HostRuntime) {
             b"correct\n",
         ),
     ];
-    assert_eq!(rt; wrong_behind_not(rt.alloc(), &ROWS), None);
+    assert_none(&rt, wrong_behind_not(rt.alloc(), ROWS));
 }
 
 /// Whether a row's line is printed behind a signature of this text, whole and with reads of 1 and of

@@ -1,5 +1,5 @@
 //! Words of the command line, over files in memory.
-use super::{ASSUMES_FALSE, CORRECT};
+use super::{ASSUMES_FALSE, CORRECT, assert_none};
 use eo_base::Status;
 use memory_runs::{File, Job, Want, does_in_pieces, first_wrong};
 use std::alloc::{AllocError, Global};
@@ -8,7 +8,7 @@ const USAGE: &[u8] =
     b"usage: ethos check [--include=F] [--reference=F] [--closed] PROOF | ethos load FILE | ethos bench N\n";
 
 /// The files that a line may name, but for `p.eo`, each with its path.
-const FILES: [(&[u8], &[u8]); 5] = [
+const FILES: &[File<'static>] = &[
     (b"r.smt2", b"(assert false)\n"),
     (b"c.eo", b"(declare-const p Bool)\n"),
     (b"-p.eo", b"(assume @p1 false)\n"),
@@ -21,7 +21,7 @@ const FILES: [(&[u8], &[u8]); 5] = [
 
 // A function that calls this does not unfold the table in its proof.
 fn files() -> &'static [File<'static>] {
-    &FILES
+    FILES
 }
 
 /// The words of a line, and the status and the line that are given.
@@ -44,7 +44,7 @@ fn wrong(alloc: Global, rows: &[Row<'_>]) -> Option<usize> {
 
 #[test]
 fn words_that_are_read(rt: HostRuntime) {
-    const ROWS: [Row<'static>; 26] = [
+    const ROWS: &[Row<'static>] = &[
         ("ethos check --reference=r.smt2 p.eo", Status::Ok, CORRECT),
         ("ethos check p.eo --reference=r.smt2", Status::Ok, CORRECT),
         ("ethos check --reference r.smt2 p.eo", Status::Ok, CORRECT),
@@ -148,7 +148,7 @@ fn words_that_are_read(rt: HostRuntime) {
             b"bench 10: correct, 33 commands, 99 terms\n",
         ),
     ];
-    assert_eq!(rt; wrong(rt.alloc(), &ROWS), None);
+    assert_none(&rt, wrong(rt.alloc(), ROWS));
 }
 
 #[test]
@@ -158,7 +158,8 @@ fn a_bench_gives_the_same_line_each_time(rt: HostRuntime) {
         Status::Ok,
         b"bench 100: correct, 213 commands, 729 terms\n",
     );
-    assert_eq!(rt; wrong(rt.alloc(), &[ROW, ROW]), None);
+    const ROWS: &[Row<'static>] = &[ROW, ROW];
+    assert_none(&rt, wrong(rt.alloc(), ROWS));
 }
 
 fn is_usage(alloc: Global, words: &str) -> Result<bool, AllocError> {
@@ -167,7 +168,7 @@ fn is_usage(alloc: Global, words: &str) -> Result<bool, AllocError> {
 
 #[test]
 fn words_that_are_not_read(rt: HostRuntime) {
-    const LINES: [&str; 47] = [
+    const LINES: &[&'static str] = &[
         "",
         "ethos",
         "ethos ",
@@ -216,5 +217,5 @@ fn words_that_are_not_read(rt: HostRuntime) {
         "ethos bench --closed 1",
         "ethos bench --help",
     ];
-    assert_eq!(rt; first_wrong(rt.alloc(), &LINES, is_usage), None);
+    assert_none(&rt, first_wrong(rt.alloc(), LINES, is_usage));
 }

@@ -1,4 +1,5 @@
 //! Files at the limits, and one beyond them.
+use super::assert_none;
 use eo_cpc::suite;
 use memory_runs::{File, Job, Long, Want, does, first_wrong, long_text};
 use std::alloc::{AllocError, Global};
@@ -44,7 +45,7 @@ fn wrong_check(alloc: Global, rows: &[Row<'_>]) -> Option<usize> {
 
 #[test]
 fn lists_of_many_parts(rt: HostRuntime) {
-    const ROWS: [Row<'static>; 2] = [
+    const ROWS: &[Row<'static>] = &[
         (
             ("(", 65_536, "a ", ")\n"),
             b"refused F10 UnknownCommand a.eo:1:0\n",
@@ -54,12 +55,12 @@ fn lists_of_many_parts(rt: HostRuntime) {
             b"refused F08 Width a.eo:1:131073\n",
         ),
     ];
-    assert_eq!(rt; wrong_load(rt.alloc(), &ROWS), None);
+    assert_none(&rt, wrong_load(rt.alloc(), ROWS));
 }
 
 #[test]
 fn long_words(rt: HostRuntime) {
-    const ROWS: [Row<'static>; 2] = [
+    const ROWS: &[Row<'static>] = &[
         (
             ("", 1_048_576, "a", ""),
             b"refused F11 BadCommand a.eo:1:0\n",
@@ -69,23 +70,23 @@ fn long_words(rt: HostRuntime) {
             b"refused F05 TokenLong a.eo:1:1048576\n",
         ),
     ];
-    assert_eq!(rt; wrong_load(rt.alloc(), &ROWS), None);
+    assert_none(&rt, wrong_load(rt.alloc(), ROWS));
 }
 
 #[test]
 fn a_long_command(rt: HostRuntime) {
-    const ROWS: [Row<'static>; 1] = [(
+    const ROWS: &[Row<'static>] = &[(
         ("(", 16_777_216, " ", ""),
         b"refused F06 CommandLong a.eo:1:16777216\n",
     )];
-    assert_eq!(rt; wrong_load(rt.alloc(), &ROWS), None);
+    assert_none(&rt, wrong_load(rt.alloc(), ROWS));
 }
 
 // One scope in another.
 #[test]
 fn a_thousand_scopes(rt: HostRuntime) {
     const SCOPE: &str = "(assume-push @a^ p)\n";
-    const ROWS: [Row<'static>; 2] = [
+    const ROWS: &[Row<'static>] = &[
         (
             ("", 1_000, SCOPE, ""),
             b"refused F40 ScopeOpen p.eo:1001:21893\n",
@@ -95,7 +96,7 @@ fn a_thousand_scopes(rt: HostRuntime) {
             b"refused F33 ScopeDepth p.eo:1001:21893\n",
         ),
     ];
-    assert_eq!(rt; wrong_check(rt.alloc(), &ROWS), None);
+    assert_none(&rt, wrong_check(rt.alloc(), ROWS));
 }
 
 // A formula, and macros of which each negates the one before it.
@@ -103,7 +104,7 @@ fn a_thousand_scopes(rt: HostRuntime) {
 fn two_thousand_negations(rt: HostRuntime) {
     const FORMULA: &str = "(define @t0 () p)\n";
     const NEGATION: &str = "(define @t^ () (not @t~))\n";
-    const ROWS: [Row<'static>; 2] = [
+    const ROWS: &[Row<'static>] = &[
         (
             (FORMULA, 1_999, NEGATION, ""),
             b"refused F41 NoRefutation p.eo:2001:61769\n",
@@ -113,13 +114,13 @@ fn two_thousand_negations(rt: HostRuntime) {
             b"refused F18 TermHeight p.eo:2001:61769\n",
         ),
     ];
-    assert_eq!(rt; wrong_check(rt.alloc(), &ROWS), None);
+    assert_none(&rt, wrong_check(rt.alloc(), ROWS));
 }
 
 // A macro of many parameters.
 #[test]
 fn sixty_four_parameters(rt: HostRuntime) {
-    const ROWS: [Row<'static>; 2] = [
+    const ROWS: &[Row<'static>] = &[
         (
             ("(define many (", 64, "(x~ Bool)", ") true)\n"),
             b"refused F41 NoRefutation p.eo:2:652\n",
@@ -129,5 +130,5 @@ fn sixty_four_parameters(rt: HostRuntime) {
             b"refused F39 Parameters p.eo:1:0\n",
         ),
     ];
-    assert_eq!(rt; wrong_check(rt.alloc(), &ROWS), None);
+    assert_none(&rt, wrong_check(rt.alloc(), ROWS));
 }

@@ -1,7 +1,7 @@
 //! Checks during which calls of the library or of the sink fail, and checks of a proof that is cut.
 ghost use Rattle.std.specs.Prelude.{◌≤◌};
 
-use super::{ASSERTS_FALSE, CORRECT, check_into};
+use super::{ASSERTS_FALSE, CORRECT, assert_calls, assert_right, check_into};
 use eo_base::Status;
 use eo_cpc::suite;
 use memory_runs::{CHECK, File, Job, Want, calls, does};
@@ -32,7 +32,7 @@ fn calls_of_check(alloc: Global) -> Result<Option<u64>, AllocError> {
 
 #[test]
 fn each_call_in_turn_fails_in_a_check(rt: HostRuntime) {
-    assert_eq!(rt; calls_of_check(rt.alloc()), Ok(Some(831)));
+    assert_calls(&rt, calls_of_check(rt.alloc()), 831);
 }
 
 #[test]
@@ -48,13 +48,13 @@ fn each_call_in_turn_fails_in_a_load(rt: HostRuntime) {
         ],
     );
     let want = Want::Ends(Status::Ok, b"loaded 6 commands\n");
-    assert_eq!(rt; calls(rt.alloc(), &JOB, 8, &want), Ok(Some(24)));
+    assert_calls(&rt, calls(rt.alloc(), &JOB, 8, &want), 24);
 }
 
 #[test]
 fn a_sink_without_room(rt: HostRuntime) {
     let want = Want::Ends(Status::WriteFault, b"cor");
-    assert_eq!(rt; check_into(rt.alloc(), 3, 65_536, 0, &want), Ok(true));
+    assert_right(&rt, check_into(rt.alloc(), 3, 65_536, 0, &want));
 }
 
 /// The line for a proof of which this many bytes are left, without its end.
@@ -88,5 +88,5 @@ fn are_right_cuts(alloc: Global) -> Result<bool, AllocError> {
 
 #[test]
 fn a_proof_that_is_cut(rt: HostRuntime) {
-    assert_eq!(rt; are_right_cuts(rt.alloc()), Ok(true));
+    assert_right(&rt, are_right_cuts(rt.alloc()));
 }

@@ -1,10 +1,11 @@
 //! Signature files that are run alone, with the files that they include.
+use super::{assert_none, assert_right};
 use eo_base::Status;
 use memory_runs::{File, Job, Want, does_in_pieces, does_over_chain, first_wrong, long_text};
 use std::alloc::{AllocError, Global};
 
 /// The files that `a.eo` may include, each with its path.
-const FILES: [(&[u8], &[u8]); 8] = [
+const FILES: &[File<'static>] = &[
     (b"b.eo", b"(include \"d.eo\")\n"),
     (b"c.eo", b"(include \"x/../d.eo\")\n(include \"c.eo\")\n"),
     (b"d.eo", b"(declare-const p Bool)\n"),
@@ -17,7 +18,7 @@ const FILES: [(&[u8], &[u8]); 8] = [
 
 // A function that calls this does not unfold the table in its proof.
 fn files() -> &'static [File<'static>] {
-    &FILES
+    FILES
 }
 
 /// A signature, and the status and the line that it ends with.
@@ -41,7 +42,7 @@ fn wrong(alloc: Global, rows: &[Row<'_>]) -> Option<usize> {
 
 #[test]
 fn signatures_that_are_loaded(rt: HostRuntime) {
-    const ROWS: [Row<'static>; 8] = [
+    const ROWS: &[Row<'static>] = &[
         (b"", Status::Ok, b"loaded 0 commands\n"),
         (
             b"(include \"h\"\"i.eo\")",
@@ -75,12 +76,12 @@ fn signatures_that_are_loaded(rt: HostRuntime) {
             b"loaded 1 commands\n",
         ),
     ];
-    assert_eq!(rt; wrong(rt.alloc(), &ROWS), None);
+    assert_none(&rt, wrong(rt.alloc(), ROWS));
 }
 
 #[test]
 fn signatures_that_are_refused(rt: HostRuntime) {
-    const ROWS: [Row<'static>; 11] = [
+    const ROWS: &[Row<'static>] = &[
         (
             b"(include \"h\xff\")",
             Status::Refused,
@@ -137,7 +138,7 @@ fn signatures_that_are_refused(rt: HostRuntime) {
             b"refused F11 BadCommand a.eo:1:0\n",
         ),
     ];
-    assert_eq!(rt; wrong(rt.alloc(), &ROWS), None);
+    assert_none(&rt, wrong(rt.alloc(), ROWS));
 }
 
 /// Whether a signature of so many `(` is refused with this line.
@@ -149,9 +150,9 @@ fn opens_print(alloc: Global, count: u32, line: &[u8]) -> Result<bool, AllocErro
 #[test]
 fn lists_that_are_nested_too_deep(rt: HostRuntime) {
     let unclosed = opens_print(rt.alloc(), 512, b"refused F02 Unclosed a.eo:1:512\n");
-    assert_eq!(rt; unclosed, Ok(true));
+    assert_right(&rt, unclosed);
     let too_deep = opens_print(rt.alloc(), 513, b"refused F07 Nesting a.eo:1:512\n");
-    assert_eq!(rt; too_deep, Ok(true));
+    assert_right(&rt, too_deep);
 }
 
 /// Files `n0.eo` to `n17.eo` of which each includes the next.
@@ -160,8 +161,5 @@ fn files_are_included_sixteen_deep(rt: HostRuntime) {
     let first: File<'_> = (b"n0.eo", b"(include \"n1.eo\")\n");
     let want = Want::Prints(b"refused F34 IncludeDepth n16.eo:1:0\n");
     let job: Job<'_> = ("ethos load n0.eo", first, &[]);
-    assert_eq!(rt;
-        does_over_chain(rt.alloc(), &job, 18, 65_536, 0, &want),
-        Ok(true)
-    );
+    assert_right(&rt, does_over_chain(rt.alloc(), &job, 18, 65_536, 0, &want));
 }

@@ -1,11 +1,11 @@
 //! Checks of files whose commands open other files.
-use super::CORRECT;
+use super::{CORRECT, assert_calls, assert_none};
 use eo_base::Status;
 use memory_runs::{CHECK, File, Job, Want, calls, does_in_pieces, does_over_chain, first_wrong};
 use std::alloc::{AllocError, Global};
 
 /// The files that a proof may open, each with its path.
-const FILES: [(&[u8], &[u8]); 14] = [
+const FILES: &[File<'static>] = &[
     (b"r.smt2", b"(assert false)\n"),
     (b"t.smt2", b"(assert true)\n"),
     (b"u.smt2", b"(reference \"r.smt2\")\n"),
@@ -24,7 +24,7 @@ const FILES: [(&[u8], &[u8]); 14] = [
 
 // A function that calls this does not unfold the table in its proof.
 fn files() -> &'static [File<'static>] {
-    &FILES
+    FILES
 }
 
 /// The words of a line, a proof, and the line that is printed.
@@ -44,7 +44,7 @@ fn wrong(alloc: Global, rows: &[Row<'_>]) -> Option<usize> {
 
 #[test]
 fn proofs_whose_files_are_accepted(rt: HostRuntime) {
-    const ROWS: [Row<'static>; 12] = [
+    const ROWS: &[Row<'static>] = &[
         (
             CHECK,
             b"(include \"s.eo\")(include \"s.eo\")(assume a false)",
@@ -94,12 +94,12 @@ fn proofs_whose_files_are_accepted(rt: HostRuntime) {
         ),
         (CHECK, b"(\n(include \"f.eo\")\n)\n", CORRECT),
     ];
-    assert_eq!(rt; wrong(rt.alloc(), &ROWS), None);
+    assert_none(&rt, wrong(rt.alloc(), ROWS));
 }
 
 #[test]
 fn included_files_that_are_refused(rt: HostRuntime) {
-    const ROWS: [Row<'static>; 12] = [
+    const ROWS: &[Row<'static>] = &[
         (
             CHECK,
             b"(include \"z.eo\")",
@@ -157,12 +157,12 @@ fn included_files_that_are_refused(rt: HostRuntime) {
             b"refused F30 SecondReference x/l.eo:1:0\n",
         ),
     ];
-    assert_eq!(rt; wrong(rt.alloc(), &ROWS), None);
+    assert_none(&rt, wrong(rt.alloc(), ROWS));
 }
 
 #[test]
 fn reference_files_that_are_refused(rt: HostRuntime) {
-    const ROWS: [Row<'static>; 7] = [
+    const ROWS: &[Row<'static>] = &[
         (
             "ethos check p.eo",
             b"(reference \"z.smt2\")",
@@ -199,12 +199,12 @@ fn reference_files_that_are_refused(rt: HostRuntime) {
             b"refused F29 NoReference p.eo:1:16\n",
         ),
     ];
-    assert_eq!(rt; wrong(rt.alloc(), &ROWS), None);
+    assert_none(&rt, wrong(rt.alloc(), ROWS));
 }
 
 #[test]
 fn jobs_that_are_refused(rt: HostRuntime) {
-    const ROWS: [Row<'static>; 6] = [
+    const ROWS: &[Row<'static>] = &[
         (
             "ethos check --include=x/l.eo --reference=x/../t.smt2 p.eo",
             b"",
@@ -236,7 +236,7 @@ fn jobs_that_are_refused(rt: HostRuntime) {
             b"refused F38 ProofDeclares d.eo:1:0\n",
         ),
     ];
-    assert_eq!(rt; wrong(rt.alloc(), &ROWS), None);
+    assert_none(&rt, wrong(rt.alloc(), ROWS));
 }
 
 /// The last file of a chain, and the line that is printed.
@@ -258,7 +258,7 @@ fn wrong_chain(alloc: Global, rows: &[Chained<'_>]) -> Option<usize> {
 
 #[test]
 fn the_sixteenth_file_may_still_name_the_reference_file(rt: HostRuntime) {
-    const ROWS: [Chained<'static>; 4] = [
+    const ROWS: &[Chained<'static>] = &[
         (b"(reference \"r.smt2\")", b"correct\n"),
         (b"(include \"n3.eo\")(reference \"r.smt2\")", b"correct\n"),
         (
@@ -267,7 +267,7 @@ fn the_sixteenth_file_may_still_name_the_reference_file(rt: HostRuntime) {
         ),
         (b"", b"refused F29 NoReference p.eo:2:18\n"),
     ];
-    assert_eq!(rt; wrong_chain(rt.alloc(), &ROWS), None);
+    assert_none(&rt, wrong_chain(rt.alloc(), ROWS));
 }
 
 #[test]
@@ -276,5 +276,5 @@ fn failing_calls_in_an_included_file(rt: HostRuntime) {
     let want = Want::Ends(Status::Ok, CORRECT);
     let job: Job<'_> = (CHECK, proof, files());
     let made = calls(rt.alloc(), &job, 65_536, &want);
-    assert_eq!(rt; made, Ok(Some(9)));
+    assert_calls(&rt, made, 9);
 }

@@ -1,11 +1,11 @@
 //! What a proof declares, and the terms over it.
-use super::{Refusal, refuses, wrong_refusal};
+use super::{Refusal, assert_none, refuses, wrong_refusal};
 use memory_runs::{first_wrong, joined};
 use std::alloc::{AllocError, Global};
 
 #[test]
 fn declarations_that_are_accepted(rt: HostRuntime) {
-    const ROWS: [Refusal<'static>; 9] = [
+    const ROWS: &[Refusal<'static>] = &[
         (
             b"(declare-fun f (Bool Bool) Bool)(assume a (f true false))",
             b"refused F28 NotAsserted p.eo:1:32\n",
@@ -43,7 +43,7 @@ fn declarations_that_are_accepted(rt: HostRuntime) {
             b"refused F28 NotAsserted p.eo:1:64\n",
         ),
     ];
-    assert_eq!(rt; wrong_refusal(rt.alloc(), &ROWS), None);
+    assert_none(&rt, wrong_refusal(rt.alloc(), ROWS));
 }
 
 /// Bit strings and equality, on the lines 1 to 7, in 441 bytes.
@@ -69,7 +69,7 @@ fn wrong_over_bit_strings(alloc: Global, rows: &[Refusal<'_>]) -> Option<usize> 
 
 #[test]
 fn widths_of_bit_strings_are_compared(rt: HostRuntime) {
-    const ROWS: [Refusal<'static>; 4] = [
+    const ROWS: &[Refusal<'static>] = &[
         (
             b"(assume @a (= (extract 7 4 #xA5) #x5))",
             b"refused F28 NotAsserted p.eo:8:441\n",
@@ -87,5 +87,5 @@ fn widths_of_bit_strings_are_compared(rt: HostRuntime) {
             b"refused F27 NotBool p.eo:8:441\n",
         ),
     ];
-    assert_eq!(rt; wrong_over_bit_strings(rt.alloc(), &ROWS), None);
+    assert_none(&rt, wrong_over_bit_strings(rt.alloc(), ROWS));
 }

@@ -1,4 +1,5 @@
 //! Each rule of the suite: used once as it is meant, and once in a way that is refused.
+use super::assert_none;
 use super::suite::{ACCEPTED, OPEN, Row, other_start};
 
 const STUCK: &[u8] = b"refused F16 Stuck ";
@@ -9,7 +10,7 @@ const DIFFERS: &[u8] = b"refused F26 ConclusionDiffers ";
 
 #[test]
 fn rules_of_equality(rt: HostRuntime) {
-    const ROWS: [Row<'static>; 12] = [
+    const ROWS: &[Row<'static>] = &[
         (b"(step @s (= p p) :rule refl :args (p))", ACCEPTED),
         (b"(step @s (= p q) :rule refl :args (p))", DIFFERS),
         (
@@ -57,12 +58,12 @@ fn rules_of_equality(rt: HostRuntime) {
             DIFFERS,
         ),
     ];
-    assert_eq!(rt; other_start(rt.alloc(), &ROWS), None);
+    assert_none(&rt, other_start(rt.alloc(), ROWS));
 }
 
 #[test]
 fn rules_of_negation_and_implication(rt: HostRuntime) {
-    const ROWS: [Row<'static>; 16] = [
+    const ROWS: &[Row<'static>] = &[
         (
             b"(assume-push @a (not (not p)))(step @s p :rule not_not_elim :premises (@a))",
             OPEN,
@@ -127,12 +128,12 @@ fn rules_of_negation_and_implication(rt: HostRuntime) {
             DIFFERS,
         ),
     ];
-    assert_eq!(rt; other_start(rt.alloc(), &ROWS), None);
+    assert_none(&rt, other_start(rt.alloc(), ROWS));
 }
 
 #[test]
 fn rules_of_conjunction_and_disjunction(rt: HostRuntime) {
-    const ROWS: [Row<'static>; 18] = [
+    const ROWS: &[Row<'static>] = &[
         (
             b"(assume-push @a (and p q))(step @s q :rule and_elim :premises (@a) :args (1))",
             OPEN,
@@ -201,12 +202,12 @@ fn rules_of_conjunction_and_disjunction(rt: HostRuntime) {
             STUCK,
         ),
     ];
-    assert_eq!(rt; other_start(rt.alloc(), &ROWS), None);
+    assert_none(&rt, other_start(rt.alloc(), ROWS));
 }
 
 #[test]
 fn rules_of_resolution_and_exclusion(rt: HostRuntime) {
-    const ROWS: [Row<'static>; 18] = [
+    const ROWS: &[Row<'static>] = &[
         (
             b"(assume-push @a (or p q))(assume-push @b (or (not p) r))
               (step @s (or q r) :rule resolution :premises (@a @b) :args (true p))",
@@ -287,12 +288,12 @@ fn rules_of_resolution_and_exclusion(rt: HostRuntime) {
             MISMATCH,
         ),
     ];
-    assert_eq!(rt; other_start(rt.alloc(), &ROWS), None);
+    assert_none(&rt, other_start(rt.alloc(), ROWS));
 }
 
 #[test]
 fn rules_that_name_a_part_of_a_formula(rt: HostRuntime) {
-    const ROWS: [Row<'static>; 18] = [
+    const ROWS: &[Row<'static>] = &[
         (
             b"(assume-push @a (not (ite p q r)))
               (step @s (or (not p) (not q)) :rule not_ite_elim1 :premises (@a))",
@@ -366,5 +367,5 @@ fn rules_that_name_a_part_of_a_formula(rt: HostRuntime) {
             DIFFERS,
         ),
     ];
-    assert_eq!(rt; other_start(rt.alloc(), &ROWS), None);
+    assert_none(&rt, other_start(rt.alloc(), ROWS));
 }

@@ -1,12 +1,14 @@
 //! The values of terms: formulas and declared types that are evaluated.
-use super::{ASSERTS_FALSE, CORRECT, Refusal, is_right, refuses, wrong_refusal};
+use super::{
+    ASSERTS_FALSE, CORRECT, Refusal, assert_none, assert_right, is_right, refuses, wrong_refusal,
+};
 use eo_base::Status;
 use memory_runs::{first_wrong, joined};
 use std::alloc::{AllocError, Global};
 
 #[test]
 fn formulas_are_evaluated(rt: HostRuntime) {
-    const ROWS: [Refusal<'static>; 12] = [
+    const ROWS: &[Refusal<'static>] = &[
         (
             b"(assume a (eo::not false))",
             b"refused F41 NoRefutation p.eo:1:26\n",
@@ -56,7 +58,7 @@ fn formulas_are_evaluated(rt: HostRuntime) {
             b"refused F41 NoRefutation p.eo:1:53\n",
         ),
     ];
-    assert_eq!(rt; wrong_refusal(rt.alloc(), &ROWS), None);
+    assert_none(&rt, wrong_refusal(rt.alloc(), ROWS));
 }
 
 #[test]
@@ -64,12 +66,12 @@ fn a_test_of_a_stuck_term_is_a_fact(rt: HostRuntime) {
     const PROOF: &[u8] =
         b"(program $g ((x Bool)) :signature (Bool) Bool ((($g false) true)))(assume @p1 (eo::is_ok ($g true)))";
     let row = (ASSERTS_FALSE, PROOF, CORRECT, Status::Ok);
-    assert_eq!(rt; is_right(rt.alloc(), row), Ok(true));
+    assert_right(&rt, is_right(rt.alloc(), row));
 }
 
 #[test]
 fn declared_types_are_evaluated(rt: HostRuntime) {
-    const ROWS: [Refusal<'static>; 10] = [
+    const ROWS: &[Refusal<'static>] = &[
         (
             b"(declare-const c (eo::ite (eo::is_eq Type Type) Bool Type))(assume a c)",
             b"refused F28 NotAsserted p.eo:1:59\n",
@@ -111,7 +113,7 @@ fn declared_types_are_evaluated(rt: HostRuntime) {
             b"refused F22 BadPattern p.eo:1:0\n",
         ),
     ];
-    assert_eq!(rt; wrong_refusal(rt.alloc(), &ROWS), None);
+    assert_none(&rt, wrong_refusal(rt.alloc(), ROWS));
 }
 
 /// Programs that go down from a number, on the lines 1 to 7, in 464 bytes.
@@ -137,7 +139,7 @@ fn wrong_over_countdowns(alloc: Global, rows: &[Refusal<'_>]) -> Option<usize> {
 
 #[test]
 fn calls_have_a_greatest_depth(rt: HostRuntime) {
-    const ROWS: [Refusal<'static>; 8] = [
+    const ROWS: &[Refusal<'static>] = &[
         (
             b"(assume @a (eo::and ($e 999) ($k 998)))",
             b"refused F41 NoRefutation p.eo:8:503\n",
@@ -168,5 +170,5 @@ fn calls_have_a_greatest_depth(rt: HostRuntime) {
         ),
         (b"(assume @a ($e false))", b"refused F16 Stuck p.eo:8:464\n"),
     ];
-    assert_eq!(rt; wrong_over_countdowns(rt.alloc(), &ROWS), None);
+    assert_none(&rt, wrong_over_countdowns(rt.alloc(), ROWS));
 }

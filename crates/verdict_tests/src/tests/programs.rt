@@ -1,10 +1,10 @@
 //! Programs that a proof declares.
-use super::{Refusal, Row, is_right, wrong_refusal};
+use super::{Refusal, Row, assert_none, assert_right, is_right, wrong_refusal};
 use eo_base::Status;
 
 #[test]
 fn programs_and_other_names(rt: HostRuntime) {
-    const ROWS: [Refusal<'static>; 8] = [
+    const ROWS: &[Refusal<'static>] = &[
         (
             b"(program $u () :signature (Bool) Bool ())(program $u () :signature (zz) Bool ())",
             b"refused F12 Redeclared p.eo:1:41\n",
@@ -38,7 +38,7 @@ fn programs_and_other_names(rt: HostRuntime) {
             b"refused F04 BadLiteral p.eo:1:0\n",
         ),
     ];
-    assert_eq!(rt; wrong_refusal(rt.alloc(), &ROWS), None);
+    assert_none(&rt, wrong_refusal(rt.alloc(), ROWS));
 }
 
 #[test]
@@ -46,5 +46,5 @@ fn a_reference_file_declares_no_program(rt: HostRuntime) {
     const REFERENCE: &[u8] = b"(assert true)(program $u () :signature (Bool) Bool ())\n";
     const LINE: &[u8] = b"refused F10 UnknownCommand r.smt2:1:13\n";
     let row: Row<'_> = (REFERENCE, b"", LINE, Status::Refused);
-    assert_eq!(rt; is_right(rt.alloc(), row), Ok(true));
+    assert_right(&rt, is_right(rt.alloc(), row));
 }

@@ -1,16 +1,16 @@
 //! Rules and steps, behind the suite's signature.
 use super::suite::{ACCEPTED, OPEN, Row, begins, other_start};
-use super::{ASSERTS_FALSE, CORRECT, wrong};
+use super::{ASSERTS_FALSE, CORRECT, assert_none, assert_right, wrong};
 use eo_base::Status;
 
 #[test]
 fn the_suite_is_accepted(rt: HostRuntime) {
-    assert_eq!(rt; begins(rt.alloc(), (b"", ACCEPTED)), Ok(true));
+    assert_right(&rt, begins(rt.alloc(), (b"", ACCEPTED)));
 }
 
 #[test]
 fn a_rule_that_is_marked_as_unproved(rt: HostRuntime) {
-    const ROWS: [super::Row<'static>; 4] = [
+    const ROWS: &[super::Row<'static>] = &[
         (
             ASSERTS_FALSE,
             b"(declare-rule trust ((F Bool)) :args (F) :conclusion F :sorry)(assume @p1 false)",
@@ -39,12 +39,12 @@ fn a_rule_that_is_marked_as_unproved(rt: HostRuntime) {
             Status::Ok,
         ),
     ];
-    assert_eq!(rt; wrong(rt.alloc(), &ROWS), None);
+    assert_none(&rt, wrong(rt.alloc(), ROWS));
 }
 
 #[test]
 fn terms_that_have_the_same_value(rt: HostRuntime) {
-    const ROWS: [Row<'static>; 12] = [
+    const ROWS: &[Row<'static>] = &[
         (
             b"(define m ((xs Bool :list)) (or xs p))
               (step @s (= (or p) (_ (_ or p) false)) :rule refl :args ((or p)))",
@@ -99,12 +99,12 @@ fn terms_that_have_the_same_value(rt: HostRuntime) {
             ACCEPTED,
         ),
     ];
-    assert_eq!(rt; other_start(rt.alloc(), &ROWS), None);
+    assert_none(&rt, other_start(rt.alloc(), ROWS));
 }
 
 #[test]
 fn values_of_arguments(rt: HostRuntime) {
-    const ROWS: [Row<'static>; 8] = [
+    const ROWS: &[Row<'static>] = &[
         (
             b"(step @s :rule refl :args ((eo::add 170141183460469231731687303715884105727 1)))",
             b"refused F17 NumberRange ",
@@ -142,12 +142,12 @@ fn values_of_arguments(rt: HostRuntime) {
             ACCEPTED,
         ),
     ];
-    assert_eq!(rt; other_start(rt.alloc(), &ROWS), None);
+    assert_none(&rt, other_start(rt.alloc(), ROWS));
 }
 
 #[test]
 fn other_uses_of_the_suite(rt: HostRuntime) {
-    const ROWS: [Row<'static>; 4] = [
+    const ROWS: &[Row<'static>] = &[
         (b"(step @s true :rule and_intro)", ACCEPTED),
         (
             b"(assume-push @a (= p q))(assume-push @b (= r q))
@@ -164,12 +164,12 @@ fn other_uses_of_the_suite(rt: HostRuntime) {
             OPEN,
         ),
     ];
-    assert_eq!(rt; other_start(rt.alloc(), &ROWS), None);
+    assert_none(&rt, other_start(rt.alloc(), ROWS));
 }
 
 #[test]
 fn steps_that_are_refused(rt: HostRuntime) {
-    const ROWS: [Row<'static>; 20] = [
+    const ROWS: &[Row<'static>] = &[
         (b"(step @a :rule nope)", b"refused F23 UnknownRule "),
         (
             b"(step @a :rule contra :premises (@z @z))",
@@ -250,5 +250,5 @@ fn steps_that_are_refused(rt: HostRuntime) {
             b"refused F11 BadCommand ",
         ),
     ];
-    assert_eq!(rt; other_start(rt.alloc(), &ROWS), None);
+    assert_none(&rt, other_start(rt.alloc(), ROWS));
 }

@@ -1,11 +1,11 @@
 //! Scopes: assumptions that steps discharge.
 use super::suite::{ACCEPTED, OPEN, Row, other_start};
-use super::{ASSERTS_FALSE, wrong};
+use super::{ASSERTS_FALSE, assert_none, wrong};
 use eo_base::Status;
 
 #[test]
 fn what_is_known_in_a_scope_ends_with_it(rt: HostRuntime) {
-    const ROWS: [Row<'static>; 13] = [
+    const ROWS: &[Row<'static>] = &[
         // A fact of a closed scope.
         (
             b"(assume-push @a p)(step-pop @s (=> p p) :rule scope :premises (@a))
@@ -78,12 +78,12 @@ fn what_is_known_in_a_scope_ends_with_it(rt: HostRuntime) {
             ACCEPTED,
         ),
     ];
-    assert_eq!(rt; other_start(rt.alloc(), &ROWS), None);
+    assert_none(&rt, other_start(rt.alloc(), ROWS));
 }
 
 #[test]
 fn commands_in_a_scope(rt: HostRuntime) {
-    const ROWS: [Row<'static>; 21] = [
+    const ROWS: &[Row<'static>] = &[
         (
             b"(assume-push @a p)(declare-const c Bool)",
             b"refused F31 InScope ",
@@ -145,12 +145,12 @@ fn commands_in_a_scope(rt: HostRuntime) {
             b"refused F12 Redeclared ",
         ),
     ];
-    assert_eq!(rt; other_start(rt.alloc(), &ROWS), None);
+    assert_none(&rt, other_start(rt.alloc(), ROWS));
 }
 
 #[test]
 fn the_end_of_a_proof(rt: HostRuntime) {
-    const ROWS: [super::Row<'static>; 4] = [
+    const ROWS: &[super::Row<'static>] = &[
         (
             ASSERTS_FALSE,
             b"(assume-push @a false)",
@@ -177,5 +177,5 @@ fn the_end_of_a_proof(rt: HostRuntime) {
             Status::Refused,
         ),
     ];
-    assert_eq!(rt; wrong(rt.alloc(), &ROWS), None);
+    assert_none(&rt, wrong(rt.alloc(), ROWS));
 }

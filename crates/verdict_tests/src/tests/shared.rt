@@ -1,6 +1,6 @@
 //! Proofs that are long, or whose terms are small only because their parts are shared: as trees they
 //! have more than 2^60 parts. Each is answered at once, accepted, and refutes nothing.
-use super::refuses;
+use super::{assert_none, refuses};
 use memory_runs::{Long, first_wrong, long_text};
 use std::alloc::{AllocError, Global};
 
@@ -19,7 +19,7 @@ fn wrong(alloc: Global, rows: &[Row<'_>]) -> Option<usize> {
 
 #[test]
 fn shared_terms_are_answered_at_once(rt: HostRuntime) {
-    const ROWS: [Row<'static>; 5] = [
+    const ROWS: &[Row<'static>] = &[
         // a constant of a function type `t60`, each from the one before it to itself
         (
             (
@@ -71,24 +71,24 @@ fn shared_terms_are_answered_at_once(rt: HostRuntime) {
             b"refused F41 NoRefutation p.eo:63:2059\n",
         ),
     ];
-    assert_eq!(rt; wrong(rt.alloc(), &ROWS), None);
+    assert_none(&rt, wrong(rt.alloc(), ROWS));
 }
 
 // Macros for bit strings of which a hash by multiplication, with a seed that is known, makes one
 // number: their upper half is its factor, so that the lower half counts for nothing.
 #[test]
 fn numbers_of_one_family_are_answered_at_once(rt: HostRuntime) {
-    const ROWS: [Row<'static>; 1] = [(
+    const ROWS: &[Row<'static>] = &[(
         ("", 20_000, "(define n~ () #x9e3779b97f4a7c15%)\n", ""),
         b"refused F41 NoRefutation p.eo:20001:1068890\n",
     )];
-    assert_eq!(rt; wrong(rt.alloc(), &ROWS), None);
+    assert_none(&rt, wrong(rt.alloc(), ROWS));
 }
 
 // A program of one line, with a number in each of its cases.
 #[test]
 fn a_long_program_is_answered_at_once(rt: HostRuntime) {
-    const ROWS: [Row<'static>; 1] = [(
+    const ROWS: &[Row<'static>] = &[(
         (
             "(program $u ((x Bool)) :signature (Bool Bool) Bool (",
             10_000,
@@ -97,5 +97,5 @@ fn a_long_program_is_answered_at_once(rt: HostRuntime) {
         ),
         b"refused F41 NoRefutation p.eo:1:247834\n",
     )];
-    assert_eq!(rt; wrong(rt.alloc(), &ROWS), None);
+    assert_none(&rt, wrong(rt.alloc(), ROWS));
 }
