@@ -111,13 +111,13 @@ fn time_terms(
         println!(rt; "{first} new, then {again} new")?;
     }
     if asked.is_some() {
-        println!(rt;
-            "{} us, then {} us",
-            first_time.as_micros(),
-            again_time.as_micros()
-        )?;
+        print_times(rt, first_time.as_micros(), again_time.as_micros())?;
     }
     Ok(())
+}
+
+fn print_times(rt: &HostRuntime, first: u128, again: u128) -> io::Result<()> {
+    println!(rt; "{first} us, then {again} us")
 }
 
 /// Times all, in a table that holds its first terms.
@@ -138,11 +138,16 @@ fn time_all(rt: &HostRuntime, table: &mut Table, asked: Option<usize>) -> io::Re
 fn asked(rt: &HostRuntime) -> io::Result<Option<usize>> {
     let mut words = env::args(rt)?;
     drop(words.next());
-    let count = words
-        .next()
-        .and_then(|word| word.as_str().parse::<usize>().ok());
+    let count = number_of(words.next());
     drop(words);
     Ok(count)
+}
+
+fn number_of(word: Option<String>) -> Option<usize> {
+    let word = word?;
+    let number = word.as_str().parse::<usize>().ok();
+    drop(word);
+    number
 }
 
 fn main(rt: HostRuntime) -> io::Result<()> {
