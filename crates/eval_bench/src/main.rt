@@ -261,9 +261,13 @@ fn time(rt: &HostRuntime, w: &mut World, id: Id, timed: bool) -> io::Result<()> 
     let time = start.elapsed(rt)?;
     println!(rt; "{}", word_of(outcome))?;
     if timed {
-        println!(rt; "{} us", time.as_micros())?;
+        print_time(rt, time.as_micros())?;
     }
     Ok(())
+}
+
+fn print_time(rt: &HostRuntime, us: u128) -> io::Result<()> {
+    println!(rt; "{us} us")
 }
 
 fn time_all(rt: &HostRuntime, w: &mut World, n: usize, timed: bool) -> io::Result<()> {
@@ -273,8 +277,8 @@ fn time_all(rt: &HostRuntime, w: &mut World, n: usize, timed: bool) -> io::Resul
     let Some(ids) = terms(w, n) else {
         return Ok(());
     };
-    for id in ids {
-        time(rt, w, id, timed)?;
+    for id in &ids {
+        time(rt, w, *id, timed)?;
     }
     Ok(())
 }
