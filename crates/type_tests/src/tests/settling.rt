@@ -12,13 +12,13 @@ fn each_branch_is_settled(rt: HostRuntime) -> Result<(), Fail> {
 // Choices, of which one has a stuck branch that is not taken, and an operator with a parameter.
 fn branches_are_settled(w: &mut World) -> Result<bool, Fail> {
     let zero = w.num(0)?;
-    let stuck = w.op2(OpName::Zdiv, zero, zero)?;
-    let taken = w.choice(TRUE, zero, BOOL)?;
-    let other = w.choice(FALSE, zero, BOOL)?;
-    let neither = w.choice(BOOL, zero, BOOL)?;
-    let untaken = w.choice(TRUE, zero, stuck)?;
+    let stuck = w.op(OpName::Zdiv, &[zero, zero])?;
+    let taken = w.op(OpName::Ite, &[TRUE, zero, BOOL])?;
+    let other = w.op(OpName::Ite, &[FALSE, zero, BOOL])?;
+    let neither = w.op(OpName::Ite, &[BOOL, zero, BOOL])?;
+    let untaken = w.op(OpName::Ite, &[TRUE, zero, stuck])?;
     let open = w.par(0)?;
-    let kept = w.op1(OpName::Neg, open)?;
+    let kept = w.op(OpName::Neg, &[open])?;
     settle_to(
         w,
         &[

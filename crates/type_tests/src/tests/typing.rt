@@ -23,7 +23,7 @@ fn declare_bits(w: &mut World) -> Result<Id, Fail> {
 // The type of a class of bit strings, the constant 5 applied to the literal's width.
 fn type_of_bits(w: &mut World) -> Result<Id, Fail> {
     let literal = w.par(0)?;
-    let width = w.op1(OpName::Len, literal)?;
+    let width = w.op(OpName::Len, &[literal])?;
     let vector = w.con(5)?;
     w.app(vector, width)
 }
@@ -46,9 +46,9 @@ fn extract_width(w: &mut World) -> Result<Id, Fail> {
     let high = w.par(1)?;
     let low = w.par(2)?;
     let one = w.num(1)?;
-    let end = w.op2(OpName::Add, high, one)?;
-    let start = w.op1(OpName::Neg, low)?;
-    w.op2(OpName::Add, end, start)
+    let end = w.op(OpName::Add, &[high, one])?;
+    let start = w.op(OpName::Neg, &[low])?;
+    w.op(OpName::Add, &[end, start])
 }
 
 // The bits from a high place to a low one.

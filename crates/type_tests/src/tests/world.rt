@@ -1,7 +1,8 @@
 //! Terms, and a signature that declares constants of their types.
-ghost use Rattle.std.specs.Prelude.{◌≡◌, ℕ, ◌<◌, ◌≤◌, List, length, All, IfOk, OnOk};
+ghost use Rattle.std.specs.Prelude.{◌≡◌, ℕ, ◌<◌, ◌≤◌, List, length, All, IsTrue, IfOk, OnOk};
 ghost use Rattle.eo_term.specs.Tree.{Tree};
 ghost use Rattle.eo_term.specs.Terms.{PartsBelow, TextsBelow, IsPlain, IsProper, arity};
+ghost use Rattle.eo_sig.specs.declared.records.ConstDecl.{ConstDecl};
 ghost use Rattle.eo_sig.specs.Reading.{IsBelow, ConstBelow};
 ghost use Rattle.eo_type.specs.Known.{Fit};
 
@@ -45,12 +46,40 @@ impl World {
 
     /// A constant, by its number.
     pub(super) fn con(&mut self, number: usize) -> Result<Id, Fail> {
-        Ok(made(&mut self.table, Node::Con(number))?)
+        self.node(Node::Con(number))
     }
 
     /// A number.
     pub(super) fn num(&mut self, number: i128) -> Result<Id, Fail> {
-        Ok(made(&mut self.table, Node::Num(number))?)
+        self.node(Node::Num(number))
+    }
+
+    /// A parameter, by its number.
+    pub(super) fn par(&mut self, number: u8) -> Result<Id, Fail> {
+        self.node(Node::Par(number))
+    }
+
+    /// A term applied to another.
+    pub(super) fn app(&mut self, fun: Id, arg: Id) -> Result<Id, Fail> {
+        self.node(Node::App { fun, arg })
+    }
+
+    /// The type of functions from one type to another.
+    pub(super) fn arr(&mut self, from: Id, to: Id) -> Result<Id, Fail> {
+        self.node(Node::Arr { from, to })
+    }
+
+    /// The type of functions whose argument is bound as a parameter.
+    pub(super) fn qar(&mut self, par: u8, ty: Id, to: Id) -> Result<Id, Fail> {
+        self.node(Node::Qar { par, ty, to })
+    }
+
+    // The term with this root, in which no text stands and which is no operator.
+    fn node(&mut self, node: Node) -> Result<Id, Fail> {
+        if !has_parts(&self.table, &node) {
+            return Err(Fail::new("no parts of a term"));
+        }
+        Ok(made(&mut self.table, node)?)
     }
 
     /// The bit string `#xA5`.
@@ -68,14 +97,6 @@ impl World {
         Ok(made(&mut self.table, Node::Str(text))?)
     }
 
-    /// A parameter, by its number.
-    pub(super) fn par(&mut self, number: u8) -> Result<Id, Fail> {
-        if number >= 64 {
-            return Err(Fail::new("no parameter"));
-        }
-        Ok(made(&mut self.table, Node::Par(number))?)
-    }
-
     /// The variable `x` of this type.
     pub(super) fn var(&mut self, ty: Id) -> Result<Id, Fail> {
         let ty = live(&self.table, ty)?;
@@ -83,62 +104,21 @@ impl World {
         Ok(made(&mut self.table, Node::Var { name, ty })?)
     }
 
-    /// A term applied to another.
-    pub(super) fn app(&mut self, fun: Id, arg: Id) -> Result<Id, Fail> {
-        let fun = live(&self.table, fun)?;
-        let arg = live(&self.table, arg)?;
-        Ok(made(&mut self.table, Node::App { fun, arg })?)
-    }
-
-    /// The type of functions from one type to another.
-    pub(super) fn arr(&mut self, from: Id, to: Id) -> Result<Id, Fail> {
-        let from = live(&self.table, from)?;
-        let to = live(&self.table, to)?;
-        Ok(made(&mut self.table, Node::Arr { from, to })?)
-    }
-
-    /// The type of functions whose argument is bound as a parameter.
-    pub(super) fn qar(&mut self, par: u8, ty: Id, to: Id) -> Result<Id, Fail> {
-        if par >= 64 {
-            return Err(Fail::new("no parameter"));
+    /// An operator on its arguments.
+    pub(super) fn op(&mut self, op: OpName, args: &[Id]) -> Result<Id, Fail> {
+        if args.len() != op.arity() || !are_live(&self.table, args) {
+            return Err(Fail::new("no arguments of the operator"));
         }
-        let ty = live(&self.table, ty)?;
-        let to = live(&self.table, to)?;
-        Ok(made(&mut self.table, Node::Qar { par, ty, to })?)
-    }
-
-    /// An operator with one argument.
-    pub(super) fn op1(&mut self, op: OpName, arg: Id) -> Result<Id, Fail>
-        requires { arity op ≡ 1 }
-    {
-        let arg = live(&self.table, arg)?;
-        Ok(made_op(&mut self.table, op, &[arg])?)
-    }
-
-    /// An operator with two arguments.
-    pub(super) fn op2(&mut self, op: OpName, a: Id, b: Id) -> Result<Id, Fail>
-        requires { arity op ≡ 2 }
-    {
-        let a = live(&self.table, a)?;
-        let b = live(&self.table, b)?;
-        Ok(made_op(&mut self.table, op, &[a, b])?)
-    }
-
-    /// A choice.
-    pub(super) fn choice(&mut self, test: Id, yes: Id, no: Id) -> Result<Id, Fail> {
-        let test = live(&self.table, test)?;
-        let first = live(&self.table, yes)?;
-        let second = live(&self.table, no)?;
-        Ok(made_op(&mut self.table, OpName::Ite, &[test, first, second])?)
+        Ok(made_op(&mut self.table, op, args)?)
     }
 
     /// Declares a constant of this type.
     pub(super) fn declare(&mut self, name: &[u8], ty: Id) -> Result<(), Fail> {
-        let ty = live(&self.table, ty)?;
-        let d = constant(self.alloc, name, ty)?;
-        if !self.sig.is_free(d.name.as_bytes()) {
+        if !self.sig.is_free(name) {
             return Err(Fail::new("no free name"));
         }
+        let ty = live(&self.table, ty)?;
+        let d = constant(self.alloc, name, ty)?;
         self.sig.declare(&self.table, d)?;
         Ok(())
     }
@@ -231,6 +211,39 @@ fn live(table: &Table, id: Id) -> Result<Id, Fail>
     Ok(id)
 }
 
+// Whether each term is one of the table.
+fn are_live(table: &Table, ids: &[Id]) -> bool
+    ensures { IsTrue result → All (λ i. i < length table.now.trees) ids.now }
+{
+    let count = table.len();
+    ids.iter().all(|id| id.place() < count)
+}
+
+// Whether the parts of a node are terms of the table, where no text stands in it and it is no
+// operator.
+fn has_parts(table: &Table, node: &Node) -> bool
+    ensures plain { IsTrue result → IsPlain node.now }
+    ensures parts { IsTrue result → PartsBelow (length table.now.trees) node.now }
+    ensures texts { IsTrue result → TextsBelow (length table.now.texts) node.now }
+    ensures proper { IsTrue result → IsProper node.now }
+{
+    match *node {
+        Node::Con(_) | Node::Num(_) => true,
+        Node::Par(number) => number < 64,
+        Node::App { fun, arg } => has(table, fun) && has(table, arg),
+        Node::Arr { from, to } => has(table, from) && has(table, to),
+        Node::Qar { ty, to, .. } => has(table, ty) && has(table, to),
+        _ => false,
+    }
+}
+
+// Whether the term is one of the table.
+fn has(table: &Table, id: Id) -> bool
+    ensures { IsTrue result → id < length table.now.trees }
+{
+    id.place() < table.len()
+}
+
 // The term with this root.
 fn made(table: &mut Table, node: Node) -> Result<Id, TermRefused>
     requires plain { IsPlain node }
@@ -253,7 +266,8 @@ fn made_op(table: &mut Table, op: OpName, args: &[Id]) -> Result<Id, TermRefused
 
 // A constant of this type, with no parameters.
 fn constant(alloc: Global, name: &[u8], ty: Id) -> Result<ConstDecl, Fail>
-    ensures { IfOk result (λ d. (n : ℕ) → ty < n → ConstBelow n d) }
+    ensures below { IfOk result (λ d. (n : ℕ) → ty < n → ConstBelow n d) }
+    ensures named { IfOk result (λ (d : ConstDecl). d.name ≡ name.now) }
 {
     Ok(ConstDecl {
         name: Name::new(alloc, name)?,
