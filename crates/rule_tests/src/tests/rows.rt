@@ -1,4 +1,5 @@
-//! Constants and rules to be declared, and uses of them with what they give. Terms stand as codes (`codes`).
+//! Constants and rules to be declared, and uses of rules with what they give. Terms stand as codes
+//! (`codes`).
 use eo_base::FaultName;
 use eo_term::Id;
 

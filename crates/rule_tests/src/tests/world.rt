@@ -364,8 +364,8 @@ pub(super) fn all_right(alloc: Global, trials: &[Trial<'_>]) -> Result<(), Fail>
     Ok(())
 }
 
-// The first such use of one trial, if one is. This alone owns a world, and lets go of it by a call: each way out of a
-// function that lets go of one by itself is dear to prove.
+// The first such use of one trial, if there is one. This alone owns a world, and lets go of it by a
+// call: each way out of a function that lets go of one by itself is dear to prove.
 fn wrong_in(alloc: Global, trial: &Trial<'_>) -> Result<Option<usize>, Fail> {
     let mut w = World::first(alloc)?;
     let answer = w.try_out(trial);
