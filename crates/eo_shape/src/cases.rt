@@ -10,7 +10,7 @@ use eo_sexp::{Children, Sexp};
 use std::marker::Model;
 
 /// The cases of a program in a list of which each part has the shape of one, in order.
-#[derive(Debug, Drop)]
+#[derive(Drop)]
 pub struct CaseShapes<'a> {
     program: &'a [u8],
     items: Children<'a>,

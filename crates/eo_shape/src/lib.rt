@@ -20,7 +20,7 @@ pub use shaping::command_of;
 pub use words::symbol;
 
 /// A parameter: a name and a type, with at most one of each mark.
-#[derive(Debug, Drop)]
+#[derive(Drop)]
 pub struct ParameterShape<'a> {
     /// The name.
     pub name: &'a [u8],
@@ -33,7 +33,7 @@ pub struct ParameterShape<'a> {
 }
 
 /// How a constant folds its arguments (Ethos manual, attributes of constants).
-#[derive(Debug, Drop)]
+#[derive(Drop)]
 pub enum AttributeShape<'a> {
     /// Nothing is said.
     None,
@@ -54,7 +54,7 @@ pub enum AttributeShape<'a> {
 }
 
 /// A case of a program: what the program is applied to, and the body.
-#[derive(Debug, Drop)]
+#[derive(Drop)]
 pub struct CaseShape<'a> {
     /// The patterns of the arguments.
     pub patterns: Children<'a>,
@@ -63,7 +63,7 @@ pub struct CaseShape<'a> {
 }
 
 /// A program by its parts.
-#[derive(Debug, Drop)]
+#[derive(Drop)]
 pub struct ProgramShape<'a> {
     /// The name.
     pub name: &'a [u8],
@@ -78,7 +78,7 @@ pub struct ProgramShape<'a> {
 }
 
 /// Two terms that are to have the same value.
-#[derive(Debug, Drop)]
+#[derive(Drop)]
 pub struct PairShape<'a> {
     /// The first.
     pub left: Sexp<'a>,
@@ -87,7 +87,7 @@ pub struct PairShape<'a> {
 }
 
 /// What the premises of a rule are matched with.
-#[derive(Debug, Drop)]
+#[derive(Drop)]
 pub enum PremisesShape<'a> {
     /// A pattern for each.
     Each(Children<'a>),
@@ -101,7 +101,7 @@ pub enum PremisesShape<'a> {
 }
 
 /// A rule by its parts.
-#[derive(Debug, Drop)]
+#[derive(Drop)]
 pub struct RuleShape<'a> {
     /// The name.
     pub name: &'a [u8],
@@ -122,7 +122,7 @@ pub struct RuleShape<'a> {
 }
 
 /// A step by its parts.
-#[derive(Debug, Drop)]
+#[derive(Drop)]
 pub struct StepShape<'a> {
     /// The name of the fact.
     pub name: &'a [u8],
@@ -137,7 +137,7 @@ pub struct StepShape<'a> {
 }
 
 /// A command by its parts.
-#[derive(Debug, Drop)]
+#[derive(Drop)]
 pub enum Command<'a> {
     /// `(declare-const NAME TYPE ATTRIBUTE)`
     DeclareConst {

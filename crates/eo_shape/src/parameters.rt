@@ -13,7 +13,7 @@ use eo_sexp::{Children, Sexp};
 use std::marker::Model;
 
 /// The parameters of a list of which each part has the shape of one, in order.
-#[derive(Debug, Drop)]
+#[derive(Drop)]
 pub struct ParameterShapes<'a> {
     items: Children<'a>,
 }

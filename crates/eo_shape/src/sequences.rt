@@ -11,7 +11,7 @@ use eo_sexp::{Children, Sexp};
 use std::marker::Model;
 
 /// The symbols of a list of which each part is one, in order.
-#[derive(Debug, Drop)]
+#[derive(Drop)]
 pub struct Symbols<'a> {
     items: Children<'a>,
 }
@@ -93,7 +93,7 @@ fn are_symbols(items: &Children<'_>) -> bool
 }
 
 /// The pairs of a list of which each part is a list of two, in order.
-#[derive(Debug, Drop)]
+#[derive(Drop)]
 pub struct PairShapes<'a> {
     items: Children<'a>,
 }
