@@ -15,7 +15,7 @@ use Rattle.eo_proof.specs.declared.facts.Begun.{Begun}
 use Rattle.eo_proof.specs.Kept as fact
 use Rattle.eo_proof.specs.Kept.{NamedId, scopes, with_named, with_begun, without_begun, AreBegun, AreBelow}
 use Rattle.eo_session.specs.declared.held.Held.{Held}
-use Rattle.eo_session.specs.declared.marks.ScopeMark.{ScopeMark}
+use Rattle.eo_reclaim.specs.declared.ScopeMark.{ScopeMark}
 use Rattle.eo_session.specs.Held.{state_of, macro_marks, Holding, holding, cut, outside, roots_in, HoldsOnly, IsExact, AreExact, AreMarked, AreMarks, IsLive}
 use Rattle.eo_session.specs.Roots.{roots, roots_of, live_count}
 use Rattle.eo_session.proofs.Counting.{first, count_is}

@@ -24,7 +24,7 @@ use Rattle.eo_proof.specs.Scopes as proof
 use Rattle.eo_proof.specs.Scopes.{Scopes, no_facts}
 use Rattle.eo_session.specs.declared.held.Held.{Held}
 use Rattle.eo_ref.specs.Ids.{has_id, with_id}
-use Rattle.eo_session.specs.declared.marks.ScopeMark.{ScopeMark}
+use Rattle.eo_reclaim.specs.declared.ScopeMark.{ScopeMark}
 use Rattle.eo_session.specs.Held.{state_of, macro_marks, AreValues, AreMarks, IsHeld, IsWhole, Keeps}
 use Rattle.eo_session.specs.State.{State, context, first_state, macros_before, with_entry, with_macro, with_fact, with_scope, without_scope, with_assertion}
 use Rattle.eo_session.proofs.Alive.{own_mark, live_grown}

@@ -2,7 +2,6 @@ pub mod Adding
 pub mod Alive
 pub mod Counting
 pub mod Members
-pub mod Moved
 pub mod Rooted
 pub mod Assertions
 pub mod Closed

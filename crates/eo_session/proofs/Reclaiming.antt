@@ -28,12 +28,13 @@ use Rattle.eo_proof.specs.Kept.{NamedId, opened, scopes, with_named, with_begun,
 use Rattle.eo_proof.specs.Scopes.{Scopes, depth, no_facts}
 use Rattle.eo_type.specs.Known.{FitsCut, Lasts}
 use Rattle.eo_session.specs.declared.held.Held.{Held}
-use Rattle.eo_session.specs.declared.marks.ScopeMark.{ScopeMark}
+use Rattle.eo_reclaim.specs.declared.ScopeMark.{ScopeMark}
 use Rattle.eo_session.specs.Held.{state_of, macro_marks, AreValues, IsHeld, IsExact, IsWhole, IsSettled, HoldsOnly, Carries, label_trees}
 use Rattle.eo_names.specs.Names.{Binding, with_terms}
 use Rattle.eo_names.specs.Readers.{Label}
 use Rattle.eo_elab.specs.Worlds.{labels_in}
-use Rattle.eo_session.specs.Roots.{macro_trees, roots}
+use Rattle.eo_reclaim.specs.Trees.{macro_trees}
+use Rattle.eo_session.specs.Roots.{roots}
 use Rattle.eo_session.specs.State as state
 use Rattle.eo_session.specs.State.{State, context, is_in_scope, is_asserted, with_assertion}
 use Rattle.eo_session.specs.Step.{label_macro, with_labels}

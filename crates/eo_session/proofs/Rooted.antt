@@ -1,30 +1,27 @@
 -- The trees of what is held, and what holds of each of them.
-use Rattle.std.proofs.Common.{◌≡◌, refl, sym, ap, subst, ◌∙◌, inl, inr, ℕ, suc, ◌+◌, ◌<◌, ◌≤◌, Bool, true, false, List, [], ◌∷◌, ◌++◌, length, map, take, drop, Option, Some, None, Contains, All, arith}
-use Rattle.std.specs.Prelude.{flat_map, filter_map, option_map, option_to_list, if◌then◌else◌}
+use Rattle.std.proofs.Common.{◌≡◌, refl, sym, ap, subst, ◌∙◌, inl, inr, ℕ, suc, ◌+◌, ◌<◌, ◌≤◌, Bool, true, false, List, [], ◌∷◌, ◌++◌, length, map, take, drop, Contains, All, arith}
+use Rattle.std.specs.Prelude.{flat_map, filter_map, if◌then◌else◌}
 use Rattle.std.proofs.lemmas.Map.Views.{Contains-from_any}
 use Rattle.std.proofs.lemmas.List.{map-append, append-nil}
 use Rattle.std.proofs.lemmas.List.Elements.{All-nil, All-cons, All-head, All-tail, All-append, All-map, All-weaker, All-take, All-drop, Contains-append_left, Contains-append_right, Contains-append_cases}
 use Rattle.eo_term.specs.Terms.{tree_at}
 use Rattle.eo_term.specs.Tree.{Tree, Con, tree_eq}
-use Rattle.eo_sig.specs.declared.records.Param.{Param}
-use Rattle.eo_sig.specs.declared.records.Attribute as code_attribute
-use Rattle.eo_sig.specs.declared.records.Attribute.TheVariants as attribute
 use Rattle.eo_sig.specs.declared.records.ConstDecl.{ConstDecl}
 use Rattle.eo_sig.specs.declared.records.MacroDecl.{MacroDecl}
-use Rattle.eo_sig.specs.declared.records.Case as code_case
 use Rattle.eo_sig.specs.declared.records.ProgramDecl.{ProgramDecl}
-use Rattle.eo_sig.specs.declared.records.PremiseShape as code_premises
-use Rattle.eo_sig.specs.declared.records.PremiseShape.TheVariants as premises
 use Rattle.eo_sig.specs.declared.records.RuleDecl.{RuleDecl}
 use Rattle.eo_sig.specs.declared.records.Declared.{Declared}
 use Rattle.eo_sig.specs.declared.records.Declared.TheVariants as declared
-use Rattle.eo_sig.specs.Reading.{Kept, read_parameter, read_attribute, read_constant, read_macro, read_case, read_program, read_premises, read_pair, read_rule, read_entry, signature, macros, const_of, constants_of, AttributeBelow, ConstBelow, MacroBelow, CaseBelow, ProgramBelow, PremisesBelow, SomeBelow, RuleBelow, EntryBelow, IsBelow}
-use Rattle.eo_sig.specs.Signature.{Signature, SignatureEntry, IsConstant, IsProgram, IsRule, IsLiteralType, Parameter, Macro, constants, premise_patterns}
+use Rattle.eo_sig.specs.Reading.{Kept, read_constant, read_macro, read_program, read_rule, read_entry, signature, macros, const_of, constants_of, ConstBelow, MacroBelow, ProgramBelow, RuleBelow, EntryBelow, IsBelow}
+use Rattle.eo_sig.specs.Signature.{Signature, SignatureEntry, IsConstant, IsProgram, IsRule, IsLiteralType, Macro, constants}
 use Rattle.eo_proof.specs.declared.facts.Begun.{Begun}
 use Rattle.eo_proof.specs.Kept as fact
 use Rattle.eo_proof.specs.Kept.{NamedId, read_fact, outer_facts, opened, scopes, AreBelow}
 use Rattle.eo_proof.specs.Scopes.{Fact, Scope, Scopes, opened_facts, formulas, with_fact, with_scope, in_innermost, fact as one_fact}
-use Rattle.eo_session.specs.Roots.{types_of, terminators, constant_trees, macro_trees, case_trees, program_trees, pair_trees, rule_trees, entry_trees, roots_of, roots}
+use Rattle.eo_reclaim.specs.Moving.{constant_ids, macro_ids, program_ids, rule_ids}
+use Rattle.eo_reclaim.specs.Trees.{constant_trees, macro_trees, program_trees, rule_trees}
+use Rattle.eo_reclaim.proofs.Moved.{constant_read, constant_terms, macro_read, macro_terms, program_read, program_terms, rule_read, rule_terms}
+use Rattle.eo_session.specs.Roots.{entry_trees, roots_of, roots}
 use Rattle.eo_session.specs.State as state
 use Rattle.eo_session.specs.State.{State, with_entry, with_assertion, is_asserted}
 use Rattle.eo_session.proofs.Counting.{first}
@@ -39,74 +36,17 @@ module _ (ts : List Tree) (n : ℕ) (P : Tree → Type 0) (each : (i : ℕ) → 
   ids : (is : List ℕ) → All (λ i. i < n) is → All P (map (tree_at ts) is)
   ids is a = All-map P (tree_at ts) is (All-weaker (λ i. i < n) (λ i. P (tree_at ts i)) each is a)
 
-  types : (ps : List Param) → All (λ p. p.ty < n) ps → All P (types_of (map (read_parameter ts) ps))
-  types ps a =
-      All-map P (λ (p : Parameter). p.type) (map (read_parameter ts) ps)
-      (All-map (λ (p : Parameter). P p.type) (read_parameter ts) ps (All-weaker (λ (p : Param). p.ty < n) (λ (p : Param). P (tree_at ts p.ty)) (λ p. each p.ty) ps a))
-
-  terms : (a : code_attribute.Attribute) → AttributeBelow n a → All P (terminators (read_attribute ts a))
-  terms attribute.Plain h = All-nil P
-  terms (attribute.RightNil t) h = All-cons P (tree_at ts t) [] (each t h) (All-nil P)
-  terms (attribute.LeftNil t) h = All-cons P (tree_at ts t) [] (each t h) (All-nil P)
-  terms attribute.Right h = All-nil P
-  terms attribute.Left h = All-nil P
-  terms (attribute.Chain g) h = All-nil P
-  terms (attribute.Pairs g) h = All-nil P
-  terms (attribute.Binder g) h = All-nil P
-
   of_constant : (d : ConstDecl) → ConstBelow n d → All P (constant_trees (read_constant ts d))
-  of_constant d h =
-      let ps = types_of (map (read_parameter ts) d.params) in
-      All-append P (tree_at ts d.ty ∷ ps) (terminators (read_attribute ts d.attribute)) (All-cons P (tree_at ts d.ty) ps (each d.ty h.type) (types d.params h.params)) (terms d.attribute h.attribute)
+  of_constant d h = subst (All P) (constant_read ts d) (ids (constant_ids d) (constant_terms n d h))
 
   of_macro : (d : MacroDecl) → MacroBelow n d → All P (macro_trees (read_macro ts d))
-  of_macro d h = All-cons P (tree_at ts d.tree) (types_of (map (read_parameter ts) d.params)) (each d.tree h.tree) (types d.params h.params)
-
-  of_cases : (ks : List code_case.Case) → All (CaseBelow n) ks → All P (flat_map case_trees (map (read_case ts) ks))
-  of_cases [] a = All-nil P
-  of_cases (k ∷ ks) a =
-      let h = All-head (CaseBelow n) k ks a in
-      let ps = map (tree_at ts) k.patterns in
-      All-append P (tree_at ts k.body ∷ ps) (flat_map case_trees (map (read_case ts) ks)) (All-cons P (tree_at ts k.body) ps (each k.body h.body) (ids k.patterns h.patterns)) (of_cases ks (All-tail (CaseBelow n) k ks a))
+  of_macro d h = subst (All P) (macro_read ts d) (ids (macro_ids d) (macro_terms n d h))
 
   of_program : (d : ProgramDecl) → ProgramBelow n d → All P (program_trees (read_program ts d))
-  of_program d h =
-      let is = map (tree_at ts) d.inputs in
-      let ps = types_of (map (read_parameter ts) d.params) in
-      All-append P ((tree_at ts d.output ∷ is) ++ ps) (flat_map case_trees (map (read_case ts) d.cases))
-      (All-append P (tree_at ts d.output ∷ is) ps (All-cons P (tree_at ts d.output) is (each d.output h.output) (ids d.inputs h.inputs)) (types d.params h.params))
-      (of_cases d.cases h.cases)
-
-  of_option : (o : Option ℕ) → SomeBelow n o → All P (option_to_list (option_map (tree_at ts) o))
-  of_option None h = All-nil P
-  of_option (Some i) h = All-cons P (tree_at ts i) [] (each i h) (All-nil P)
-
-  of_premises : (p : code_premises.PremiseShape) → PremisesBelow n p → All P (premise_patterns (read_premises ts p))
-  of_premises (premises.Each is) h = ids is h
-  of_premises (premises.Joined i f) h = All-cons P (tree_at ts i) [] (each i h) (All-nil P)
-
-  of_pairs : (qs : List (ℕ × ℕ)) → All (λ (q : ℕ × ℕ). (q.0 < n) × (q.1 < n)) qs → All P (flat_map pair_trees (map (read_pair ts) qs))
-  of_pairs [] a = All-nil P
-  of_pairs (q ∷ qs) a =
-      let h = All-head (λ (q : ℕ × ℕ). (q.0 < n) × (q.1 < n)) q qs a in
-      let rest = flat_map pair_trees (map (read_pair ts) qs) in
-      All-cons P (tree_at ts q.0) (tree_at ts q.1 ∷ rest) (each q.0 h.0)
-      (All-cons P (tree_at ts q.1) rest (each q.1 h.1) (of_pairs qs (All-tail (λ (q : ℕ × ℕ). (q.0 < n) × (q.1 < n)) q qs a)))
+  of_program d h = subst (All P) (program_read ts d) (ids (program_ids d) (program_terms n d h))
 
   of_rule : (d : RuleDecl) → RuleBelow n d → All P (rule_trees (read_rule ts d))
-  of_rule d h =
-      let ps = types_of (map (read_parameter ts) d.params) in
-      let o = option_to_list (option_map (tree_at ts) d.«assumption») in
-      let qs = premise_patterns (read_premises ts d.premises) in
-      let xs = map (tree_at ts) d.args in
-      let c = tree_at ts d.conclusion ∷ ps in
-      All-append P (((c ++ o) ++ qs) ++ xs) (flat_map pair_trees (map (read_pair ts) d.requirements))
-      (All-append P ((c ++ o) ++ qs) xs
-      (All-append P (c ++ o) qs
-      (All-append P c o (All-cons P (tree_at ts d.conclusion) ps (each d.conclusion h.conclusion) (types d.params h.params)) (of_option d.«assumption» h.assumed))
-      (of_premises d.premises h.premises))
-      (ids d.args h.args))
-      (of_pairs d.requirements h.requirements)
+  of_rule d h = subst (All P) (rule_read ts d) (ids (rule_ids d) (rule_terms n d h))
 
   -- of the constants themselves it has to be known
   of_entries : (k : ℕ) (es : List Declared) → All (EntryBelow n) es → ((j : ℕ) → k ≤ j → j < k + length (filter_map const_of es) → P (Con j)) → All P (entry_trees k (map (read_entry ts) es))

@@ -15,7 +15,7 @@ use Rattle.eo_elab.specs.Fitting.{FitsTerms}
 use Rattle.eo_session.specs.Roots.{roots_of}
 use Rattle.eo_session.specs.State.{State, context}
 use Rattle.eo_session.specs.declared.held.Held.{Held}
-use Rattle.eo_session.specs.declared.marks.ScopeMark.{ScopeMark}
+use Rattle.eo_reclaim.specs.declared.ScopeMark.{ScopeMark}
 
 -- ---- all that is held
 

@@ -7,7 +7,6 @@ pub mod Stepping
 pub mod Asserting
 pub mod Held
 pub mod Roots
-pub mod Moving
 pub mod Beginning
 pub mod StateCode
 pub mod Using

@@ -11,9 +11,9 @@ ghost use Rattle.eo_session.specs.Stepping.{Does};
 
 use crate::Refused;
 use crate::held::Held;
-use crate::moving::{Handed, push_ids};
 use eo_base::Name;
 use eo_elab::{Locals, Names, reference_law, reference_term};
+use eo_reclaim::push_ids;
 use eo_sexp::Sexp;
 use eo_sig::{MacroDecl, Params, growth_law};
 use eo_term::{Id, equality_law};

@@ -6,11 +6,11 @@ ghost use Rattle.eo_session.specs.Held.{state_of, IsSettled};
 ghost use Rattle.eo_session.specs.State.{first_state};
 
 use crate::held::Held;
-use crate::marks::Marks;
 use eo_base::both;
 use eo_eval::Evaluator;
 use eo_pattern::Subst;
 use eo_proof::Facts;
+use eo_reclaim::Marks;
 use eo_ref::Reference;
 use eo_sig::Signature;
 use eo_term::Table;

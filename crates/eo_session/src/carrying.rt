@@ -1,13 +1,14 @@
 //! Terms that are carried and given back.
 ghost use Rattle.std.specs.Prelude.{◌≡◌, ◌<◌, [], ◌∷◌, length, All, Contains, IfOk, OnOk};
 ghost use Rattle.eo_session.specs.Held.{state_of, next_constant, IsWhole, IsSettled, Leaves, Carries, Keeps};
-ghost use Rattle.eo_session.specs.Roots.{live_count, constant_trees, macro_trees, program_trees, rule_trees};
+ghost use Rattle.eo_reclaim.specs.Trees.{constant_trees, macro_trees, program_trees, rule_trees};
+ghost use Rattle.eo_session.specs.Roots.{live_count};
 ghost use Rattle.eo_sig.specs.Reading.{read_constant, read_macro, read_program, read_rule};
 ghost use Rattle.eo_sig.specs.Reading.{ConstBelow, MacroBelow, ProgramBelow, RuleBelow};
 ghost use Rattle.eo_term.specs.Growth.{IsTerm};
 
 use crate::held::Held;
-use crate::moving::{
+use eo_reclaim::{
     Handed, move_constant, move_macro, move_program, move_rule, push_constant, push_macro,
     push_program, push_rule,
 };

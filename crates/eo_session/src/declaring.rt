@@ -11,7 +11,7 @@ ghost use Rattle.eo_elab.specs.Fitting.{macro_is_bound};
 ghost use Rattle.eo_elab.specs.Worlds.{context_in};
 ghost use Rattle.eo_session.specs.Numbered.{origin_of};
 ghost use Rattle.eo_session.specs.Held.{state_of, next_constant, IsWhole, HoldsOnly};
-ghost use Rattle.eo_session.specs.Roots.{constant_trees, macro_trees, program_trees};
+ghost use Rattle.eo_reclaim.specs.Trees.{constant_trees, macro_trees, program_trees};
 ghost use Rattle.eo_session.specs.State.{is_in_scope, with_macro};
 ghost use Rattle.eo_session.specs.Step as step;
 ghost use Rattle.eo_session.specs.Step.{declare_parameterized as declared_over, define_program, added_program, is_in_proof};

@@ -12,12 +12,12 @@ ghost use Rattle.eo_session.specs.Stepping.{GivesTerm, Does};
 ghost use Rattle.eo_session.specs.Using.{added_fact, asserted_formula, NameFirst};
 
 use crate::Refused;
-use crate::marks::Marks;
 use eo_base::FaultName;
 use eo_elab::{Locals, term};
 use eo_eval::Evaluator;
 use eo_pattern::Subst;
 use eo_proof::Facts;
+use eo_reclaim::Marks;
 use eo_ref::Reference;
 use eo_sexp::Sexp;
 use eo_sig::{Signature, growth_law, is_reserved};

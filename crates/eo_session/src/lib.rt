@@ -12,8 +12,6 @@ mod declaring;
 mod evaluating;
 mod held;
 mod laws;
-mod marks;
-mod moving;
 mod naming;
 mod premises;
 mod refused;

@@ -5,7 +5,7 @@ ghost use Rattle.eo_sig.specs.Reading.{read_rule, RuleBelow, IsFreeRule};
 ghost use Rattle.eo_sig.specs.Usable.{AreOrdered};
 ghost use Rattle.eo_session.specs.Numbered.{origin_of};
 ghost use Rattle.eo_session.specs.Held.{state_of, IsWhole, HoldsOnly};
-ghost use Rattle.eo_session.specs.Roots.{rule_trees};
+ghost use Rattle.eo_reclaim.specs.Trees.{rule_trees};
 ghost use Rattle.eo_session.specs.State.{is_in_scope};
 ghost use Rattle.eo_session.specs.Step.{declare_rule, added_rule, checked_rule};
 ghost use Rattle.eo_session.specs.Stepping.{Does};

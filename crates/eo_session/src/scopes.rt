@@ -10,9 +10,9 @@ ghost use Rattle.eo_session.specs.Stepping.{Does};
 
 use crate::Refused;
 use crate::held::Held;
-use crate::marks::ScopeMark;
 use eo_base::FaultName;
 use eo_base::limits::SCOPES;
+use eo_reclaim::ScopeMark;
 use eo_sexp::Sexp;
 use eo_sig::growth_law;
 use eo_term::Id;

@@ -3,7 +3,7 @@ use Rattle.eo_sig.specs.Reading.{Kept, constants_of, read_constant, IsFree}
 use Rattle.eo_sig.specs.Signature.{Constant}
 use Rattle.eo_term.specs.Tree.{Con}
 use Rattle.eo_session.specs.Held.{HoldsOnly, next_constant}
-use Rattle.eo_session.specs.Roots.{constant_trees}
+use Rattle.eo_reclaim.specs.Trees.{constant_trees}
 use Rattle.eo_session.specs.State.{is_in_scope}
 use Rattle.eo_session.specs.Step.{checked_constant}
 use Rattle.eo_session.proofs.Adding.{does-same}

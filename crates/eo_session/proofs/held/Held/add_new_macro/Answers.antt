@@ -4,7 +4,7 @@ use Rattle.eo_sig.specs.Reading.{Kept, IsFree}
 use Rattle.eo_sig.specs.Signature.{Macro}
 use Rattle.eo_elab.specs.Fitting.{macro_is_bound}
 use Rattle.eo_session.specs.Held.{HoldsOnly}
-use Rattle.eo_session.specs.Roots.{macro_trees}
+use Rattle.eo_reclaim.specs.Trees.{macro_trees}
 use Rattle.eo_session.specs.State.{with_macro}
 use Rattle.eo_session.proofs.Adding.{does-same}
 use Rattle.eo_session.proofs.held.Held.add_new_macro.Goals as goal

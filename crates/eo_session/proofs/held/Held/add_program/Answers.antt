@@ -2,7 +2,7 @@ use Rattle.std.proofs.Common.{ℕ, List, sym, subst, ap, ◌∙◌}
 use Rattle.eo_sig.specs.Reading.{Kept, IsFree}
 use Rattle.eo_sig.specs.Signature.{Program}
 use Rattle.eo_session.specs.Held.{HoldsOnly}
-use Rattle.eo_session.specs.Roots.{program_trees}
+use Rattle.eo_reclaim.specs.Trees.{program_trees}
 use Rattle.eo_session.specs.State.{is_in_scope}
 use Rattle.eo_session.specs.Step.{checked_program}
 use Rattle.eo_session.proofs.Adding.{does-same}

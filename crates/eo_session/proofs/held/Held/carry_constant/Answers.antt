@@ -4,9 +4,9 @@ use Rattle.eo_base.proofs.Elements.{ids_more}
 use Rattle.eo_term.specs.Tree.{Tree, Con}
 use Rattle.eo_term.specs.Growth.{tree_in}
 use Rattle.eo_session.specs.Held.{HoldsOnly}
-use Rattle.eo_session.specs.Moving.{constant_ids}
-use Rattle.eo_session.specs.Roots.{constant_trees}
-use Rattle.eo_session.proofs.Moved.{constant_read, constant_terms, constant_carried}
+use Rattle.eo_reclaim.specs.Moving.{constant_ids}
+use Rattle.eo_reclaim.specs.Trees.{constant_trees}
+use Rattle.eo_reclaim.proofs.Moved.{constant_read, constant_terms, constant_carried}
 use Rattle.eo_session.proofs.Reclaiming.{carried_long}
 use Rattle.eo_session.proofs.held.Held.carry_constant.Goals as goal
 

@@ -2,8 +2,8 @@ use Rattle.std.proofs.Common.{◌≡◌, ◌<◌, ℕ, List, ◌++◌, length, m
 use Rattle.eo_term.specs.Tree.{Tree}
 use Rattle.eo_term.specs.Growth.{tree_in}
 use Rattle.eo_session.specs.Held.{Leaves}
-use Rattle.eo_session.specs.Moving.{macro_ids}
-use Rattle.eo_session.proofs.Moved.{macro_read, macro_terms, macro_carried}
+use Rattle.eo_reclaim.specs.Moving.{macro_ids}
+use Rattle.eo_reclaim.proofs.Moved.{macro_read, macro_terms, macro_carried}
 use Rattle.eo_session.proofs.Reclaiming.{carried_long}
 use Rattle.eo_session.proofs.held.Held.carry_macro.Goals as goal
 

@@ -2,8 +2,8 @@ use Rattle.std.proofs.Common.{◌≡◌, ◌<◌, ℕ, List, ◌++◌, length, m
 use Rattle.eo_term.specs.Tree.{Tree}
 use Rattle.eo_term.specs.Growth.{tree_in}
 use Rattle.eo_session.specs.Held.{Leaves}
-use Rattle.eo_session.specs.Moving.{program_ids}
-use Rattle.eo_session.proofs.Moved.{program_read, program_terms, program_carried}
+use Rattle.eo_reclaim.specs.Moving.{program_ids}
+use Rattle.eo_reclaim.proofs.Moved.{program_read, program_terms, program_carried}
 use Rattle.eo_session.proofs.Reclaiming.{carried_long}
 use Rattle.eo_session.proofs.held.Held.carry_program.Goals as goal
 

@@ -2,8 +2,8 @@ use Rattle.std.proofs.Common.{◌≡◌, ◌<◌, ℕ, List, ◌++◌, length, m
 use Rattle.eo_term.specs.Tree.{Tree}
 use Rattle.eo_term.specs.Growth.{tree_in}
 use Rattle.eo_session.specs.Held.{Leaves}
-use Rattle.eo_session.specs.Moving.{rule_ids}
-use Rattle.eo_session.proofs.Moved.{rule_read, rule_terms, rule_carried}
+use Rattle.eo_reclaim.specs.Moving.{rule_ids}
+use Rattle.eo_reclaim.proofs.Moved.{rule_read, rule_terms, rule_carried}
 use Rattle.eo_session.proofs.Reclaiming.{carried_long}
 use Rattle.eo_session.proofs.held.Held.carry_rule.Goals as goal
 

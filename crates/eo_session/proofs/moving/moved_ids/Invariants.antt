@@ -1,8 +1,0 @@
-use Rattle.std.proofs.Common.{◌≡◌, ◌++◌, length}
-use Rattle.eo_session.proofs.moving.moved_ids.Given as goal
-
-abbrev pub invariant-loop : goal.invariant-loop
-invariant-loop l = record {
-  count : length l.moved ≡ l.counter;
-  taken : l.fn.ids ≡ l.moved ++ l.ids;
-}
