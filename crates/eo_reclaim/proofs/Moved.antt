@@ -18,7 +18,7 @@ use Rattle.eo_sig.specs.declared.records.PremiseShape as code_premises
 use Rattle.eo_sig.specs.declared.records.PremiseShape.TheVariants as premises
 use Rattle.eo_sig.specs.declared.records.RuleDecl.{RuleDecl}
 use Rattle.eo_sig.specs.Reading.{read_parameter, read_attribute, read_constant, read_macro, read_case, read_program, read_premises, read_pair, read_rule, AttributeBelow, ConstBelow, MacroBelow, CaseBelow, ProgramBelow, PremisesBelow, SomeBelow, RuleBelow}
-use Rattle.eo_sig.specs.Signature.{Attribute, RightNil, LeftNil, Chain, Pairs, Binder, PremiseShape, Each, Joined, premise_patterns}
+use Rattle.eo_sig.specs.Signature.{RightNil, LeftNil, Chain, Pairs, Binder, Each, Joined, premise_patterns}
 use Rattle.eo_reclaim.specs.Moving.{param_ids, attribute_ids, constant_ids, macro_ids, case_ids, program_ids, premise_ids, pair_ids, rule_ids, blank_param, blank_params, blank_attribute, blank_constant, blank_macro, blank_ids, blank_case, blank_program, blank_premises, blank_option, blank_pair, blank_rule, IsMoved}
 use Rattle.eo_reclaim.specs.Trees.{types_of, terminators, constant_trees, macro_trees, case_trees, program_trees, pair_trees, rule_trees}
 

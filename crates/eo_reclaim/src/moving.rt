@@ -103,10 +103,7 @@ pub fn push_rule(d: &RuleDecl, ids: &mut Vec<Id>) -> Result<(), AllocError>
 pub fn push_ids(more: &Ids, ids: &mut Vec<Id>) -> Result<(), AllocError>
     ensures { OnOk result (ids.new.items ≡ ids.old.items ++ more.now) }
 {
-    for id in more.as_slice() {
-        ids.push(*id)?;
-    }
-    Ok(())
+    ids.extend_from_slice(more.as_slice())
 }
 
 fn push_option(id: Option<Id>, ids: &mut Vec<Id>) -> Result<(), AllocError>

@@ -8,7 +8,6 @@ pub mod Closed
 pub mod Concluding
 pub mod Deriving
 pub mod Dispatch
-pub mod Exits
 pub mod Faults
 pub mod Fitting
 pub mod Holding
