@@ -9,7 +9,7 @@ use Rattle.eo_session.specs.Origin.{Origin}
 use Rattle.eo_session.specs.Origin as origin
 use Rattle.eo_run.specs.Refutation.{ClosedKeepsRules}
 use Rattle.eo_run.specs.Run.{Progress, if_given, first_progress, run_signature, run_job_reference, before_proof, run_check}
-use Rattle.eo_session.specs.Quiet.{IsQuiet}
+use Rattle.eo_sound.specs.Quiet.{IsQuiet}
 use Rattle.eo_session.specs.State.{State, first_state, begin_reference}
 use Rattle.eo_session.specs.Commands.{step}
 use Rattle.eo_run.specs.declared.CheckJob.{CheckJob}

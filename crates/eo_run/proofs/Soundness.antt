@@ -7,7 +7,7 @@ use Rattle.eo_run.specs.Check.{checked, ended, verdict}
 use Rattle.eo_run.specs.Refutation.{Refutes}
 use Rattle.eo_run.proofs.Runs.{Keeping, run_bind, signature_keeps, job_reference_keeps, proof_keeps, given_keeps}
 use Rattle.eo_run.specs.Run.{Progress, Ran, if_given, first_progress, run_signature, run_job_reference, before_proof, run_check}
-use Rattle.eo_session.specs.Soundness.{IsSound}
+use Rattle.eo_sound.specs.Soundness.{IsSound}
 use Rattle.eo_session.specs.State.{State, first_state, begin_reference, end_fault}
 use Rattle.eo_session.specs.Commands.{step}
 use Rattle.eo_run.specs.Verdict.{Correct}

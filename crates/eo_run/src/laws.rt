@@ -6,7 +6,7 @@ ghost use Rattle.eo_run.specs.Refutation.{Refutes, ClosedKeepsRules};
 ghost use Rattle.eo_run.specs.Verdict.{Correct};
 ghost use Rattle.eo_run.specs.declared.CheckJob.{CheckJob};
 
-use eo_session::commands_law;
+use eo_sound::commands_law;
 
 /// A law: a check that is correct refutes what its reference file asserts. In a closed check the
 /// proof declares no program and no rule.

@@ -10,6 +10,3 @@ pub mod Roots
 pub mod Beginning
 pub mod StateCode
 pub mod Using
-pub mod Layers
-pub mod Quiet
-pub mod Soundness

@@ -11,7 +11,6 @@ mod carrying;
 mod declaring;
 mod evaluating;
 mod held;
-mod laws;
 mod naming;
 mod premises;
 mod refused;
@@ -21,7 +20,6 @@ mod session;
 mod steps;
 
 use eo_base::Text;
-pub use laws::commands_law;
 pub use refused::Refused;
 pub use session::{EndAnswer, Session};
 

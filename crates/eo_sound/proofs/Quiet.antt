@@ -7,11 +7,11 @@ use Rattle.eo_base.proofs.ChecksLemmas.{ok_injective, bind_ok, require_then}
 use Rattle.eo_base.specs.Checks.{Checked, ◌>>=◌}
 use Rattle.eo_elab.specs.Declarations.{declared_const, declared_fun, declared_sort, declared_parameterized, declared_literals, defined, defined_fun, defined_sort, declared_program, declared_rule, is_reference_name}
 use Rattle.eo_lit.specs.declared.LiteralClass.{LiteralClass}
-use Rattle.eo_session.proofs.SoundDeclarations.{no_fault_then}
+use Rattle.eo_sound.proofs.SoundDeclarations.{no_fault_then}
 use Rattle.eo_session.specs.Origin.{Origin}
 use Rattle.eo_names.specs.Contexts.{InReference}
 use Rattle.eo_names.specs.Readers.{Label}
-use Rattle.eo_session.specs.Quiet.{IsQuiet}
+use Rattle.eo_sound.specs.Quiet.{IsQuiet}
 use Rattle.eo_session.specs.State.{State, context, context_in, with_entry, with_macro, with_assertion, with_fact, with_scope, without_scope, is_asserted}
 use Rattle.eo_session.specs.Step.{setting_of, added_constant, type_value, typed_constant, checked_constant, checked_literals, added_macro, define, define_fun, define_sort, define_program, declare_rule, formula_of, formula, with_labels, assume, assume_push, assert, concluded, with_conclusion, step_plain, step_pop}
 use Rattle.eo_session.specs.Commands.{by_command}

@@ -1,6 +1,6 @@
-use Rattle.eo_session.proofs.Closed.{step_closed, step_quiet}
-use Rattle.eo_session.proofs.Soundness.{first_sound, begin_sound, step_sound, end_derives}
-use Rattle.eo_session.proofs.laws.commands_law.Goals as goal
+use Rattle.eo_sound.proofs.Closed.{step_closed, step_quiet}
+use Rattle.eo_sound.proofs.Soundness.{first_sound, begin_sound, step_sound, end_derives}
+use Rattle.eo_sound.proofs.laws.commands_law.Goals as goal
 
 pub returns-clause-first : goal.returns-clause-first
 returns-clause-first c = first_sound

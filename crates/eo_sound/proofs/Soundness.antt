@@ -9,13 +9,13 @@ use Rattle.eo_base.specs.declared.FaultName.TheVariants.{SecondReference, ScopeO
 use Rattle.eo_elab.specs.Declarations.{declared_const, declared_fun, declared_sort, declared_parameterized, declared_literals}
 use Rattle.eo_proof.specs.Scopes.{Fact, Scope, has_false}
 use Rattle.eo_rule.specs.Derivability.{Derives}
-use Rattle.eo_session.proofs.Deriving.{OfFormula}
+use Rattle.eo_sound.proofs.Deriving.{OfFormula}
 use Rattle.eo_session.proofs.Fitting.{first_fits}
-use Rattle.eo_session.specs.Layers.{Layers}
+use Rattle.eo_sound.specs.Layers.{Layers}
 use Rattle.eo_session.proofs.Scoping.{none_values}
-use Rattle.eo_session.proofs.SoundDeclarations.{const_folds, fun_folds, sort_folds, usable_signature, sound_after, define_sound, typed_sound, checked_sound, literals_sound, define_fun_sound, define_sort_sound, program_sound, rule_sound, assert_sound}
-use Rattle.eo_session.proofs.SoundSteps.{assume_sound, assume_push_sound, step_plain_sound, step_pop_sound}
-use Rattle.eo_session.specs.Soundness.{AllDerive, FactsDerive, IsSound}
+use Rattle.eo_sound.proofs.SoundDeclarations.{const_folds, fun_folds, sort_folds, usable_signature, sound_after, define_sound, typed_sound, checked_sound, literals_sound, define_fun_sound, define_sort_sound, program_sound, rule_sound, assert_sound}
+use Rattle.eo_sound.proofs.SoundSteps.{assume_sound, assume_push_sound, step_plain_sound, step_pop_sound}
+use Rattle.eo_sound.specs.Soundness.{AllDerive, FactsDerive, IsSound}
 use Rattle.eo_session.specs.State.{State, first_state, begin_reference, end_fault, is_in_scope, with_command, context, context_in}
 use Rattle.eo_session.specs.Step.{setting_of}
 use Rattle.eo_session.specs.Commands.{by_command, may_be_in_scope, scoped_command, placed_command, uncounted, step}

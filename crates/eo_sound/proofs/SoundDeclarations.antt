@@ -16,10 +16,10 @@ use Rattle.eo_elab.specs.Meaning.{means}
 use Rattle.eo_lit.specs.declared.LiteralClass.{LiteralClass}
 use Rattle.eo_names.specs.Contexts.{Context, Setting, InReference, InAssert}
 use Rattle.eo_names.specs.Readers.{Label}
-use Rattle.eo_session.proofs.Deriving.{declared_derives, asserted_derives, none_assumed}
+use Rattle.eo_sound.proofs.Deriving.{declared_derives, asserted_derives, none_assumed}
 use Rattle.eo_session.proofs.Fitting.{MayFold, slice_get_more, fits_entry, fits_macro, fits_macros}
-use Rattle.eo_session.specs.Layers.{Layers}
-use Rattle.eo_session.specs.Soundness.{IsSound}
+use Rattle.eo_sound.specs.Layers.{Layers}
+use Rattle.eo_sound.specs.Soundness.{IsSound}
 use Rattle.eo_session.specs.State.{State, context, context_in, with_entry, with_macro, with_assertion, is_asserted}
 use Rattle.eo_session.specs.Step.{added_constant, type_value, typed_constant, checked_constant, checked_literals, added_macro, define, define_fun, define_sort, define_program, declare_rule, formula_of, label_macro, with_labels, assert}
 use Rattle.eo_session.specs.Origin.{Origin}

@@ -7,8 +7,8 @@ use Rattle.eo_proof.specs.Scopes.{Fact, Scope, Scopes, fact, opened_facts, formu
 use Rattle.eo_rule.specs.Derivability.{Derives, by_assumption}
 use Rattle.eo_sig.specs.Signature.{Signature}
 use Rattle.eo_term.specs.Tree.{Tree}
-use Rattle.eo_session.specs.Layers.{Layers}
-use Rattle.eo_session.specs.Soundness.{AllDerive, in_force, FactsDerive}
+use Rattle.eo_sound.specs.Layers.{Layers}
+use Rattle.eo_sound.specs.Soundness.{AllDerive, in_force, FactsDerive}
 
 -- what holds of a fact's formula, as it holds of the fact
 abbrev pub OfFormula : (Tree → Type 0) → Fact → Type 0

@@ -4,10 +4,10 @@ use Rattle.std.proofs.Common.{sym, subst, true≢false}
 use Rattle.std.proofs.lemmas.Option.{none-some, same_Some}
 use Rattle.eo_base.proofs.ChecksLemmas.{ok_injective, err_is_not_ok, bind_ok, require_then, value_or_ok}
 use Rattle.eo_base.specs.declared.FaultName.TheVariants.{BadCommand, UnknownCommand}
-use Rattle.eo_session.proofs.Quiet.{declares_rules, quiet_command, command_closed}
+use Rattle.eo_sound.proofs.Quiet.{declares_rules, quiet_command, command_closed}
 use Rattle.eo_session.specs.Origin.{Origin}
 use Rattle.eo_session.specs.Origin as origin
-use Rattle.eo_session.specs.Quiet.{IsQuiet}
+use Rattle.eo_sound.specs.Quiet.{IsQuiet}
 use Rattle.eo_session.specs.State.{State, with_command}
 use Rattle.eo_session.specs.Step.{is_in_reference, define_program, declare_rule}
 use Rattle.eo_session.specs.Commands.{by_command, scoped_command, placed_command, uncounted, step}

@@ -18,13 +18,13 @@ use Rattle.eo_rule.specs.Derivability.{Derives, IsRuleOf, by_assumption, by_rule
 use Rattle.eo_rule.specs.Instance.{Instance, guarded_conclusion}
 use Rattle.eo_rule.specs.Uses.{Use, AreGiven, Concludes, conclusion, typed_or}
 use Rattle.eo_rule.specs.Uses as rule
-use Rattle.eo_session.proofs.Deriving.{popped_force, popped_holds, outside_holds, outside_derives, fact_holds, fact_derives, scope_derives, named_derives}
+use Rattle.eo_sound.proofs.Deriving.{popped_force, popped_holds, outside_holds, outside_derives, fact_holds, fact_derives, scope_derives, named_derives}
 use Rattle.eo_session.proofs.Fitting.{fits_taken}
-use Rattle.eo_session.specs.Layers.{Layers}
+use Rattle.eo_sound.specs.Layers.{Layers}
 use Rattle.eo_session.proofs.Scoping.{values_fact, values_scope, values_outside}
-use Rattle.eo_session.proofs.SoundDeclarations.{sound_after}
+use Rattle.eo_sound.proofs.SoundDeclarations.{sound_after}
 use Rattle.eo_session.proofs.Used.{fact_value, hypothesis_value}
-use Rattle.eo_session.specs.Soundness.{IsSound, in_force}
+use Rattle.eo_sound.specs.Soundness.{IsSound, in_force}
 use Rattle.eo_session.specs.State.{State, context, with_fact, with_scope, without_scope, macros_before}
 use Rattle.eo_session.specs.Step.{Concluded, evaluated, value, values, optional_value, typed, formula_of, formula, premises, use_of, is_sorry, concluded_by, concluded, with_conclusion, assume, assume_push, step_plain, step_pop}
 use Rattle.eo_sexp.specs.Sexp.{Sexp}

@@ -4,10 +4,10 @@ ghost use Rattle.eo_rule.specs.Derivability.{Derives};
 ghost use Rattle.eo_sexp.specs.Sexp.{Sexp};
 ghost use Rattle.eo_term.specs.Tree.{truth};
 ghost use Rattle.eo_session.specs.Commands.{step};
-ghost use Rattle.eo_session.specs.Layers.{Layers};
+ghost use Rattle.eo_sound.specs.Layers.{Layers};
 ghost use Rattle.eo_session.specs.Origin.{Origin, Signature};
-ghost use Rattle.eo_session.specs.Quiet.{IsQuiet};
-ghost use Rattle.eo_session.specs.Soundness.{IsSound};
+ghost use Rattle.eo_sound.specs.Quiet.{IsQuiet};
+ghost use Rattle.eo_sound.specs.Soundness.{IsSound};
 ghost use Rattle.eo_session.specs.State.{State, first_state, begin_reference, end_fault};
 ghost use Rattle.eo_session.specs.declared.Next.{Next};
 

@@ -1,4 +1,4 @@
-use Rattle.eo_session.proofs.laws.layers_law.Goals as goal
+use Rattle.eo_sound.proofs.laws.layers_law.Goals as goal
 
 pub returns : goal.returns
 returns c = record {

@@ -1,0 +1,6 @@
+pub mod Closed
+pub mod Deriving
+pub mod Quiet
+pub mod SoundDeclarations
+pub mod SoundSteps
+pub mod Soundness
