@@ -11,29 +11,29 @@ use Rattle.eo_term.specs.Tree.{Tree}
 use Rattle.eo_term.specs.Terms.{Terms, tree_at}
 use Rattle.eo_sig.specs.Reading.{Kept, signature}
 use Rattle.eo_sig.specs.Signature.{Signature}
-use Rattle.eo_eval.specs.Evaluation.{Calls, Call, call_eq, Begun, on_body, body_of, eval}
-use Rattle.eo_eval.specs.Machine.{Family, Covers, Frame, OfNode, OfCall, Stacked, evals, calls, finish}
-use Rattle.eo_eval.specs.Reading.{node_of, wait_of, deepest_of, left_of, values_before, waiting, call_at, read_call, begun, local_tree, IsKnown, IsLocal, IsPlaced, Remembers, Scoped}
+use Rattle.eo_stack.specs.Evaluation.{Calls, Call, call_eq, Begun, on_body, body_of, eval}
+use Rattle.eo_stack.specs.Machine.{Family, Covers, Frame, OfNode, OfCall, Stacked, evals, calls, finish}
+use Rattle.eo_stack.specs.Reading.{node_of, wait_of, deepest_of, left_of, values_before, waiting, call_at, read_call, begun, local_tree, IsKnown, IsLocal, IsPlaced, Remembers, Scoped}
 use Rattle.eo_eval.specs.Ready.{Stands, Calling, called_at, told_call, waiting_in}
 use Rattle.eo_pattern.specs.Matching.{put}
 use Rattle.std.proofs.Math.Path.{transport}
-use Rattle.eo_eval.specs.Bodies.{assignment_of}
-use Rattle.eo_eval.specs.Scopes.{Bound, entered, outer, assignment_here, IsScope}
-use Rattle.eo_eval.specs.declared.calls.CallKey.{CallKey}
-use Rattle.eo_eval.specs.declared.calls.LocalKey.{LocalKey}
+use Rattle.eo_stack.specs.Bodies.{assignment_of}
+use Rattle.eo_stack.specs.Scopes.{Bound, entered, outer, assignment_here, IsScope}
+use Rattle.eo_stack.specs.declared.calls.CallKey.{CallKey}
+use Rattle.eo_stack.specs.declared.calls.LocalKey.{LocalKey}
 use Rattle.eo_eval.specs.declared.machine.Machine.{Machine}
-use Rattle.eo_eval.specs.declared.stack.Frame as code_frame
-use Rattle.eo_eval.specs.declared.stack.Frame.TheVariants as frame
-use Rattle.eo_eval.specs.declared.stack.Known as code_known
-use Rattle.eo_eval.specs.declared.stack.Known.TheVariants as known
-use Rattle.eo_eval.specs.declared.stack.Now.TheVariants as next
+use Rattle.eo_stack.specs.declared.stack.Frame as code_frame
+use Rattle.eo_stack.specs.declared.stack.Frame.TheVariants as frame
+use Rattle.eo_stack.specs.declared.stack.Known as code_known
+use Rattle.eo_stack.specs.declared.stack.Known.TheVariants as known
+use Rattle.eo_stack.specs.declared.stack.Now.TheVariants as next
 use Rattle.eo_eval.proofs.Calling.{call_again, call_new, call_full, covers_new}
 use Rattle.eo_eval.proofs.Called.{call_read}
 use Rattle.eo_term.proofs.Numbers.{found_entry}
 use Rattle.std.specs.Map.{keys_of}
 use Rattle.std.specs.Cmp.Lexicographic.{bytes_decides}
 use Rattle.std.proofs.lemmas.Bool.Decides.{Decides-eqb, nat_tests}
-use Rattle.eo_eval.specs.contracts.calls.CallKeyPartialEq.TheImpl as key_eq
+use Rattle.eo_stack.specs.contracts.calls.CallKeyPartialEq.TheImpl as key_eq
 use Rattle.eo_eval.proofs.Grown.{all_reverse}
 use Rattle.eo_eval.proofs.Running.{begun_at, begun_count}
 use Rattle.eo_eval.proofs.Steps.{stacked_later}

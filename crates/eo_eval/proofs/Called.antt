@@ -10,20 +10,20 @@ use Rattle.eo_term.specs.Tree.{Tree}
 use Rattle.eo_term.specs.Terms.{Terms, tree_at}
 use Rattle.eo_sig.specs.Reading.{Kept, signature}
 use Rattle.eo_sig.specs.Signature.{Signature}
-use Rattle.eo_eval.specs.Evaluation.{Value, Stuck, Call, Begun}
-use Rattle.eo_eval.specs.Machine.{Frame, OfCall, evals, calls, finish}
-use Rattle.eo_eval.specs.Reading.{waiting, told, Waits, call_at, read_call, begun, IsKnown, IsLocal, Remembers, Scoped, IsFrame, IsPlaced, IsResult, depth_of, deeper, known_of, NowBelow}
+use Rattle.eo_stack.specs.Evaluation.{Value, Stuck, Call, Begun}
+use Rattle.eo_stack.specs.Machine.{Frame, OfCall, evals, calls, finish}
+use Rattle.eo_stack.specs.Reading.{waiting, told, Waits, call_at, read_call, begun, IsKnown, IsLocal, Remembers, Scoped, IsFrame, IsPlaced, IsResult, depth_of, deeper, known_of, NowBelow}
 use Rattle.eo_eval.specs.Ready.{Based, Stands, Ready, PoppedReady, told_in, told_popped}
 use Rattle.std.proofs.Math.Path.{transport}
-use Rattle.eo_eval.specs.Scopes.{Bound, entered, outer, IsValueSlot}
-use Rattle.eo_eval.specs.declared.calls.CallKey.{CallKey}
-use Rattle.eo_eval.specs.declared.calls.LocalKey.{LocalKey}
+use Rattle.eo_stack.specs.Scopes.{Bound, entered, outer, IsValueSlot}
+use Rattle.eo_stack.specs.declared.calls.CallKey.{CallKey}
+use Rattle.eo_stack.specs.declared.calls.LocalKey.{LocalKey}
 use Rattle.eo_eval.specs.declared.machine.Machine.{Machine}
-use Rattle.eo_eval.specs.declared.stack.Frame as code_frame
-use Rattle.eo_eval.specs.declared.stack.Frame.TheVariants as frame
-use Rattle.eo_eval.specs.declared.stack.Known as code_known
-use Rattle.eo_eval.specs.declared.stack.Now as code_now
-use Rattle.eo_eval.specs.declared.stack.Now.TheVariants as next
+use Rattle.eo_stack.specs.declared.stack.Frame as code_frame
+use Rattle.eo_stack.specs.declared.stack.Frame.TheVariants as frame
+use Rattle.eo_stack.specs.declared.stack.Known as code_known
+use Rattle.eo_stack.specs.declared.stack.Now as code_now
+use Rattle.eo_stack.specs.declared.stack.Now.TheVariants as next
 use Rattle.eo_eval.proofs.Waiting.{waits_called, again_called}
 
 abbrev Entry : Type 0

@@ -4,8 +4,8 @@ use Rattle.std.specs.List.{list_any}
 use Rattle.std.proofs.Common.{ap}
 use Rattle.eo_term.specs.Tree.{Tree}
 use Rattle.eo_sig.specs.Signature.{Signature}
-use Rattle.eo_eval.specs.Evaluation.{Value, Calls, Call, call_eq, Begun, Ended, on_value, on_body, body_of, eval}
-use Rattle.eo_eval.specs.Machine.{calls, Covers}
+use Rattle.eo_stack.specs.Evaluation.{Value, Calls, Call, call_eq, Begun, Ended, on_value, on_body, body_of, eval}
+use Rattle.eo_stack.specs.Machine.{calls, Covers}
 use Rattle.eo_eval.proofs.Memory.{begin_gives}
 
 module _ (S : Signature) (most : ℕ) (x : Call) (b : Begun) where

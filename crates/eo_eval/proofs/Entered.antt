@@ -12,11 +12,11 @@ use Rattle.eo_term.specs.Tree.{Tree, Con, Num, Bits, Str, Par, Var, App, Arr, Qa
 use Rattle.eo_sig.specs.Signature.{Signature, Case, Program, program_at}
 use Rattle.eo_pattern.specs.Matching.{Assignment, empty, value_or_par, put, put_all, matching}
 use Rattle.eo_pattern.proofs.Steps.{put_closed, put_nothing, count_put, argument_put}
-use Rattle.eo_eval.specs.Bodies.{first_case, chosen_case, assigned, assignment_of}
-use Rattle.eo_eval.specs.Evaluation.{Begun, Call, first_match, body_of}
-use Rattle.eo_eval.specs.Machine.{parts_of, is_call, made_of}
-use Rattle.eo_eval.specs.Reading.{is_par, other, local_tree, IsWhole}
-use Rattle.eo_eval.specs.Scopes.{Bound, none_bound, slot_at, standing, entered, assignment_here, IsValueSlot, IsScope}
+use Rattle.eo_stack.specs.Bodies.{first_case, chosen_case, assigned, assignment_of}
+use Rattle.eo_stack.specs.Evaluation.{Begun, Call, first_match, body_of}
+use Rattle.eo_stack.specs.Machine.{parts_of, is_call, made_of}
+use Rattle.eo_stack.specs.Reading.{is_par, other, local_tree, IsWhole}
+use Rattle.eo_stack.specs.Scopes.{Bound, none_bound, slot_at, standing, entered, assignment_here, IsValueSlot, IsScope}
 use Rattle.eo_eval.proofs.Steps.{whole_var, whole_app, whole_arr, whole_call, whole_op, is_strict}
 
 module _ (σ : Assignment) where

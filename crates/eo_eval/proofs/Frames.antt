@@ -9,14 +9,14 @@ use Rattle.eo_term.specs.Terms.{tree_at}
 use Rattle.eo_sig.specs.Signature.{Signature}
 use Rattle.eo_pattern.specs.Matching.{put, put_all}
 use Rattle.eo_pattern.proofs.Steps.{count_put}
-use Rattle.eo_eval.specs.Evaluation.{Outcome, Value, Stuck, Call, Begun, Eval, ends, on_outcome, value_or_none, are_equal, eval_with, call_within}
-use Rattle.eo_eval.specs.Machine.{Wait, Choice, Left, Right, Require, Required, Tested, resume_with}
-use Rattle.eo_eval.specs.Reading.{other, result_of, given_in, depth_of, HasMore}
+use Rattle.eo_stack.specs.Evaluation.{Outcome, Value, Stuck, Call, Begun, Eval, ends, on_outcome, value_or_none, are_equal, eval_with, call_within}
+use Rattle.eo_stack.specs.Machine.{Wait, Choice, Left, Right, Require, Required, Tested, resume_with}
+use Rattle.eo_stack.specs.Reading.{other, result_of, given_in, depth_of, HasMore}
 use Rattle.eo_eval.specs.Ready.{Proceeds, Begins}
-use Rattle.eo_eval.specs.Scopes.{Bound, standing, entered}
-use Rattle.eo_eval.specs.declared.stack.Frame.TheVariants as frame
-use Rattle.eo_eval.specs.declared.stack.Now as code_now
-use Rattle.eo_eval.specs.declared.stack.Now.TheVariants as next
+use Rattle.eo_stack.specs.Scopes.{Bound, standing, entered}
+use Rattle.eo_stack.specs.declared.stack.Frame.TheVariants as frame
+use Rattle.eo_stack.specs.declared.stack.Now as code_now
+use Rattle.eo_stack.specs.declared.stack.Now.TheVariants as next
 use Rattle.eo_eval.proofs.Entered.{entered_other}
 use Rattle.eo_eval.proofs.Steps.{left_right, require_required, is_strict}
 

@@ -12,22 +12,22 @@ use Rattle.eo_term.specs.Tree.{Tree, Op, is_tall}
 use Rattle.eo_sig.specs.Reading.{Kept, signature}
 use Rattle.eo_sig.specs.Signature.{Signature}
 use Rattle.eo_pattern.specs.Matching.{put}
-use Rattle.eo_eval.specs.Evaluation.{Value, Call, Begun, call_within}
-use Rattle.eo_eval.specs.Machine.{parts_of, is_call, made, made_of, Handed, Comes, Again, Frame, OfNode, Stacked, evals, calls, finish}
-use Rattle.eo_eval.specs.Reading.{begun, waiting, told, IsFrame, IsPlaced, Remembers, Scoped, Waits, outcome_in, OutcomeBelow, now_of}
+use Rattle.eo_stack.specs.Evaluation.{Value, Call, Begun, call_within}
+use Rattle.eo_stack.specs.Machine.{parts_of, is_call, made, made_of, Handed, Comes, Again, Frame, OfNode, Stacked, evals, calls, finish}
+use Rattle.eo_stack.specs.Reading.{begun, waiting, told, IsFrame, IsPlaced, Remembers, Scoped, Waits, outcome_in, OutcomeBelow, now_of}
 use Rattle.eo_eval.specs.Ready.{Based, Stands, Ready, Keeps, Calling, Gathering, IsNextPart, waiting_for, waiting_in, told_in, told_rest, told_call}
-use Rattle.eo_eval.specs.Scopes.{standing, entered, IsValueSlot}
-use Rattle.eo_eval.specs.declared.calls.CallKey.{CallKey}
+use Rattle.eo_stack.specs.Scopes.{standing, entered, IsValueSlot}
+use Rattle.eo_stack.specs.declared.calls.CallKey.{CallKey}
 use Rattle.eo_eval.specs.declared.machine.Machine.{Machine}
-use Rattle.eo_eval.specs.declared.stack.Frame as code_frame
-use Rattle.eo_eval.specs.declared.stack.Frame.TheVariants as frame
-use Rattle.eo_eval.specs.declared.stack.Known as code_known
-use Rattle.eo_eval.specs.declared.stack.Now as code_now
-use Rattle.eo_eval.specs.declared.stack.Now.TheVariants as next
-use Rattle.eo_eval.specs.declared.evaluator.Outcome as code_outcome
+use Rattle.eo_stack.specs.declared.stack.Frame as code_frame
+use Rattle.eo_stack.specs.declared.stack.Frame.TheVariants as frame
+use Rattle.eo_stack.specs.declared.stack.Known as code_known
+use Rattle.eo_stack.specs.declared.stack.Now as code_now
+use Rattle.eo_stack.specs.declared.stack.Now.TheVariants as next
+use Rattle.eo_stack.specs.declared.Outcome as code_outcome
 use Rattle.eo_eval.proofs.Entered.{call_put, made_put, entered_count, entered_part}
 use Rattle.eo_eval.proofs.Itself.{value_itself}
-use Rattle.eo_eval.proofs.OnValues.{made_is}
+use Rattle.eo_stack.proofs.OnValues.{made_is}
 use Rattle.eo_eval.proofs.Popped.{current_ended, live_ended, waits_ended}
 use Rattle.eo_eval.proofs.Same.{held_same, stands_same}
 use Rattle.eo_eval.proofs.Steps.{no_part}

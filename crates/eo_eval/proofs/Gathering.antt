@@ -13,13 +13,13 @@ use Rattle.eo_sig.specs.Growth.{GrowsUnder}
 use Rattle.eo_sig.specs.Reading.{Kept, signature}
 use Rattle.eo_sig.specs.Signature.{Signature}
 use Rattle.eo_type.specs.Known.{Fit}
-use Rattle.eo_eval.specs.Evaluation.{Begun, call_within}
-use Rattle.eo_eval.specs.Machine.{parts_of, made_of, rest_with, Comes, Frame, Stacked, evals, finish}
-use Rattle.eo_eval.specs.Reading.{is_par, begun, waiting, IsWhole}
+use Rattle.eo_stack.specs.Evaluation.{Begun, call_within}
+use Rattle.eo_stack.specs.Machine.{parts_of, made_of, rest_with, Comes, Frame, Stacked, evals, finish}
+use Rattle.eo_stack.specs.Reading.{is_par, begun, waiting, IsWhole}
 use Rattle.eo_eval.specs.Ready.{Stands, Held, Ready, Gathering, waiting_for, told_in, told_rest, IsNextPart}
-use Rattle.eo_eval.specs.Scopes.{entered}
+use Rattle.eo_stack.specs.Scopes.{entered}
 use Rattle.eo_eval.specs.declared.machine.Machine.{Machine}
-use Rattle.eo_eval.specs.declared.stack.Now.TheVariants as next
+use Rattle.eo_stack.specs.declared.stack.Now.TheVariants as next
 use Rattle.eo_eval.proofs.Grown.{entered_grown, held_grown, now_stands, same_begun, trees_grown, waiting_same}
 use Rattle.eo_eval.proofs.Same.{held_same, stands_same}
 use Rattle.eo_eval.proofs.Waiting.{comes_whole, rest}

@@ -8,15 +8,15 @@ use Rattle.eo_term.specs.Terms.{Terms, tree_at}
 use Rattle.eo_term.specs.Tree.{Tree}
 use Rattle.eo_sig.specs.Reading.{Kept, signature}
 use Rattle.eo_sig.specs.Signature.{Signature}
-use Rattle.eo_eval.specs.Evaluation.{Value, Begun}
-use Rattle.eo_eval.specs.Machine.{Parts, Comes, Frame, OfNode, evals, finish}
-use Rattle.eo_eval.specs.Reading.{begun, waiting, IsFrame, IsPlaced, Scoped, Waits}
+use Rattle.eo_stack.specs.Evaluation.{Value, Begun}
+use Rattle.eo_stack.specs.Machine.{Parts, Comes, Frame, OfNode, evals, finish}
+use Rattle.eo_stack.specs.Reading.{begun, waiting, IsFrame, IsPlaced, Scoped, Waits}
 use Rattle.eo_eval.specs.Ready.{Based, PoppedReady, Gathering, waiting_for, told_popped, told_rest}
-use Rattle.eo_eval.specs.Scopes.{entered}
+use Rattle.eo_stack.specs.Scopes.{entered}
 use Rattle.eo_eval.specs.declared.machine.Machine.{Machine}
-use Rattle.eo_eval.specs.declared.stack.Frame as code_frame
-use Rattle.eo_eval.specs.declared.stack.Frame.TheVariants as frame
-use Rattle.eo_eval.specs.declared.stack.Now.TheVariants as next
+use Rattle.eo_stack.specs.declared.stack.Frame as code_frame
+use Rattle.eo_stack.specs.declared.stack.Frame.TheVariants as frame
+use Rattle.eo_stack.specs.declared.stack.Now.TheVariants as next
 use Rattle.eo_eval.proofs.Entered.{part_kind}
 use Rattle.eo_eval.proofs.Waiting.{comes_given, rest}
 use Rattle.eo_eval.proofs.Gathering.{gathering_of, rest_told}

@@ -7,29 +7,29 @@ use Rattle.eo_term.specs.Tree.{Tree, is_value}
 use Rattle.eo_term.specs.Terms.{Terms, Since, tree_at}
 use Rattle.eo_term.specs.Arguments.{arguments_of, argument_at, count_of}
 use Rattle.eo_sig.specs.Signature.{Signature}
-use Rattle.eo_eval.specs.declared.stack.Now as code_now
-use Rattle.eo_eval.specs.declared.stack.Now.TheVariants as next
-use Rattle.eo_eval.specs.Evaluation.{Value, Call, Begun, on_body, body_of, eval}
-use Rattle.eo_eval.specs.Machine.{Parts, Choice, Tested, Left, Right, Require, Required, Handed, Frame, OfNode, OfCall, Stacked, Family, Again, evals, calls, finish}
-use Rattle.eo_eval.specs.Reading.{waiting, read_call, begun, call_at, local_tree, IsFrame, IsKnown, IsLocal, Remembers, HasMore, NowBelow, Scoped, Waits, Given}
-use Rattle.eo_eval.specs.Scopes.{Bound, standing, entered, outer, assignment_here, IsValueSlot, IsScope}
-use Rattle.eo_eval.specs.declared.calls.LocalKey.{LocalKey}
+use Rattle.eo_stack.specs.declared.stack.Now as code_now
+use Rattle.eo_stack.specs.declared.stack.Now.TheVariants as next
+use Rattle.eo_stack.specs.Evaluation.{Value, Call, Begun, on_body, body_of, eval}
+use Rattle.eo_stack.specs.Machine.{Parts, Choice, Tested, Left, Right, Require, Required, Handed, Frame, OfNode, OfCall, Stacked, Family, Again, evals, calls, finish}
+use Rattle.eo_stack.specs.Reading.{waiting, read_call, begun, call_at, local_tree, IsFrame, IsKnown, IsLocal, Remembers, HasMore, NowBelow, Scoped, Waits, Given}
+use Rattle.eo_stack.specs.Scopes.{Bound, standing, entered, outer, assignment_here, IsValueSlot, IsScope}
+use Rattle.eo_stack.specs.declared.calls.LocalKey.{LocalKey}
 use Rattle.eo_pattern.specs.Matching.{put}
 use Rattle.std.specs.Option.{option_flatten}
 use Rattle.std.proofs.Math.Path.{transport}
-use Rattle.eo_eval.specs.declared.stack.Frame as code_frame
-use Rattle.eo_eval.specs.declared.stack.Frame.TheVariants as frame
-use Rattle.eo_eval.specs.declared.stack.Known as code_known
-use Rattle.eo_eval.specs.declared.stack.Known.TheVariants as known
+use Rattle.eo_stack.specs.declared.stack.Frame as code_frame
+use Rattle.eo_stack.specs.declared.stack.Frame.TheVariants as frame
+use Rattle.eo_stack.specs.declared.stack.Known as code_known
+use Rattle.eo_stack.specs.declared.stack.Known.TheVariants as known
 use Rattle.eo_eval.specs.declared.machine.Machine.{Machine}
-use Rattle.eo_eval.specs.Machine.{parts_of}
+use Rattle.eo_stack.specs.Machine.{parts_of}
 use Rattle.eo_eval.specs.Ready.{Based, Held, Stands, Calling, called_at, told_run, waiting_in}
 use Rattle.eo_base.specs.Limits.{calls_limit}
 use Rattle.eo_sig.specs.Reading.{Kept, signature}
 use Rattle.eo_sig.specs.Growth.{GrowsUnder}
 use Rattle.eo_sig.specs.Usable.{IsUsable}
 use Rattle.eo_type.specs.Known.{Fit}
-use Rattle.eo_eval.specs.declared.calls.CallKey.{CallKey}
+use Rattle.eo_stack.specs.declared.calls.CallKey.{CallKey}
 
 pub all_reverse : {X : Type 0} (P : X → Type 0) (xs : List X) → All P xs → All P (reverse xs)
 all_reverse P [] h = h

@@ -4,22 +4,22 @@ use Rattle.std.proofs.Common.{sym, ◌∙◌, ap, subst, arith}
 use Rattle.eo_base.proofs.Tests.{both, clash}
 use Rattle.eo_term.specs.Tree.{Tree, Con, Num, Bits, Str, Par, Var, App, Arr, Qar, Op, is_tall, is_value, height}
 use Rattle.eo_sig.specs.Signature.{Signature}
-use Rattle.eo_eval.specs.Evaluation.{Outcome, Value, Stuck, Tall, Call, Begun, Ended, Eval, ends, on_value, node, eval_with, call_within}
+use Rattle.eo_stack.specs.Evaluation.{Outcome, Value, Stuck, Tall, Call, Begun, Ended, Eval, ends, on_value, node, eval_with, call_within}
 use Rattle.std.specs.Prelude.{List, [], length, reverse}
 use Rattle.eo_base.specs.Limits.{calls_limit, open_calls_limit}
 use Rattle.eo_term.specs.Growth.{tree_in}
 use Rattle.eo_term.specs.Terms.{Terms, tree_at}
 use Rattle.eo_sig.specs.Reading.{Kept, signature}
 use Rattle.eo_eval.specs.Outcomes.{HasEnded, outcome_of}
-use Rattle.eo_eval.specs.declared.evaluator.Outcome.TheVariants as outcome
-use Rattle.eo_eval.specs.Machine.{Again, Family, Stacked, evals, finish, Frame}
-use Rattle.eo_eval.specs.Reading.{waiting, told}
+use Rattle.eo_stack.specs.declared.Outcome.TheVariants as outcome
+use Rattle.eo_stack.specs.Machine.{Again, Family, Stacked, evals, finish, Frame}
+use Rattle.eo_stack.specs.Reading.{waiting, told}
 use Rattle.eo_eval.specs.Ready.{Recalls, Stands}
-use Rattle.eo_eval.specs.declared.stack.Frame as code_frame
-use Rattle.eo_eval.specs.declared.stack.Now as code_now
-use Rattle.eo_eval.specs.declared.stack.Now.TheVariants as next
+use Rattle.eo_stack.specs.declared.stack.Frame as code_frame
+use Rattle.eo_stack.specs.declared.stack.Now as code_now
+use Rattle.eo_stack.specs.declared.stack.Now.TheVariants as next
 use Rattle.eo_pattern.specs.Matching.{put}
-use Rattle.eo_eval.specs.Scopes.{Bound, standing, entered}
+use Rattle.eo_stack.specs.Scopes.{Bound, standing, entered}
 use Rattle.eo_eval.proofs.Waiting.{recalled_low, recalled_deep}
 
 lower : (a b : Tree) → height a ≤ height b → is_tall b ≡ false → is_tall a ≡ false

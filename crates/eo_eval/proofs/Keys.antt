@@ -9,11 +9,11 @@ use Rattle.std.proofs.lemmas.List.Elements.{All-head, All-tail}
 use Rattle.eo_term.specs.Tree.{Tree, tree_eq}
 use Rattle.eo_term.specs.Terms.{tree_at}
 use Rattle.eo_term.proofs.Equality.{tree_list_decides}
-use Rattle.eo_eval.specs.Evaluation.{call_eq}
-use Rattle.eo_eval.specs.Reading.{read_call, begun}
-use Rattle.eo_eval.specs.declared.calls.CallKey.{CallKey}
-use Rattle.eo_eval.specs.declared.stack.Known as code_known
-use Rattle.eo_eval.specs.contracts.calls.CallKeyPartialEq.TheImpl as key_eq
+use Rattle.eo_stack.specs.Evaluation.{call_eq}
+use Rattle.eo_stack.specs.Reading.{read_call, begun}
+use Rattle.eo_stack.specs.declared.calls.CallKey.{CallKey}
+use Rattle.eo_stack.specs.declared.stack.Known as code_known
+use Rattle.eo_stack.specs.contracts.calls.CallKeyPartialEq.TheImpl as key_eq
 use Rattle.eo_base.proofs.Tests.{same_tests}
 
 module _ (ts : List Tree) (same : (i j : ℕ) → i < length ts → j < length ts → tree_at ts i ≡ tree_at ts j → i ≡ j) where

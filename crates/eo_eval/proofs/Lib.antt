@@ -10,7 +10,6 @@ mod Keys
 mod Grown
 mod Popped
 mod Frames
-mod OnValues
 mod Gathering
 mod Gathered
 mod Giving
@@ -21,5 +20,4 @@ mod Itself
 mod Settled
 mod Remembered
 mod Calling
-mod Lights
 mod Making

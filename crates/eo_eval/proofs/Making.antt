@@ -8,7 +8,7 @@ use Rattle.eo_term.specs.declared.table.TermRefused.{TermRefused}
 use Rattle.eo_term.specs.declared.table.TermRefused.TheVariants as term
 use Rattle.eo_pattern.specs.Slots.{Slots, held}
 use Rattle.eo_pattern.specs.Steps.{put_in, IsMade}
-use Rattle.eo_eval.specs.Bodies.{MakesBody}
+use Rattle.eo_stack.specs.Bodies.{MakesBody}
 
 pub makes_body : (old new : Terms) (s : Slots) (i : ℕ) (r : Result ℕ TermRefused) (body : Option Tree) → body ≡ Some (put_in old s i) → IfOk r (IsMade (held old.trees s) old.trees i new.trees) → (IsTall r → is_tall (put_in old s i) ≡ true) → MakesBody new r body
 makes_body old new s i (Ok v) body is made tall = record { live = made.live; tree = is ∙ ap Some (sym made.tree); low = ap is_tall made.tree ∙ made.low }

@@ -7,8 +7,8 @@ use Rattle.eo_base.proofs.Tests.{join, or_first, or_second}
 use Rattle.eo_term.specs.Tree.{Tree}
 use Rattle.eo_term.proofs.Equality.{tree_list_decides}
 use Rattle.eo_sig.specs.Signature.{Signature}
-use Rattle.eo_eval.specs.Evaluation.{Outcome, Value, Stuck, Deep, Calls, Range, Tall, Call, call_eq, Begun, Ended, on_value, eval_with, begin, on_body, body_of, call_within}
-use Rattle.eo_eval.specs.Machine.{IsBegun, Covers, Again}
+use Rattle.eo_stack.specs.Evaluation.{Outcome, Value, Stuck, Deep, Calls, Range, Tall, Call, call_eq, Begun, Ended, on_value, eval_with, begin, on_body, body_of, call_within}
+use Rattle.eo_stack.specs.Machine.{IsBegun, Covers, Again}
 
 abbrev is_done : {A : Type 0} → Outcome A → Bool
 is_done (Value v) = true

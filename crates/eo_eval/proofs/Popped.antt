@@ -5,25 +5,25 @@ use Rattle.std.proofs.lemmas.List.{reverse-append}
 use Rattle.std.proofs.lemmas.List.Elements.{All-push, All-pop, All-take}
 use Rattle.eo_term.specs.Tree.{Tree}
 use Rattle.eo_sig.specs.Signature.{Signature}
-use Rattle.eo_eval.specs.Evaluation.{Begun}
-use Rattle.eo_eval.specs.Machine.{Again, Frame, OfNode, Stacked, evals, resume, finish}
-use Rattle.eo_eval.specs.Reading.{node_of, deepest_of, left_of, wait_of, values_before, result_of, depth_of, outcome_in, OutcomeBelow, waiting, told, current, Given, Waits, IsFrame, IsPlaced, IsNode, Scoped, IsResult, NowBelow, now_of}
+use Rattle.eo_stack.specs.Evaluation.{Begun}
+use Rattle.eo_stack.specs.Machine.{Again, Frame, OfNode, Stacked, evals, resume, finish}
+use Rattle.eo_stack.specs.Reading.{node_of, deepest_of, left_of, wait_of, values_before, result_of, depth_of, outcome_in, OutcomeBelow, waiting, told, current, Given, Waits, IsFrame, IsPlaced, IsNode, Scoped, IsResult, NowBelow, now_of}
 use Rattle.eo_base.specs.Limits.{calls_limit}
 use Rattle.eo_term.specs.Terms.{Terms}
 use Rattle.eo_sig.specs.Reading.{Kept, signature}
-use Rattle.eo_eval.specs.Evaluation.{call_within}
-use Rattle.eo_eval.specs.Reading.{begun, Remembers}
+use Rattle.eo_stack.specs.Evaluation.{call_within}
+use Rattle.eo_stack.specs.Reading.{begun, Remembers}
 use Rattle.eo_eval.specs.Ready.{Based, Stands, HasNoValues, Proceeds, Begins, Ready, PoppedReady, Held, Concludes, Keeps, told_in, told_popped}
 use Rattle.eo_eval.specs.declared.machine.Machine.{Machine}
-use Rattle.eo_eval.specs.declared.stack.Known as code_known
-use Rattle.eo_eval.specs.declared.calls.CallKey.{CallKey}
-use Rattle.eo_eval.specs.declared.stack.Frame as code_frame
-use Rattle.eo_eval.specs.declared.stack.Frame.TheVariants as frame
-use Rattle.eo_eval.specs.declared.stack.Now as code_now
-use Rattle.eo_eval.specs.declared.stack.Now.TheVariants as next
-use Rattle.eo_eval.specs.declared.evaluator.Outcome as code_outcome
-use Rattle.eo_eval.specs.declared.evaluator.Outcome.TheVariants as outcome
-use Rattle.eo_eval.specs.Scopes.{Bound, entered}
+use Rattle.eo_stack.specs.declared.stack.Known as code_known
+use Rattle.eo_stack.specs.declared.calls.CallKey.{CallKey}
+use Rattle.eo_stack.specs.declared.stack.Frame as code_frame
+use Rattle.eo_stack.specs.declared.stack.Frame.TheVariants as frame
+use Rattle.eo_stack.specs.declared.stack.Now as code_now
+use Rattle.eo_stack.specs.declared.stack.Now.TheVariants as next
+use Rattle.eo_stack.specs.declared.Outcome as code_outcome
+use Rattle.eo_stack.specs.declared.Outcome.TheVariants as outcome
+use Rattle.eo_stack.specs.Scopes.{Bound, entered}
 use Rattle.eo_eval.proofs.Same.{held_same, stands_same}
 use Rattle.eo_eval.proofs.Waiting.{waits_first, waits_on, waits_done, again_done}
 

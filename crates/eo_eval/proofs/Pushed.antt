@@ -10,16 +10,16 @@ use Rattle.eo_sig.specs.Reading.{Kept, signature}
 use Rattle.eo_sig.specs.Signature.{Signature}
 use Rattle.eo_sig.specs.Usable.{IsUsable}
 use Rattle.eo_type.specs.Known.{Fit}
-use Rattle.eo_eval.specs.Evaluation.{Deep, Calls, Range, Tall, Ended, eval}
-use Rattle.eo_eval.specs.Machine.{evals, calls}
-use Rattle.eo_eval.specs.Reading.{waiting, told, begun, read_call, IsFrame, IsPlaced, IsKnown, IsLocal, Remembers}
+use Rattle.eo_stack.specs.Evaluation.{Deep, Calls, Range, Tall, Ended, eval}
+use Rattle.eo_stack.specs.Machine.{evals, calls}
+use Rattle.eo_stack.specs.Reading.{waiting, told, begun, read_call, IsFrame, IsPlaced, IsKnown, IsLocal, Remembers}
 use Rattle.eo_eval.specs.Ready.{IsFresh, Ready, Stands, told_in}
-use Rattle.eo_eval.specs.Scopes.{none_bound, IsValueSlot}
-use Rattle.eo_eval.specs.declared.calls.CallKey.{CallKey}
-use Rattle.eo_eval.specs.declared.calls.LocalKey.{LocalKey}
+use Rattle.eo_stack.specs.Scopes.{none_bound, IsValueSlot}
+use Rattle.eo_stack.specs.declared.calls.CallKey.{CallKey}
+use Rattle.eo_stack.specs.declared.calls.LocalKey.{LocalKey}
 use Rattle.eo_eval.specs.declared.machine.Machine.{Machine}
-use Rattle.eo_eval.specs.declared.stack.Known as code_known
-use Rattle.eo_eval.specs.declared.stack.Now.TheVariants as next
+use Rattle.eo_stack.specs.declared.stack.Known as code_known
+use Rattle.eo_stack.specs.declared.stack.Now.TheVariants as next
 use Rattle.eo_eval.proofs.Entered.{entered_none}
 use Rattle.eo_eval.proofs.Steps.{finish_stops}
 

@@ -9,14 +9,14 @@ use Rattle.eo_base.proofs.Tests.{both}
 use Rattle.eo_term.specs.Terms.{tree_at}
 use Rattle.eo_term.specs.Tree.{Tree}
 use Rattle.eo_sig.specs.Signature.{Signature}
-use Rattle.eo_eval.specs.Evaluation.{Begun}
-use Rattle.eo_eval.specs.Machine.{evals}
-use Rattle.eo_eval.specs.Reading.{begun, IsKnown, IsLocal, Remembers}
-use Rattle.eo_eval.specs.Scopes.{Bound, entered, IsScope}
-use Rattle.eo_eval.specs.declared.calls.CallKey.{CallKey}
-use Rattle.eo_eval.specs.declared.calls.LocalKey.{LocalKey}
-use Rattle.eo_eval.specs.declared.stack.Known as code_known
-use Rattle.eo_eval.specs.contracts.calls.LocalKeyPartialEq.TheImpl as local_eq
+use Rattle.eo_stack.specs.Evaluation.{Begun}
+use Rattle.eo_stack.specs.Machine.{evals}
+use Rattle.eo_stack.specs.Reading.{begun, IsKnown, IsLocal, Remembers}
+use Rattle.eo_stack.specs.Scopes.{Bound, entered, IsScope}
+use Rattle.eo_stack.specs.declared.calls.CallKey.{CallKey}
+use Rattle.eo_stack.specs.declared.calls.LocalKey.{LocalKey}
+use Rattle.eo_stack.specs.declared.stack.Known as code_known
+use Rattle.eo_stack.specs.contracts.calls.LocalKeyPartialEq.TheImpl as local_eq
 use Rattle.eo_eval.proofs.Entered.{entered_local}
 
 -- by a test that only equal keys pass

@@ -17,19 +17,19 @@ use Rattle.eo_pattern.specs.Matching.{put}
 use Rattle.eo_pattern.specs.Slots.{Slots, held}
 use Rattle.eo_pattern.specs.Steps.{put_in}
 use Rattle.eo_pattern.proofs.Steps.{put_nothing}
-use Rattle.eo_eval.specs.Bodies.{IsFound, IsBody, chosen_case}
-use Rattle.eo_eval.specs.Evaluation.{Stuck, Tall, Call, call_eq, Begun, Ended, ends, on_body, body_of, eval, eval_with, call_within}
-use Rattle.eo_eval.specs.Machine.{IsBegun, Again, Frame, OfCall, Stacked, evals, calls, finish}
-use Rattle.eo_eval.specs.Reading.{waiting, told, call_at, read_call, begun, IsFrame, IsPlaced, Remembers, Scoped}
+use Rattle.eo_stack.specs.Bodies.{IsFound, IsBody, chosen_case}
+use Rattle.eo_stack.specs.Evaluation.{Stuck, Tall, Call, call_eq, Begun, Ended, ends, on_body, body_of, eval, eval_with, call_within}
+use Rattle.eo_stack.specs.Machine.{IsBegun, Again, Frame, OfCall, Stacked, evals, calls, finish}
+use Rattle.eo_stack.specs.Reading.{waiting, told, call_at, read_call, begun, IsFrame, IsPlaced, Remembers, Scoped}
 use Rattle.eo_eval.specs.Ready.{Based, Stands, Ready, Calling, called_at, told_in, told_run}
-use Rattle.eo_eval.specs.Scopes.{Bound, standing, entered, inner, outer, assignment_here, IsValueSlot, IsScope}
-use Rattle.eo_eval.specs.declared.calls.CallKey.{CallKey}
+use Rattle.eo_stack.specs.Scopes.{Bound, standing, entered, inner, outer, assignment_here, IsValueSlot, IsScope}
+use Rattle.eo_stack.specs.declared.calls.CallKey.{CallKey}
 use Rattle.eo_eval.specs.declared.machine.Machine.{Machine}
-use Rattle.eo_eval.specs.declared.stack.Frame as code_frame
-use Rattle.eo_eval.specs.declared.stack.Frame.TheVariants as frame
-use Rattle.eo_eval.specs.declared.stack.Known as code_known
-use Rattle.eo_eval.specs.declared.stack.Known.TheVariants as known
-use Rattle.eo_eval.specs.declared.stack.Now.TheVariants as next
+use Rattle.eo_stack.specs.declared.stack.Frame as code_frame
+use Rattle.eo_stack.specs.declared.stack.Frame.TheVariants as frame
+use Rattle.eo_stack.specs.declared.stack.Known as code_known
+use Rattle.eo_stack.specs.declared.stack.Known.TheVariants as known
+use Rattle.eo_stack.specs.declared.stack.Now.TheVariants as next
 use Rattle.eo_eval.proofs.Called.{begun_set, keys_set, remembers_put}
 use Rattle.eo_eval.proofs.Entered.{assignment_is, body_none, body_some}
 use Rattle.eo_eval.proofs.Memory.{call_refl, steady_call}

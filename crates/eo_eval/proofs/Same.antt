@@ -5,25 +5,23 @@ use Rattle.std.proofs.Math.Path.{transport}
 use Rattle.eo_base.specs.Limits.{calls_limit}
 use Rattle.eo_term.specs.Terms.{Terms}
 use Rattle.eo_term.specs.Tree.{Tree}
-use Rattle.eo_term.proofs.Growing.{grows_refl}
 use Rattle.eo_sig.specs.Growth.{GrowsUnder}
 use Rattle.eo_sig.specs.Reading.{Kept, signature}
 use Rattle.eo_sig.specs.Signature.{Signature}
-use Rattle.eo_sig.proofs.Growing.{grows_under}
 use Rattle.eo_type.specs.Known.{Fit}
 use Rattle.eo_type.proofs.Fitting.{fit_grown}
-use Rattle.eo_eval.specs.Evaluation.{Begun, Call}
-use Rattle.eo_eval.specs.Machine.{Stacked, calls}
-use Rattle.eo_eval.specs.Reading.{begun, waiting, Remembers, Scoped}
+use Rattle.eo_stack.specs.Evaluation.{Begun, Call}
+use Rattle.eo_stack.specs.Machine.{Stacked, calls}
+use Rattle.eo_stack.specs.Reading.{begun, waiting, Remembers, Scoped}
 use Rattle.eo_eval.specs.Ready.{Held, Stands, Calling}
-use Rattle.eo_eval.specs.Scopes.{Bound, IsScope}
-use Rattle.eo_eval.specs.declared.calls.CallKey.{CallKey}
+use Rattle.eo_stack.specs.Scopes.{Bound, IsScope}
+use Rattle.eo_stack.specs.declared.calls.CallKey.{CallKey}
 use Rattle.eo_eval.specs.declared.machine.Machine.{Machine}
-use Rattle.eo_eval.specs.declared.stack.Frame as code_frame
-use Rattle.eo_eval.specs.declared.stack.Frame.TheVariants as frame
-use Rattle.eo_eval.specs.declared.stack.Known as code_known
-use Rattle.eo_eval.specs.declared.stack.Now as code_now
-use Rattle.eo_eval.specs.declared.stack.Now.TheVariants as next
+use Rattle.eo_stack.specs.declared.stack.Frame as code_frame
+use Rattle.eo_stack.specs.declared.stack.Frame.TheVariants as frame
+use Rattle.eo_stack.specs.declared.stack.Known as code_known
+use Rattle.eo_stack.specs.declared.stack.Now as code_now
+use Rattle.eo_stack.specs.declared.stack.Now.TheVariants as next
 
 module _ (k : Kept) (t : Terms) (typed : List (ℕ × ℕ)) (e later : Machine) (cs : later.calls.entries ≡ e.calls.entries) where
   abbrev KeyLive : CallKey × code_known.Known → Type 0
@@ -68,10 +66,6 @@ scope_of S ts b scope [] h = h
 scope_of S ts b scope (frame.Body place body base here kept ∷ fs) h = h.0
 scope_of S ts b scope (f ∷ fs) h = scope_of S ts b scope fs h
 
--- a table that has not changed has grown from itself
-pub grows_same : {k : Kept} {t : Terms} {typed : List (ℕ × ℕ)} → Fit k t typed → GrowsUnder k t t
-grows_same {k} {t} fit = grows_under k t t fit.below (grows_refl t)
-
--- and types that fit it do so where it has grown
+-- types that fit a table do so where it has grown
 pub fit_since : {k : Kept} {old new : Terms} {typed : List (ℕ × ℕ)} → GrowsUnder k old new → Fit k old typed → Fit k new typed
 fit_since {k} {old} {new} {typed} u fit = fit_grown k old new u.stays u.table.now typed fit

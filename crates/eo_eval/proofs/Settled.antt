@@ -14,10 +14,10 @@ use Rattle.eo_sig.specs.Signature.{Signature}
 use Rattle.eo_type.specs.Types.{Typed, Untyped, on_typed, typed_if, typed_answer, chosen, op_in_type, settled_op, settle, settle_all}
 use Rattle.eo_type.proofs.SettleLemmas.{is_typed, typed_inj, typed_before, typed_if_gives}
 use Rattle.eo_type.proofs.Heights.{settle_low}
-use Rattle.eo_eval.specs.Evaluation.{Outcome, Value, Stuck, Tall, Call, Begun, Ended, Eval, ends, on_outcome, on_value, node, are_equal, answer_value, value_or, operator_value, eval_with, eval_all_with, call_within}
-use Rattle.eo_eval.specs.Machine.{maybe}
+use Rattle.eo_stack.specs.Evaluation.{Outcome, Value, Stuck, Tall, Call, Begun, Ended, Eval, ends, on_outcome, on_value, node, are_equal, answer_value, value_or, operator_value, eval_with, eval_all_with, call_within}
+use Rattle.eo_stack.specs.Machine.{maybe}
 use Rattle.eo_eval.specs.Settling.{value_or_stuck, SettlesAsEvaluated}
-use Rattle.eo_eval.proofs.OnValues.{not_listed}
+use Rattle.eo_stack.proofs.OnValues.{not_listed}
 use Rattle.eo_eval.proofs.OperatorValues.{tree_op_values}
 
 -- trees beside what they settle to

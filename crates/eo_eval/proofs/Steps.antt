@@ -7,8 +7,8 @@ use Rattle.eo_term.specs.declared.OpCode.{OpCode}
 use Rattle.eo_term.specs.Tree.{Tree, Var, App, Arr, Op, Trees, NoTree, More, truth, is_tall}
 use Rattle.eo_term.specs.Arguments.{from, count_of, argument_at}
 use Rattle.eo_sig.specs.Signature.{Signature}
-use Rattle.eo_eval.specs.Evaluation.{Outcome, Value, Stuck, Deep, Calls, Range, Tall, Call, Begun, Ended, Eval, ends, on_outcome, on_value, value_or_none, or_none, are_equal, eval_with, eval_all_with, on_body, body_of, call_within}
-use Rattle.eo_eval.specs.Machine.{parts_of, Wait, Parts, Choice, Tested, Left, Right, Require, Required, Handed, made, rest_with, resume_with, Family, IsBegun, Covers, Comes, Again, Frame, OfNode, OfCall, evals, calls, resume, finish, Stacked}
+use Rattle.eo_stack.specs.Evaluation.{Outcome, Value, Stuck, Deep, Calls, Range, Tall, Call, Begun, Ended, Eval, ends, on_outcome, on_value, value_or_none, or_none, are_equal, eval_with, eval_all_with, on_body, body_of, call_within}
+use Rattle.eo_stack.specs.Machine.{parts_of, Wait, Parts, Choice, Tested, Left, Right, Require, Required, Handed, made, rest_with, resume_with, Family, IsBegun, Covers, Comes, Again, Frame, OfNode, OfCall, evals, calls, resume, finish, Stacked}
 use Rattle.eo_eval.proofs.Memory.{steady_call}
 
 -- one after another is associative

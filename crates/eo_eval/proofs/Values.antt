@@ -15,11 +15,11 @@ use Rattle.eo_lists.specs.Lists.{list_value}
 use Rattle.eo_lists.proofs.Values.{list_value_value}
 use Rattle.eo_type.specs.Types.{TypeOutcome, Typed, Untyped, TypeRange, TypeTall, typed_answer, chosen, value_type}
 use Rattle.eo_eval.proofs.OperatorValues.{value_type_value, tree_op_values}
-use Rattle.eo_eval.specs.Evaluation.{Outcome, Value, Stuck, Deep, Calls, Range, Tall, Call, Begun, Ended, Eval, ends, on_outcome, on_value, or_none, node, are_equal, type_value, answer_value, value_or, operator_value, eval_with, eval_all_with, begin, on_body, body_of, call_within, eval, eval0}
+use Rattle.eo_stack.specs.Evaluation.{Outcome, Value, Stuck, Deep, Calls, Range, Tall, Call, Begun, Ended, Eval, ends, on_outcome, on_value, or_none, node, are_equal, type_value, answer_value, value_or, operator_value, eval_with, eval_all_with, begin, on_body, body_of, call_within, eval, eval0}
 use Rattle.eo_eval.specs.Outcomes.{MayBeValue}
-use Rattle.eo_eval.specs.Reading.{outcome_in, OutcomeBelow}
-use Rattle.eo_eval.specs.declared.evaluator.Outcome as code_outcome
-use Rattle.eo_eval.specs.declared.evaluator.Outcome.TheVariants as outcome
+use Rattle.eo_stack.specs.Reading.{outcome_in, OutcomeBelow}
+use Rattle.eo_stack.specs.declared.Outcome as code_outcome
+use Rattle.eo_stack.specs.declared.Outcome.TheVariants as outcome
 
 -- what holds of each value that a computation gives
 abbrev Yields : {A : Type 0} → Eval A → (A → Type 0) → Type 0

@@ -4,9 +4,9 @@ use Rattle.std.proofs.Common.{sym, ◌∙◌, ap, arith}
 use Rattle.eo_term.specs.Tree.{Tree}
 use Rattle.eo_term.specs.Arguments.{count_of, argument_at}
 use Rattle.eo_sig.specs.Signature.{Signature}
-use Rattle.eo_eval.specs.Evaluation.{Outcome, Value, Deep, Call, Begun, call_within}
-use Rattle.eo_eval.specs.Machine.{parts_of, Wait, Parts, Handed, rest_with, Family, Covers, Comes, Again, Frame, OfNode, OfCall, evals, calls, resume, finish, Stacked}
-use Rattle.eo_eval.specs.Reading.{IsWhole, Given}
+use Rattle.eo_stack.specs.Evaluation.{Outcome, Value, Deep, Call, Begun, call_within}
+use Rattle.eo_stack.specs.Machine.{parts_of, Wait, Parts, Handed, rest_with, Family, Covers, Comes, Again, Frame, OfNode, OfCall, evals, calls, resume, finish, Stacked}
+use Rattle.eo_stack.specs.Reading.{IsWhole, Given}
 use Rattle.eo_eval.proofs.Steps.{next_part, onward, begins, called}
 
 covers_same : (b : Begun) → Covers b b

@@ -3,7 +3,7 @@ use Rattle.std.specs.Prelude.{Ok, Err}
 use Rattle.eo_base.specs.declared.FaultName.TheVariants as fault
 use Rattle.eo_base.specs.Checks.{Checked}
 use Rattle.eo_term.specs.Tree.{Tree}
-use Rattle.eo_eval.specs.Evaluation.{Outcome, Value, Stuck, Deep, Calls, Range, Tall}
+use Rattle.eo_stack.specs.Evaluation.{Outcome, Value, Stuck, Deep, Calls, Range, Tall}
 
 abbrev pub value_or_fault : Outcome Tree → Checked Tree
 value_or_fault (Value v) = Ok v

@@ -1,10 +1,4 @@
-pub mod Bodies
-pub mod Calls
-pub mod Evaluation
 pub mod Faults
-pub mod Machine
 pub mod Outcomes
-pub mod Reading
 pub mod Ready
-pub mod Scopes
 pub mod Settling

@@ -4,11 +4,11 @@ use Rattle.eo_term.specs.Growth.{tree_in}
 use Rattle.eo_term.specs.Terms.{Terms}
 use Rattle.eo_term.specs.Tree.{Tree, is_value, is_tall}
 use Rattle.eo_sig.specs.Reading.{Kept, signature}
-use Rattle.eo_eval.specs.Evaluation.{Outcome, eval0}
-use Rattle.eo_eval.specs.Reading.{outcome_in}
+use Rattle.eo_stack.specs.Evaluation.{Outcome, eval0}
+use Rattle.eo_stack.specs.Reading.{outcome_in}
 use Rattle.eo_eval.specs.declared.evaluator.EvalRefused.{EvalRefused}
-use Rattle.eo_eval.specs.declared.evaluator.Outcome as code_outcome
-use Rattle.eo_eval.specs.declared.evaluator.Outcome.TheVariants as outcome
+use Rattle.eo_stack.specs.declared.Outcome as code_outcome
+use Rattle.eo_stack.specs.declared.Outcome.TheVariants as outcome
 
 -- how the evaluation of a term of a table ends
 abbrev pub outcome_of : Kept → Terms → ℕ → Outcome Tree

@@ -5,19 +5,19 @@ use Rattle.eo_term.specs.Terms.{Terms, tree_at}
 use Rattle.eo_sig.specs.Reading.{Kept, signature}
 use Rattle.eo_sig.specs.Usable.{IsUsable}
 use Rattle.eo_type.specs.Known.{Fit}
-use Rattle.eo_eval.specs.Evaluation.{Outcome, Value, Stuck, Ended, Begun, Call, Eval, on_body, body_of, call_within, eval}
+use Rattle.eo_stack.specs.Evaluation.{Outcome, Value, Stuck, Ended, Begun, Call, Eval, on_body, body_of, call_within, eval}
 use Rattle.eo_term.specs.Arguments.{argument_at, count_of}
-use Rattle.eo_eval.specs.Machine.{parts_of, Family, Frame, Again, Comes, Stacked, evals, calls, finish, rest_with, resume, resume_with}
-use Rattle.eo_eval.specs.declared.stack.Now.TheVariants as next
+use Rattle.eo_stack.specs.Machine.{parts_of, Family, Frame, Again, Comes, Stacked, evals, calls, finish, rest_with, resume, resume_with}
+use Rattle.eo_stack.specs.declared.stack.Now.TheVariants as next
 use Rattle.eo_sig.specs.Signature.{Signature}
-use Rattle.eo_eval.specs.declared.stack.Frame.TheVariants as frame
+use Rattle.eo_stack.specs.declared.stack.Frame.TheVariants as frame
 use Rattle.eo_term.specs.Tree.{Tree}
-use Rattle.eo_eval.specs.Scopes.{Bound, none_bound, entered, IsValueSlot}
-use Rattle.eo_eval.specs.Reading.{call_at, is_par, node_of, deepest_of, left_of, wait_of, result_of, depth_of, outcome_in, OutcomeBelow, waiting, Scoped, told, Waits, begun, Remembers, IsFrame, IsPlaced, NowBelow}
-use Rattle.eo_eval.specs.declared.stack.Now as code_now
-use Rattle.eo_eval.specs.declared.stack.Frame as code_frame
+use Rattle.eo_stack.specs.Scopes.{Bound, none_bound, entered, IsValueSlot}
+use Rattle.eo_stack.specs.Reading.{call_at, is_par, node_of, deepest_of, left_of, wait_of, result_of, depth_of, outcome_in, OutcomeBelow, waiting, Scoped, told, Waits, begun, Remembers, IsFrame, IsPlaced, NowBelow}
+use Rattle.eo_stack.specs.declared.stack.Now as code_now
+use Rattle.eo_stack.specs.declared.stack.Frame as code_frame
 use Rattle.eo_eval.specs.declared.machine.Machine.{Machine}
-use Rattle.eo_eval.specs.declared.evaluator.Outcome as code_outcome
+use Rattle.eo_stack.specs.declared.Outcome as code_outcome
 
 -- what the definition makes of all that a machine holds and of what it does next
 abbrev pub told_in : Kept → Terms → Machine → code_now.Now → Ended Tree

@@ -3,7 +3,7 @@ use Rattle.std.specs.Prelude.{◌≡◌, true, false, if◌then◌else◌}
 use Rattle.eo_term.specs.Tree.{Tree, is_value, is_closed, is_tall, may_be_type}
 use Rattle.eo_sig.specs.Signature.{Signature}
 use Rattle.eo_type.specs.Types.{Typed, settle}
-use Rattle.eo_eval.specs.Evaluation.{Outcome, Value, Stuck, eval0}
+use Rattle.eo_stack.specs.Evaluation.{Outcome, Value, Stuck, eval0}
 
 -- The outcome of a tree that is evaluated to this one, if it is a value, and else is stuck.
 abbrev pub value_or_stuck : Tree → Outcome Tree

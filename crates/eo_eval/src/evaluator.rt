@@ -8,27 +8,11 @@ ghost use Rattle.eo_eval.specs.Outcomes.{GivesOutcome, outcome_of};
 
 use crate::machine::Machine;
 use eo_sig::Signature;
+use eo_stack::Outcome;
 use eo_term::{Id, Table};
 use eo_type::Types;
 use std::alloc::{AllocError, Global};
 use std::marker::Model;
-
-/// How evaluation ends.
-#[derive(Clone, Copy, Debug, PartialEq, Eq)]
-pub enum Outcome {
-    /// With a value.
-    Value(Id),
-    /// With none.
-    Stuck,
-    /// More calls are open than may be.
-    Deep,
-    /// More different calls were begun than may be.
-    Calls,
-    /// A number is out of range.
-    Range,
-    /// A term is too tall.
-    Tall,
-}
 
 /// Why it is not known how evaluation ends.
 #[derive(Debug, Drop)]

@@ -3,7 +3,7 @@ ghost use Rattle.std.specs.Prelude.{◌≡◌, true};
 ghost use Rattle.eo_term.specs.Tree.{Tree, is_value};
 ghost use Rattle.eo_sig.specs.Signature.{Signature};
 ghost use Rattle.eo_sig.specs.Usable.{IsUsable};
-ghost use Rattle.eo_eval.specs.Evaluation.{Value, eval0};
+ghost use Rattle.eo_stack.specs.Evaluation.{Value, eval0};
 ghost use Rattle.eo_eval.specs.Settling.{SettlesAsEvaluated};
 
 /// A law: where the operators in a term are such that declared types may hold them, and it settles

@@ -18,7 +18,7 @@ use Rattle.eo_sig.specs.Signature.{Signature, Parameter, Rule, PremiseShape, Eac
 use Rattle.eo_pattern.specs.Slots.{Slots, SlotBelow, AreBelow}
 use Rattle.eo_pattern.specs.Matching.{Assignment, empty, put, matching}
 use Rattle.eo_type.specs.Types.{settled}
-use Rattle.eo_eval.specs.Evaluation.{eval0}
+use Rattle.eo_stack.specs.Evaluation.{eval0}
 use Rattle.eo_eval.specs.Faults.{value_or_fault}
 use Rattle.eo_eval.specs.Outcomes.{IsValueOf}
 use Rattle.eo_rule.specs.declared.refused.RuleRefused.{RuleRefused}

@@ -9,7 +9,7 @@ use Rattle.eo_sig.specs.Signature.{Signature, Parameter, Rule, terminator, premi
 use Rattle.eo_pattern.specs.Matching.{Assignment, empty, put, matching}
 use Rattle.eo_lists.specs.Lists.{spell, list_by}
 use Rattle.eo_type.specs.Types.{TypeOutcome, Typed, Untyped, TypeRange, TypeTall, settled, value_type}
-use Rattle.eo_eval.specs.Evaluation.{Outcome, Value, Stuck, Deep, Calls, Range, Tall, eval0}
+use Rattle.eo_stack.specs.Evaluation.{Outcome, Value, Stuck, Deep, Calls, Range, Tall, eval0}
 use Rattle.eo_eval.specs.Faults.{value_or_fault}
 use Rattle.eo_rule.specs.Instance.{guarded_conclusion}
 use Rattle.eo_rule.specs.Uses.{Use, typed_or, typed, joined, join_premises, match_use, matched, check_kind, check_value, check_type, check_types, conclude_value, check_formula, is_stated, check_stated, kind_conclusion, rule_conclusion, conclusion}

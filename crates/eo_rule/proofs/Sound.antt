@@ -18,7 +18,7 @@ use Rattle.eo_lists.specs.Lists.{spell}
 use Rattle.eo_lists.proofs.Spell.{spell_value}
 use Rattle.eo_type.specs.Types.{Typed, settled, type_of, value_type}
 use Rattle.eo_eval.proofs.OperatorValues.{value_type_value}
-use Rattle.eo_eval.specs.Evaluation.{Value, eval0}
+use Rattle.eo_stack.specs.Evaluation.{Value, eval0}
 use Rattle.eo_rule.specs.Instance.{guarded_conclusion, restricted, PremisesFit, FitsType, Instance}
 use Rattle.eo_rule.specs.Uses.{Use, join_premises, match_use, check_type, check_types, is_stated, check_formula, rule_conclusion, AgreesWith}
 use Rattle.eo_rule.proofs.Openly.{settled_openly, value_type_is_type}

@@ -10,10 +10,10 @@ use Rattle.eo_type.specs.declared.refused.TypeRefused.{TypeRefused}
 use Rattle.eo_type.specs.declared.refused.TypeRefused.TheVariants as kind
 use Rattle.eo_eval.specs.declared.evaluator.EvalRefused.{EvalRefused}
 use Rattle.eo_eval.specs.declared.evaluator.EvalRefused.TheVariants as eval
-use Rattle.eo_eval.specs.declared.evaluator.Outcome as code_outcome
+use Rattle.eo_stack.specs.declared.Outcome as code_outcome
 use Rattle.eo_eval.specs.Faults.{value_or_fault}
 use Rattle.eo_eval.specs.Outcomes.{IsValueOf, MayBeValue}
-use Rattle.eo_eval.specs.Reading.{outcome_in}
+use Rattle.eo_stack.specs.Reading.{outcome_in}
 use Rattle.eo_term.specs.Growth.{tree_in}
 use Rattle.eo_term.specs.Terms.{Terms}
 use Rattle.eo_term.specs.Tree.{Tree}

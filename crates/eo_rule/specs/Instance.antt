@@ -7,7 +7,7 @@ use Rattle.eo_sig.specs.Signature.{Signature, Parameter, Rule, PremiseShape, Eac
 use Rattle.eo_pattern.specs.Matching.{Assignment, put}
 use Rattle.eo_lists.specs.Lists.{spell}
 use Rattle.eo_type.specs.Types.{Typed, settled, type_of, value_type}
-use Rattle.eo_eval.specs.Evaluation.{Value, eval0}
+use Rattle.eo_stack.specs.Evaluation.{Value, eval0}
 
 -- a tree that has the value of the second where the two of the pair have the same value
 abbrev pub under : Tree × Tree → Tree → Tree

@@ -9,7 +9,7 @@ use Rattle.eo_sig.specs.Signature.{Signature, Parameter, Rule, PremiseShape, Eac
 use Rattle.eo_pattern.specs.Matching.{Assignment, empty, put, matching}
 use Rattle.eo_lists.specs.Lists.{list_by}
 use Rattle.eo_type.specs.Types.{TypeOutcome, Typed, Untyped, TypeRange, TypeTall, settled, value_type}
-use Rattle.eo_eval.specs.Evaluation.{eval0}
+use Rattle.eo_stack.specs.Evaluation.{eval0}
 use Rattle.eo_eval.specs.Faults.{value_or_fault}
 use Rattle.eo_rule.specs.Instance.{guarded_conclusion, Instance}
 

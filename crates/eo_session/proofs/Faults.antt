@@ -5,7 +5,7 @@ use Rattle.eo_base.specs.declared.FaultName.{FaultName}
 use Rattle.eo_base.specs.declared.FaultName.TheVariants.{WrongKind, UnknownRule, TermHeight, PremiseMismatch, IllTyped, NotBool, ConclusionDiffers, FileAbsent}
 use Rattle.eo_base.specs.Answers.{Tells}
 use Rattle.eo_base.specs.Checks.{Checked, ◌>>=◌, require, value_or}
-use Rattle.eo_eval.specs.Evaluation.{Outcome, Value, Stuck, Deep, Calls, Range, Tall}
+use Rattle.eo_stack.specs.Evaluation.{Outcome, Value, Stuck, Deep, Calls, Range, Tall}
 use Rattle.eo_eval.specs.Faults.{value_or_fault}
 use Rattle.eo_pattern.specs.Matching.{Assignment, empty}
 use Rattle.eo_rule.specs.Uses.{Use, typed_or, typed, joined, join_premises, match_trees, match_use, matched, check_value, check_type, check_types, conclude_value, check_formula, check_stated, kind_conclusion, rule_conclusion, conclusion}

@@ -10,7 +10,7 @@ use Rattle.eo_shape.specs.Shapes.{Command, command_of}
 use Rattle.eo_term.specs.Tree.{Tree, type_tree, bool_tree, is_value, is_tall, tree_eq}
 use Rattle.eo_term.specs.Growth.{Grows}
 use Rattle.eo_term.specs.Terms.{Terms}
-use Rattle.eo_eval.specs.Evaluation.{Outcome, eval0}
+use Rattle.eo_stack.specs.Evaluation.{Outcome, eval0}
 use Rattle.eo_eval.specs.Faults.{value_or_fault}
 use Rattle.eo_eval.specs.Outcomes.{IsValueOf}
 use Rattle.eo_elab.specs.Meaning.{meaning}

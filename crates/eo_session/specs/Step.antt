@@ -8,7 +8,7 @@ use Rattle.eo_lit.specs.declared.LiteralClass.{LiteralClass}
 use Rattle.eo_sig.specs.Signature.{IsConstant, IsProgram, IsRule, IsLiteralType, Attribute, Plain, Constant, Macro, Program, Rule, Named, NamesConstant, NamesMacro, lookup, constant_at, rule_at, rule_named, is_reserved, constant_fault, program_fault, rule_fault, literal_type_fault}
 use Rattle.eo_shape.specs.Shapes.{ParameterShape, AttributeShape, ProgramShape, RuleShape, StepShape}
 use Rattle.eo_term.specs.Tree.{Tree, type_tree, bool_tree, tree_eq}
-use Rattle.eo_eval.specs.Evaluation.{eval0}
+use Rattle.eo_stack.specs.Evaluation.{eval0}
 use Rattle.eo_eval.specs.Faults.{value_or_fault}
 use Rattle.eo_names.specs.Contexts.{Setting, InProof, InReference, InAssert}
 use Rattle.eo_names.specs.Readers.{Label}

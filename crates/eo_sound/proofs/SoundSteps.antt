@@ -9,7 +9,7 @@ use Rattle.eo_base.proofs.ChecksLemmas.{ok_injective, err_is_not_ok, bind_ok, re
 use Rattle.eo_base.specs.declared.FaultName.TheVariants.{UnknownPremise, NoScope}
 use Rattle.eo_elab.specs.Fitting.{FitsTerms}
 use Rattle.eo_elab.specs.Meaning.{meaning}
-use Rattle.eo_eval.specs.Evaluation.{Outcome, Value, Stuck, Deep, Calls, Range, Tall, eval0}
+use Rattle.eo_stack.specs.Evaluation.{Outcome, Value, Stuck, Deep, Calls, Range, Tall, eval0}
 use Rattle.eo_eval.specs.Faults.{value_or_fault}
 use Rattle.eo_pattern.specs.Matching.{put}
 use Rattle.eo_proof.specs.Scopes as scopes

@@ -4,7 +4,7 @@ use Rattle.std.specs.List.{list_all}
 use Rattle.eo_elab.specs.Declarations.{declared_rule, defined, defined_fun, defined_sort}
 use Rattle.eo_elab.specs.Fitting.{FitsTerms, macro_is_bound, label_is_closed}
 use Rattle.eo_elab.specs.Meaning.{means}
-use Rattle.eo_eval.specs.Evaluation.{Value, eval0}
+use Rattle.eo_stack.specs.Evaluation.{Value, eval0}
 use Rattle.eo_names.specs.Contexts.{Context}
 use Rattle.eo_names.specs.Readers.{Label}
 use Rattle.eo_rule.specs.Derivability.{Derives}

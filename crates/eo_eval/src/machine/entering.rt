@@ -8,11 +8,11 @@ ghost use Rattle.eo_term.specs.declared.OpCode.TheVariants as code;
 ghost use Rattle.eo_sig.specs.Growth.{GrowsUnder};
 ghost use Rattle.eo_type.specs.Known.{Fit};
 ghost use Rattle.eo_eval.specs.Ready.{Ready, told_in};
-ghost use Rattle.eo_eval.specs.declared.stack.Now.TheVariants as next;
+ghost use Rattle.eo_stack.specs.declared.stack.Now.TheVariants as next;
 
 use crate::machine::Machine;
-use crate::stack::{Frame, Now};
 use eo_sig::Signature;
+use eo_stack::{Frame, Now};
 use eo_term::{Id, OpCode, OpName, Table};
 use eo_type::Types;
 use std::alloc::AllocError;

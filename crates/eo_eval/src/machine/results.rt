@@ -1,26 +1,25 @@
 //! Results that are given to what waits.
 ghost use Rattle.std.specs.Prelude.{◌≡◌, ◌<◌, ◌≤◌, ◌+◌, drop, false, length, IfOk, IfSome, IfNone, List, ℕ, Some};
 ghost use Rattle.eo_term.specs.Tree.{Tree, Op, truth};
-ghost use Rattle.eo_eval.specs.Evaluation.{Value, are_equal};
+ghost use Rattle.eo_stack.specs.Evaluation.{Value, are_equal};
 ghost use Rattle.eo_term.specs.Terms.{tree_at};
 ghost use Rattle.eo_term.specs.Growth.{tree_in};
 ghost use Rattle.eo_term.specs.Arguments.{arguments_of, count_of};
 ghost use Rattle.eo_term.specs.declared.OpCode.TheVariants as code;
-ghost use Rattle.eo_eval.specs.Machine.{is_call, parts_of};
+ghost use Rattle.eo_stack.specs.Machine.{is_call, parts_of};
 ghost use Rattle.eo_sig.specs.Reading.{signature};
 ghost use Rattle.eo_sig.specs.Growth.{GrowsUnder};
 ghost use Rattle.eo_type.specs.Known.{Fit};
 ghost use Rattle.eo_base.specs.Limits.{calls_limit};
-ghost use Rattle.eo_eval.specs.Reading.{IsNode, IsResult, HasMore, IsNoTruth, given_in};
-ghost use Rattle.eo_eval.specs.Reading.{now_of, outcome_in, OutcomeBelow, result_of, NowBelow};
+ghost use Rattle.eo_stack.specs.Reading.{IsNode, IsResult, HasMore, IsNoTruth, given_in};
+ghost use Rattle.eo_stack.specs.Reading.{now_of, outcome_in, OutcomeBelow, result_of, NowBelow};
 ghost use Rattle.eo_eval.specs.Ready.{Ready, PoppedReady, Concludes, Proceeds, Begins, HasNoValues, told_in, told_popped};
-ghost use Rattle.eo_eval.specs.declared.stack.Now.TheVariants as next;
-ghost use Rattle.eo_eval.specs.declared.stack.Frame.TheVariants as frame;
+ghost use Rattle.eo_stack.specs.declared.stack.Now.TheVariants as next;
+ghost use Rattle.eo_stack.specs.declared.stack.Frame.TheVariants as frame;
 
-use crate::evaluator::Outcome;
 use crate::machine::Machine;
-use crate::stack::{Frame, Now};
 use eo_sig::Signature;
+use eo_stack::{Frame, Now, Outcome};
 use eo_term::{FALSE, Id, Node, OpCode, TRUE, Table};
 use eo_type::{Types, is_constant};
 use std::alloc::AllocError;

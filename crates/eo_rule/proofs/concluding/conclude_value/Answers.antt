@@ -5,7 +5,7 @@ use Rattle.eo_sig.specs.Usable.{IsUsable}
 use Rattle.eo_term.specs.Tree.{Tree, is_tall}
 use Rattle.eo_pattern.specs.Matching.{put}
 use Rattle.eo_pattern.specs.Slots.{held}
-use Rattle.eo_eval.specs.Evaluation.{eval0}
+use Rattle.eo_stack.specs.Evaluation.{eval0}
 use Rattle.eo_eval.specs.Faults.{value_or_fault}
 use Rattle.eo_type.proofs.Fitting.{grows_under_on}
 use Rattle.eo_rule.specs.Answers.{of_term, GivesTerm}

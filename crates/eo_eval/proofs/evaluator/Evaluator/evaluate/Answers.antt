@@ -1,6 +1,6 @@
 use Rattle.std.proofs.Common.{◌∙◌, sym}
 use Rattle.eo_eval.proofs.Itself.{value_ends}
-use Rattle.eo_eval.proofs.Same.{grows_same}
+use Rattle.eo_stack.proofs.Unchanged.{grows_same}
 use Rattle.eo_eval.proofs.evaluator.Evaluator.evaluate.Goals as goal
 
 pub returns-then-is_value-clause-gives : goal.returns-then-is_value-clause-gives

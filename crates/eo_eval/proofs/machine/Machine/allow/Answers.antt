@@ -1,7 +1,7 @@
 use Rattle.std.proofs.Common.{◌≡◌, ◌∙◌, ◌<◌, sym, max, length, arith, rules}
 use Rattle.eo_base.specs.Limits.{calls_limit}
 use Rattle.eo_sig.specs.Reading.{signature}
-use Rattle.eo_eval.specs.Reading.{depth_of}
+use Rattle.eo_stack.specs.Reading.{depth_of}
 use Rattle.eo_eval.proofs.Frames.{required_equal}
 use Rattle.eo_eval.proofs.machine.Machine.allow.Goals as goal
 

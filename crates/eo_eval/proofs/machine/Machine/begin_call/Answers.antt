@@ -6,11 +6,11 @@ use Rattle.indexmap.proofs.CallerLemmas.{insert_entry-new}
 use Rattle.indexmap.specs.IndexMap.{get}
 use Rattle.eo_base.specs.Limits.{calls_limit}
 use Rattle.eo_sig.specs.Reading.{signature}
-use Rattle.eo_eval.specs.Evaluation.{call_eq}
-use Rattle.eo_eval.specs.Reading.{begun, read_call}
+use Rattle.eo_stack.specs.Evaluation.{call_eq}
+use Rattle.eo_stack.specs.Reading.{begun, read_call}
 use Rattle.eo_eval.specs.Ready.{Calling, called_at, told_call, waiting_in}
-use Rattle.eo_eval.specs.contracts.calls.CallKeyPartialEq.TheImpl as key_eq
-use Rattle.eo_eval.specs.declared.stack.Known.TheVariants as known
+use Rattle.eo_stack.specs.contracts.calls.CallKeyPartialEq.TheImpl as key_eq
+use Rattle.eo_stack.specs.declared.stack.Known.TheVariants as known
 use Rattle.eo_eval.proofs.Beginning.{found_called, below_test, above_test, full_told, began_called, began_calling, began_told}
 use Rattle.eo_eval.proofs.Keys.{begun_found}
 use Rattle.eo_eval.proofs.Running.{begun_count}

@@ -2,12 +2,12 @@ use Rattle.std.proofs.Common.{◌≡◌, ◌<◌, ◌∙◌, length, sym, ap, su
 use Rattle.std.specs.Prelude.{IfSome, IfNone}
 use Rattle.std.proofs.lemmas.Result.{IfOk-weaker}
 use Rattle.eo_term.specs.Tree.{Tree}
-use Rattle.eo_eval.specs.Evaluation.{Ended}
-use Rattle.eo_eval.specs.Reading.{read_call}
+use Rattle.eo_stack.specs.Evaluation.{Ended}
+use Rattle.eo_stack.specs.Reading.{read_call}
 use Rattle.eo_eval.specs.Ready.{Calling, Ready, called_at, told_in, told_call}
-use Rattle.eo_eval.specs.declared.stack.Now as code_now
-use Rattle.eo_eval.specs.declared.stack.Now.TheVariants as next
-use Rattle.eo_eval.proofs.Same.{grows_same}
+use Rattle.eo_stack.specs.declared.stack.Now as code_now
+use Rattle.eo_stack.specs.declared.stack.Now.TheVariants as next
+use Rattle.eo_stack.proofs.Unchanged.{grows_same}
 use Rattle.eo_eval.proofs.machine.Machine.call.Goals as goal
 
 pub returns-then-left-eq0 : goal.returns-then-left-eq0

@@ -3,12 +3,12 @@ use Rattle.std.proofs.lemmas.Result.{IfOk-weaker}
 use Rattle.eo_base.specs.Limits.{calls_limit}
 use Rattle.eo_term.specs.Tree.{Tree}
 use Rattle.eo_sig.specs.Reading.{signature}
-use Rattle.eo_eval.specs.Evaluation.{Ended}
-use Rattle.eo_eval.specs.Machine.{calls}
-use Rattle.eo_eval.specs.Reading.{begun}
+use Rattle.eo_stack.specs.Evaluation.{Ended}
+use Rattle.eo_stack.specs.Machine.{calls}
+use Rattle.eo_stack.specs.Reading.{begun}
 use Rattle.eo_eval.specs.Ready.{called_at, told_in, told_call, told_run, waiting_in}
-use Rattle.eo_eval.specs.declared.stack.Now as code_now
-use Rattle.eo_eval.specs.declared.stack.Now.TheVariants as next
+use Rattle.eo_stack.specs.declared.stack.Now as code_now
+use Rattle.eo_stack.specs.declared.stack.Now.TheVariants as next
 use Rattle.eo_eval.proofs.Beginning.{again_told}
 use Rattle.eo_eval.proofs.Running.{begun_at, begun_count}
 use Rattle.eo_eval.proofs.Itself.{recalls_told, recalls_stands}

@@ -2,12 +2,12 @@ use Rattle.std.proofs.Common.{◌≡◌, ◌<◌, ◌∙◌, All, length, take, 
 use Rattle.std.proofs.lemmas.Result.{IfOk-weaker}
 use Rattle.eo_term.specs.Terms.{tree_at}
 use Rattle.eo_term.specs.Tree.{Tree}
-use Rattle.eo_eval.specs.Evaluation.{Call, Ended}
+use Rattle.eo_stack.specs.Evaluation.{Call, Ended}
 use Rattle.eo_eval.specs.Ready.{Calling, told_in, told_call, told_rest}
-use Rattle.eo_eval.specs.declared.stack.Now as code_now
+use Rattle.eo_stack.specs.declared.stack.Now as code_now
 use Rattle.eo_eval.proofs.Gathered.{call_ready, call_told}
 use Rattle.eo_eval.proofs.Gathering.{values_from}
-use Rattle.eo_eval.proofs.Same.{grows_same}
+use Rattle.eo_stack.proofs.Unchanged.{grows_same}
 use Rattle.eo_eval.proofs.machine.Machine.call_gathered.Goals as goal
 
 pub call-requires-clause-calling : goal.call-requires-clause-calling

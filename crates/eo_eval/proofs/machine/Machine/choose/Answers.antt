@@ -2,7 +2,7 @@ use Rattle.std.proofs.Common.{◌∙◌, ◌<◌, ap, length, arith}
 use Rattle.eo_base.specs.Limits.{calls_limit}
 use Rattle.eo_sig.specs.Reading.{signature}
 use Rattle.eo_term.specs.Tree.{truth}
-use Rattle.eo_eval.specs.Evaluation.{Value}
+use Rattle.eo_stack.specs.Evaluation.{Value}
 use Rattle.eo_eval.proofs.Frames.{choice_true, choice_false}
 use Rattle.eo_eval.proofs.machine.Machine.choose.Goals as goal
 

@@ -3,7 +3,7 @@ use Rattle.eo_eval.proofs.Gathered.{gathering_more, more_told}
 use Rattle.eo_eval.proofs.Gathering.{more_at, next_is}
 use Rattle.eo_term.specs.Arguments.{count_of}
 use Rattle.eo_term.specs.Terms.{tree_at}
-use Rattle.eo_eval.specs.Machine.{parts_of}
+use Rattle.eo_stack.specs.Machine.{parts_of}
 use Rattle.eo_eval.proofs.machine.Machine.collect_from.Goals as goal
 
 pub returns-in-None-clause-next : goal.returns-in-None-clause-next

@@ -1,7 +1,7 @@
 use Rattle.std.proofs.Common.{◌≡◌, ◌∙◌, ◌∷◌, ◌++◌, [], sym, ap, subst, rules, max, reverse}
 use Rattle.eo_base.specs.Limits.{calls_limit}
 use Rattle.eo_sig.specs.Reading.{signature}
-use Rattle.eo_eval.specs.Reading.{begun, node_of, now_of, deepest_of, depth_of}
+use Rattle.eo_stack.specs.Reading.{begun, node_of, now_of, deepest_of, depth_of}
 use Rattle.eo_eval.specs.Ready.{Keeps}
 use Rattle.eo_eval.proofs.Popped.{concluded_told, concluded_ready, concluded_keeps}
 use Rattle.eo_eval.proofs.Same.{scope_of}

@@ -1,6 +1,6 @@
 use Rattle.std.proofs.Common.{◌≡◌, ◌∙◌, ap, suc, take, add-one}
-use Rattle.eo_eval.specs.Reading.{deeper, known_of, depth_of}
-use Rattle.eo_eval.specs.Scopes.{outer}
+use Rattle.eo_stack.specs.Reading.{deeper, known_of, depth_of}
+use Rattle.eo_stack.specs.Scopes.{outer}
 use Rattle.eo_eval.proofs.Called.{ended_call_told, ended_call_ready}
 use Rattle.eo_eval.proofs.machine.Machine.end_call.Goals as goal
 

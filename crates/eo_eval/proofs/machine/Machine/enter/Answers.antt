@@ -2,14 +2,15 @@ use Rattle.std.proofs.Common.{◌∙◌, reverse, sym, refl}
 use Rattle.eo_base.specs.Limits.{calls_limit}
 use Rattle.eo_term.specs.Terms.{tree_at}
 use Rattle.eo_sig.specs.Reading.{signature}
-use Rattle.eo_eval.specs.Evaluation.{Value}
-use Rattle.eo_eval.specs.Machine.{evals}
-use Rattle.eo_eval.specs.Reading.{begun}
-use Rattle.eo_eval.specs.Scopes.{entered}
-use Rattle.eo_eval.specs.declared.stack.Now.TheVariants as next
+use Rattle.eo_stack.specs.Evaluation.{Value}
+use Rattle.eo_stack.specs.Machine.{evals}
+use Rattle.eo_stack.specs.Reading.{begun}
+use Rattle.eo_stack.specs.Scopes.{entered}
+use Rattle.eo_stack.specs.declared.stack.Now.TheVariants as next
 use Rattle.eo_eval.proofs.Entered.{entered_value}
 use Rattle.eo_eval.proofs.Itself.{value_told, value_stands, value_entered, recalls_told, recalls_stands}
-use Rattle.eo_eval.proofs.Same.{scope_of, grows_same}
+use Rattle.eo_stack.proofs.Unchanged.{grows_same}
+use Rattle.eo_eval.proofs.Same.{scope_of}
 use Rattle.eo_eval.proofs.machine.Machine.enter.Goals as goal
 
 pub returns-then-is_value-clause-told : goal.returns-then-is_value-clause-told

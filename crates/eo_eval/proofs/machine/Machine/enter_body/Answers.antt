@@ -1,4 +1,4 @@
-use Rattle.eo_eval.proofs.Same.{grows_same}
+use Rattle.eo_stack.proofs.Unchanged.{grows_same}
 use Rattle.eo_eval.proofs.machine.Machine.enter_body.Goals as goal
 
 pub is_light-requires : goal.is_light-requires

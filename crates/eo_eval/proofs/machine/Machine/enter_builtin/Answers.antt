@@ -5,10 +5,10 @@ use Rattle.eo_term.specs.Growth.{tree_in}
 use Rattle.eo_term.specs.Terms.{arity}
 use Rattle.eo_term.specs.declared.OpCode.TheVariants as code
 use Rattle.eo_sig.specs.Reading.{signature}
-use Rattle.eo_eval.specs.Scopes.{standing}
+use Rattle.eo_stack.specs.Scopes.{standing}
 use Rattle.eo_eval.proofs.Entered.{op_kind, whole_put_op}
 use Rattle.eo_eval.proofs.Frames.{choice_begins, require_begins, left_begins, tested_begins, strict_other}
-use Rattle.eo_eval.proofs.Same.{grows_same}
+use Rattle.eo_stack.proofs.Unchanged.{grows_same}
 use Rattle.eo_eval.proofs.machine.Machine.enter_builtin.Goals as goal
 
 pub begin-requires-clause-begins : goal.begin-requires-clause-begins

@@ -1,5 +1,5 @@
 use Rattle.std.proofs.Common.{◌≡◌, ◌∙◌, length, suc, ap, rules}
-use Rattle.eo_eval.specs.Scopes.{inner}
+use Rattle.eo_stack.specs.Scopes.{inner}
 use Rattle.eo_eval.proofs.Running.{run_light_told, run_light_ready}
 use Rattle.eo_eval.proofs.machine.Machine.enter_light.Goals as goal
 

@@ -1,9 +1,9 @@
 use Rattle.std.proofs.Common.{◌≡◌, ◌∙◌, [], Ok, length, ap, subst, rules}
 use Rattle.eo_sig.specs.Reading.{signature}
-use Rattle.eo_eval.specs.Bodies.{MakesBody}
-use Rattle.eo_eval.specs.Evaluation.{body_of}
+use Rattle.eo_stack.specs.Bodies.{MakesBody}
+use Rattle.eo_stack.specs.Evaluation.{body_of}
 use Rattle.eo_eval.specs.Ready.{called_at}
-use Rattle.eo_eval.specs.Scopes.{inner}
+use Rattle.eo_stack.specs.Scopes.{inner}
 use Rattle.eo_eval.proofs.Running.{run_made_told, run_made_ready}
 use Rattle.eo_eval.proofs.machine.Machine.enter_made.Goals as goal
 

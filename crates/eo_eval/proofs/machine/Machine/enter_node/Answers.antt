@@ -2,12 +2,12 @@ use Rattle.std.proofs.Common.{sym, ap, subst, refl}
 use Rattle.eo_base.specs.Limits.{calls_limit}
 use Rattle.eo_term.specs.Terms.{tree_at, text_at, HasArity}
 use Rattle.eo_sig.specs.Reading.{signature}
-use Rattle.eo_eval.specs.Evaluation.{Stuck}
-use Rattle.eo_eval.specs.Reading.{begun, is_par}
-use Rattle.eo_eval.specs.Scopes.{standing}
+use Rattle.eo_stack.specs.Evaluation.{Stuck}
+use Rattle.eo_stack.specs.Reading.{begun, is_par}
+use Rattle.eo_stack.specs.Scopes.{standing}
 use Rattle.eo_eval.proofs.Entered.{whole_put_var, whole_put_app, whole_put_arr}
 use Rattle.eo_eval.proofs.Itself.{arrow_entered, stuck_told, stuck_stands}
-use Rattle.eo_eval.proofs.Same.{grows_same}
+use Rattle.eo_stack.proofs.Unchanged.{grows_same}
 use Rattle.eo_eval.proofs.machine.Machine.enter_node.Goals as goal
 
 pub enter_parts-requires-clause-node : goal.enter_parts-requires-clause-node

@@ -2,7 +2,7 @@ use Rattle.std.proofs.Common.{◌≡◌, subst}
 use Rattle.eo_term.specs.Arguments.{arguments_of}
 use Rattle.eo_term.specs.Growth.{tree_in}
 use Rattle.eo_term.specs.Tree.{Op}
-use Rattle.eo_eval.specs.Scopes.{standing}
+use Rattle.eo_stack.specs.Scopes.{standing}
 use Rattle.eo_eval.proofs.Entered.{op_kind, whole_put_call}
 use Rattle.eo_eval.proofs.machine.Machine.enter_op.Goals as goal
 

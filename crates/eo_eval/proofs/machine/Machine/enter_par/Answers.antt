@@ -2,9 +2,9 @@ use Rattle.std.proofs.Common.{◌≡◌, ◌∙◌, Some, None, sym, refl}
 use Rattle.eo_base.specs.Limits.{calls_limit}
 use Rattle.eo_term.specs.Terms.{tree_at}
 use Rattle.eo_sig.specs.Reading.{signature}
-use Rattle.eo_eval.specs.Evaluation.{Value, Stuck}
-use Rattle.eo_eval.specs.Reading.{begun}
-use Rattle.eo_eval.specs.Scopes.{slot_at}
+use Rattle.eo_stack.specs.Evaluation.{Value, Stuck}
+use Rattle.eo_stack.specs.Reading.{begun}
+use Rattle.eo_stack.specs.Scopes.{slot_at}
 use Rattle.eo_eval.proofs.Entered.{entered_slot, entered_free, slot_value}
 use Rattle.eo_eval.proofs.Itself.{value_told, value_stands, value_entered, free_entered, stuck_told, stuck_stands}
 use Rattle.eo_eval.proofs.machine.Machine.enter_par.Goals as goal

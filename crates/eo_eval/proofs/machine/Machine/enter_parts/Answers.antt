@@ -1,10 +1,10 @@
 use Rattle.std.proofs.Common.{◌≡◌, ◌∙◌, length, rules}
 use Rattle.std.proofs.lemmas.Result.{IfOk-weaker}
 use Rattle.eo_term.specs.Tree.{Tree}
-use Rattle.eo_eval.specs.Evaluation.{Ended}
+use Rattle.eo_stack.specs.Evaluation.{Ended}
 use Rattle.eo_eval.specs.Ready.{told_in, told_rest}
-use Rattle.eo_eval.specs.declared.stack.Now as code_now
-use Rattle.eo_eval.specs.declared.stack.Now.TheVariants as next
+use Rattle.eo_stack.specs.declared.stack.Now as code_now
+use Rattle.eo_stack.specs.declared.stack.Now.TheVariants as next
 use Rattle.eo_eval.proofs.Gathering.{gathering_begins, begins_told}
 use Rattle.eo_eval.proofs.machine.Machine.enter_parts.Goals as goal
 

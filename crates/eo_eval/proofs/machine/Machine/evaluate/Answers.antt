@@ -1,5 +1,5 @@
 use Rattle.std.proofs.Common.{◌∙◌, ap, sym, refl}
-use Rattle.eo_eval.specs.Evaluation.{Ended}
+use Rattle.eo_stack.specs.Evaluation.{Ended}
 use Rattle.eo_term.specs.Tree.{Tree}
 use Rattle.eo_term.specs.Growth.{tree_in}
 use Rattle.eo_sig.specs.Reading.{signature}

@@ -3,7 +3,7 @@ use Rattle.eo_base.specs.Limits.{calls_limit, open_calls_limit}
 use Rattle.eo_term.specs.Growth.{tree_in}
 use Rattle.eo_sig.specs.Reading.{signature}
 use Rattle.eo_sig.specs.Growth.{GrowsUnder}
-use Rattle.eo_eval.specs.Evaluation.{eval}
+use Rattle.eo_stack.specs.Evaluation.{eval}
 use Rattle.eo_eval.specs.Ready.{Ready, told_in}
 use Rattle.eo_eval.proofs.machine.Machine.evaluate.Given as goal
 

@@ -4,11 +4,11 @@ use Rattle.std.specs.Option.{option_map}
 use Rattle.eo_term.specs.Growth.{trees_in}
 use Rattle.eo_term.specs.Terms.{tree_at}
 use Rattle.eo_sig.specs.Reading.{signature}
-use Rattle.eo_eval.specs.Bodies.{Finds, chosen_case}
-use Rattle.eo_eval.specs.Evaluation.{Call}
-use Rattle.eo_eval.specs.Reading.{begun, call_at}
-use Rattle.eo_eval.specs.declared.calls.CallKey.{CallKey}
-use Rattle.eo_eval.specs.declared.stack.Known as code_known
+use Rattle.eo_stack.specs.Bodies.{Finds, chosen_case}
+use Rattle.eo_stack.specs.Evaluation.{Call}
+use Rattle.eo_stack.specs.Reading.{begun, call_at}
+use Rattle.eo_stack.specs.declared.calls.CallKey.{CallKey}
+use Rattle.eo_stack.specs.declared.stack.Known as code_known
 use Rattle.eo_eval.proofs.Beginning.{all_at}
 use Rattle.eo_eval.proofs.Called.{call_read}
 use Rattle.eo_eval.proofs.machine.Machine.find.Goals as goal

@@ -1,11 +1,12 @@
 use Rattle.std.proofs.Common.{◌≡◌, ◌∙◌, subst, refl}
 use Rattle.std.proofs.lemmas.Result.{IfOk-weaker}
 use Rattle.eo_term.specs.Tree.{Tree}
-use Rattle.eo_eval.specs.Evaluation.{Ended}
+use Rattle.eo_stack.specs.Evaluation.{Ended}
 use Rattle.eo_eval.specs.Ready.{IsNextPart, told_in, told_rest}
-use Rattle.eo_eval.specs.declared.stack.Now as code_now
+use Rattle.eo_stack.specs.declared.stack.Now as code_now
 use Rattle.eo_eval.proofs.Gathered.{waits_ready, waits_told}
-use Rattle.eo_eval.proofs.Same.{grows_same, fit_since}
+use Rattle.eo_stack.proofs.Unchanged.{grows_same}
+use Rattle.eo_eval.proofs.Same.{fit_since}
 use Rattle.eo_eval.proofs.machine.Machine.gather.Goals as goal
 
 pub returns-in_ok-wait-in-Some-clause-told : goal.returns-in_ok-wait-in-Some-clause-told

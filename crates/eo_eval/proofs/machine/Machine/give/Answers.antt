@@ -1,4 +1,4 @@
-use Rattle.eo_eval.proofs.Same.{grows_same}
+use Rattle.eo_stack.proofs.Unchanged.{grows_same}
 use Rattle.eo_eval.proofs.machine.Machine.give.Goals as goal
 
 pub returns-in-None-clause-grows : goal.returns-in-None-clause-grows

@@ -1,12 +1,12 @@
 use Rattle.std.proofs.Common.{◌≡◌, ◌∙◌, max, sym, ap, subst, refl, rules}
 use Rattle.std.proofs.lemmas.Result.{IfOk-weaker}
 use Rattle.eo_term.specs.Tree.{Tree}
-use Rattle.eo_eval.specs.Evaluation.{Ended}
+use Rattle.eo_stack.specs.Evaluation.{Ended}
 use Rattle.eo_eval.specs.Ready.{Gathering, PoppedReady, told_in, told_popped, told_rest}
-use Rattle.eo_eval.specs.declared.stack.Frame.TheVariants as frame
-use Rattle.eo_eval.specs.declared.stack.Now as code_now
+use Rattle.eo_stack.specs.declared.stack.Frame.TheVariants as frame
+use Rattle.eo_stack.specs.declared.stack.Now as code_now
 use Rattle.eo_eval.proofs.Giving.{gathering_given, given_told}
-use Rattle.eo_eval.proofs.Same.{grows_same}
+use Rattle.eo_stack.proofs.Unchanged.{grows_same}
 use Rattle.eo_eval.proofs.machine.Machine.give_parts.Goals as goal
 
 pub gather-requires : goal.gather-requires

@@ -4,17 +4,17 @@ use Rattle.std.proofs.lemmas.List.Elements.{All-pop}
 use Rattle.eo_term.specs.Terms.{Terms, tree_at}
 use Rattle.eo_term.specs.Tree.{truth}
 use Rattle.eo_sig.specs.Reading.{Kept, signature}
-use Rattle.eo_eval.specs.Evaluation.{Value}
-use Rattle.eo_eval.specs.Reading.{IsNode, IsPlaced, begun, other, result_of, given_in}
+use Rattle.eo_stack.specs.Evaluation.{Value}
+use Rattle.eo_stack.specs.Reading.{IsNode, IsPlaced, begun, other, result_of, given_in}
 use Rattle.eo_eval.specs.Ready.{Concludes, PoppedReady, told_in, told_popped}
-use Rattle.eo_eval.specs.declared.evaluator.Outcome.TheVariants as outcome
+use Rattle.eo_stack.specs.declared.Outcome.TheVariants as outcome
 use Rattle.eo_eval.specs.declared.machine.Machine.{Machine}
-use Rattle.eo_eval.specs.declared.stack.Frame as code_frame
-use Rattle.eo_eval.specs.declared.stack.Now as code_now
+use Rattle.eo_stack.specs.declared.stack.Frame as code_frame
+use Rattle.eo_stack.specs.declared.stack.Now as code_now
 use Rattle.eo_eval.proofs.Frames.{tested_ends, right_ends, missed_ends, maybe_given}
 use Rattle.eo_eval.proofs.Popped.{frame_popped}
 use Rattle.eo_eval.proofs.Running.{begun_count}
-use Rattle.eo_eval.proofs.Same.{grows_same}
+use Rattle.eo_stack.proofs.Unchanged.{grows_same}
 use Rattle.eo_eval.proofs.machine.Machine.give_to.Goals as goal
 
 -- what was taken off, by what it is

@@ -1,7 +1,7 @@
 use Rattle.std.proofs.Common.{length, subst}
-use Rattle.eo_eval.specs.Machine.{Again, evals}
-use Rattle.eo_eval.specs.Reading.{begun, outcome_in, OutcomeBelow}
-use Rattle.eo_eval.specs.Scopes.{entered}
+use Rattle.eo_stack.specs.Machine.{Again, evals}
+use Rattle.eo_stack.specs.Reading.{begun, outcome_in, OutcomeBelow}
+use Rattle.eo_stack.specs.Scopes.{entered}
 use Rattle.eo_eval.proofs.machine.Machine.keep.Goals as goal
 
 pub returns-in-Value-clause-remembers : goal.returns-in-Value-clause-remembers

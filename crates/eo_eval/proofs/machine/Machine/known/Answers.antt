@@ -1,11 +1,11 @@
 use Rattle.std.proofs.Common.{◌∙◌, ◌≡◌, ℕ, sym, ap, subst}
 use Rattle.std.specs.Prelude.{IfSome}
 use Rattle.std.specs.Map.{lookup}
-use Rattle.eo_eval.specs.Machine.{evals}
-use Rattle.eo_eval.specs.Reading.{IsKnown, begun}
-use Rattle.eo_eval.specs.Scopes.{entered}
-use Rattle.eo_eval.specs.declared.calls.LocalKey.{LocalKey}
-use Rattle.eo_eval.specs.contracts.calls.LocalKeyPartialEq.TheImpl as local_eq
+use Rattle.eo_stack.specs.Machine.{evals}
+use Rattle.eo_stack.specs.Reading.{IsKnown, begun}
+use Rattle.eo_stack.specs.Scopes.{entered}
+use Rattle.eo_stack.specs.declared.calls.LocalKey.{LocalKey}
+use Rattle.eo_stack.specs.contracts.calls.LocalKeyPartialEq.TheImpl as local_eq
 use Rattle.eo_eval.proofs.Remembered.{term_known, local_known}
 use Rattle.eo_eval.proofs.machine.Machine.known.Goals as goal
 

@@ -1,9 +1,9 @@
 use Rattle.std.proofs.Common.{◌≡◌, ◌∙◌, Some, sym, ap, subst, slice_get}
 use Rattle.std.specs.Option.{option_map}
-use Rattle.eo_eval.specs.Machine.{calls}
-use Rattle.eo_eval.specs.Reading.{IsKnown, begun, call_at, read_call}
-use Rattle.eo_eval.specs.declared.calls.CallKey.{CallKey}
-use Rattle.eo_eval.specs.declared.stack.Known as code_known
+use Rattle.eo_stack.specs.Machine.{calls}
+use Rattle.eo_stack.specs.Reading.{IsKnown, begun, call_at, read_call}
+use Rattle.eo_stack.specs.declared.calls.CallKey.{CallKey}
+use Rattle.eo_stack.specs.declared.stack.Known as code_known
 use Rattle.eo_eval.proofs.Beginning.{all_at}
 use Rattle.eo_eval.proofs.Called.{call_read}
 use Rattle.eo_eval.proofs.machine.Machine.known_call.Goals as goal

@@ -4,10 +4,10 @@ use Rattle.eo_term.specs.Terms.{tree_at}
 use Rattle.eo_term.specs.Tree.{Tree}
 use Rattle.eo_sig.specs.Reading.{signature}
 use Rattle.eo_pattern.specs.Slots.{held}
-use Rattle.eo_eval.specs.Bodies.{MakesBody}
-use Rattle.eo_eval.specs.Evaluation.{Ended, body_of}
+use Rattle.eo_stack.specs.Bodies.{MakesBody}
+use Rattle.eo_stack.specs.Evaluation.{Ended, body_of}
 use Rattle.eo_eval.specs.Ready.{Calling, called_at, told_in, told_run}
-use Rattle.eo_eval.specs.declared.stack.Now as code_now
+use Rattle.eo_stack.specs.declared.stack.Now as code_now
 use Rattle.eo_eval.proofs.Entered.{body_some}
 use Rattle.eo_eval.proofs.Grown.{calling_grown, called_grown, run_told_grown}
 use Rattle.eo_eval.proofs.Making.{makes_body}

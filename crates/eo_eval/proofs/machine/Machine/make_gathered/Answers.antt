@@ -3,8 +3,8 @@ use Rattle.eo_base.specs.Limits.{calls_limit}
 use Rattle.eo_term.specs.Arguments.{count_of}
 use Rattle.eo_term.specs.Terms.{tree_at}
 use Rattle.eo_sig.specs.Reading.{signature}
-use Rattle.eo_eval.specs.Machine.{is_call, made_of, parts_of}
-use Rattle.eo_eval.specs.Reading.{begun, outcome_in}
+use Rattle.eo_stack.specs.Machine.{is_call, made_of, parts_of}
+use Rattle.eo_stack.specs.Reading.{begun, outcome_in}
 use Rattle.eo_eval.proofs.Gathered.{gathered_keeps, gathered_told, gathered_ready}
 use Rattle.eo_eval.proofs.Gathering.{gathering_grown, made_grown, rest_told_grown, values_from}
 use Rattle.eo_eval.proofs.Same.{scope_of}

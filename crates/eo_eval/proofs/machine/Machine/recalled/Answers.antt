@@ -1,6 +1,6 @@
-use Rattle.eo_eval.specs.Machine.{evals}
-use Rattle.eo_eval.specs.Reading.{begun}
-use Rattle.eo_eval.specs.Scopes.{entered}
+use Rattle.eo_stack.specs.Machine.{evals}
+use Rattle.eo_stack.specs.Reading.{begun}
+use Rattle.eo_stack.specs.Scopes.{entered}
 use Rattle.eo_eval.proofs.machine.Machine.recalled.Goals as goal
 
 pub returns-in-Some : goal.returns-in-Some

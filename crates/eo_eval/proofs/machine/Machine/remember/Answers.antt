@@ -1,8 +1,8 @@
 use Rattle.std.proofs.Common.{◌∙◌, ℕ, sym, ap, subst}
 use Rattle.indexmap.specs.IndexMap.{insert_entry}
-use Rattle.eo_eval.specs.Reading.{Remembers, begun}
-use Rattle.eo_eval.specs.declared.calls.LocalKey.{LocalKey}
-use Rattle.eo_eval.specs.contracts.calls.LocalKeyPartialEq.TheImpl as local_eq
+use Rattle.eo_stack.specs.Reading.{Remembers, begun}
+use Rattle.eo_stack.specs.declared.calls.LocalKey.{LocalKey}
+use Rattle.eo_stack.specs.contracts.calls.LocalKeyPartialEq.TheImpl as local_eq
 use Rattle.eo_eval.proofs.Remembered.{term_remembered, local_remembered}
 use Rattle.eo_eval.proofs.machine.Machine.remember.Goals as goal
 

@@ -4,13 +4,14 @@ use Rattle.std.proofs.lemmas.Result.{IfOk-weaker}
 use Rattle.indexmap.specs.Layout.{set_value_at}
 use Rattle.eo_term.specs.Tree.{Tree}
 use Rattle.eo_sig.specs.Reading.{signature}
-use Rattle.eo_eval.specs.Bodies.{Finds, chosen_case}
-use Rattle.eo_eval.specs.Evaluation.{Ended}
+use Rattle.eo_stack.specs.Bodies.{Finds, chosen_case}
+use Rattle.eo_stack.specs.Evaluation.{Ended}
 use Rattle.eo_eval.specs.Ready.{Calling, called_at, told_in, told_run}
-use Rattle.eo_eval.specs.declared.stack.Known.TheVariants as known
-use Rattle.eo_eval.specs.declared.stack.Now as code_now
+use Rattle.eo_stack.specs.declared.stack.Known.TheVariants as known
+use Rattle.eo_stack.specs.declared.stack.Now as code_now
 use Rattle.eo_eval.proofs.Running.{run_none_told, run_none_ready}
-use Rattle.eo_eval.proofs.Same.{calling_same, grows_same}
+use Rattle.eo_stack.proofs.Unchanged.{grows_same}
+use Rattle.eo_eval.proofs.Same.{calling_same}
 use Rattle.eo_eval.proofs.machine.Machine.run.Goals as goal
 
 pub returns-in-None-clause-told : goal.returns-in-None-clause-told

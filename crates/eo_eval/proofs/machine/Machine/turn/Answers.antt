@@ -1,8 +1,8 @@
 use Rattle.std.proofs.Common.{◌≡◌, sym, ap, subst}
 use Rattle.std.specs.Prelude.{IfOk}
-use Rattle.eo_eval.specs.Reading.{IsResult}
+use Rattle.eo_stack.specs.Reading.{IsResult}
 use Rattle.eo_eval.specs.Ready.{Ready, told_in}
-use Rattle.eo_eval.proofs.Same.{grows_same}
+use Rattle.eo_stack.proofs.Unchanged.{grows_same}
 use Rattle.eo_eval.proofs.machine.Machine.turn.Goals as goal
 
 pub enter-requires : goal.enter-requires

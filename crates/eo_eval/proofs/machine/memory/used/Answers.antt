@@ -1,7 +1,7 @@
 use Rattle.std.proofs.Common.{subst}
 use Rattle.eo_term.specs.Terms.{tree_at}
-use Rattle.eo_eval.specs.Evaluation.{Value}
-use Rattle.eo_eval.specs.Reading.{IsKnown}
+use Rattle.eo_stack.specs.Evaluation.{Value}
+use Rattle.eo_stack.specs.Reading.{IsKnown}
 use Rattle.eo_eval.proofs.machine.memory.used.Goals as goal
 
 pub returns-else-deepest-left : goal.returns-else-deepest-left

@@ -2,8 +2,8 @@ use Rattle.std.proofs.Common.{◌∙◌, length, sym, ap, subst}
 use Rattle.eo_term.specs.Terms.{tree_at}
 use Rattle.eo_term.specs.Tree.{Con}
 use Rattle.eo_term.proofs.Equality.{tree_decides}
-use Rattle.eo_eval.specs.Evaluation.{Value}
-use Rattle.eo_eval.specs.Reading.{IsNoTruth}
+use Rattle.eo_stack.specs.Evaluation.{Value}
+use Rattle.eo_stack.specs.Reading.{IsNoTruth}
 use Rattle.eo_eval.proofs.machine.results.truth_given.Goals as goal
 
 pub is_constant-requires : goal.is_constant-requires

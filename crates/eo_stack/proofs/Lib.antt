@@ -1,0 +1,3 @@
+pub mod OnValues
+pub mod Unchanged
+mod Lights

@@ -1,0 +1,12 @@
+use Rattle.std.proofs.Common.{◌≡◌, All, length, take}
+use Rattle.eo_term.specs.Growth.{tree_in}
+use Rattle.eo_pattern.specs.Matching.{empty}
+use Rattle.eo_pattern.specs.Slots.{held, AreBelow, HasRoom}
+use Rattle.eo_stack.proofs.bodies.make_room.Given as goal
+
+abbrev pub invariant-loop-pattern : goal.invariant-loop-pattern
+invariant-loop-pattern l = record {
+  room : All (λ i. HasRoom l.subst (tree_in l.table i)) (take l.pattern-index l.patterns);
+  held : held l.table.trees l.subst ≡ empty;
+  below : AreBelow (length l.table.trees) l.subst;
+}
