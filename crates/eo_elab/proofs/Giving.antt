@@ -1,8 +1,8 @@
 -- What calls give, said in another way.
 use Rattle.std.proofs.Common.{◌≡◌, ℕ, ◌<◌, Bool, Option, true, false, List, [], ◌∷◌, length, map, refl, ap, sym, subst, ◌∙◌, arith}
-use Rattle.std.specs.Prelude.{Result, Ok, Err, not, slice_get, IfOk, None}
+use Rattle.std.specs.Prelude.{Result, Ok, Err, not, slice_get, IfOk}
 use Rattle.std.specs.Result.{IsErrAnd}
-use Rattle.std.proofs.lemmas.List.Elements.{All-nil, All-head, All-tail, All-weaker}
+use Rattle.std.proofs.lemmas.List.Elements.{All-head, All-tail, All-weaker}
 use Rattle.std.proofs.lemmas.List.{take_all}
 use Rattle.eo_base.specs.declared.FaultName.{FaultName}
 use Rattle.eo_base.specs.declared.FaultName.TheVariants.{TermHeight}
@@ -10,43 +10,31 @@ use Rattle.eo_base.specs.Answers.{Gives, Tells}
 use Rattle.eo_base.specs.Checks.{Checked}
 use Rattle.eo_base.proofs.Answering.{tells_on, tells_through}
 use Rattle.eo_sexp.specs.Sexp.{Sexp, Sexps, Next}
-use Rattle.eo_sig.specs.declared.records.ConstDecl.{ConstDecl}
-use Rattle.eo_sig.specs.Reading.{Kept, IsBelow, read_constant}
-use Rattle.eo_sig.specs.Growth.{StaysUnder}
+use Rattle.eo_sig.specs.Reading.{Kept}
 use Rattle.eo_term.specs.Tree.{Tree, Con, Op, to_trees, is_tall}
 use Rattle.eo_term.specs.Terms.{Terms, Since, tree_at}
-use Rattle.eo_term.specs.declared.table.TermRefused.{TermRefused}
-use Rattle.eo_term.specs.declared.table.TermRefused.TheVariants as term
-use Rattle.eo_term.specs.Refused.{IsTall}
-use Rattle.eo_term.specs.Growth.{Grows}
-use Rattle.eo_names.specs.declared.locals.LocalName.{LocalName}
 use Rattle.eo_names.specs.declared.refused.ElabRefused.{ElabRefused}
 use Rattle.eo_elab.specs.declared.plan.Form.{Form}
 use Rattle.eo_names.specs.declared.usage.Use.{Use}
-use Rattle.eo_term.specs.Builds.{TallWhere}
 use Rattle.eo_names.specs.Gives.{GivesTree, GivesTerm as GivesNone}
 use Rattle.eo_elab.specs.Gives.{GivesTerm, GivesLabels, AddsPair, IsFormed, IsUsed, NamesGrow, world_at}
 use Rattle.eo_names.specs.Binders.{list_of}
-use Rattle.eo_names.specs.Contexts.{Context, Setting, Local, InProof, is_list}
+use Rattle.eo_names.specs.Contexts.{Context, Setting, Local, is_list}
 use Rattle.eo_names.specs.Folding.{applied, folded, plainly, arrow}
 use Rattle.eo_names.specs.Usage.{made_of, UseBelow}
 use Rattle.eo_names.specs.declared.usage.Use.TheVariants as use_
 use Rattle.eo_pattern.specs.Matching.{put}
-use Rattle.eo_sig.specs.Signature.{Signature, constant_fault}
-use Rattle.eo_elab.specs.Declarations.{is_free_or_reference}
-use Rattle.eo_elab.specs.Declaring.{MayRepeat}
+use Rattle.eo_sig.specs.Signature.{Signature}
 use Rattle.eo_elab.specs.Forms.{Parts}
 use Rattle.eo_elab.specs.Meaning.{without_labels}
 use Rattle.eo_names.specs.Readers.{Label, Reader, ◌>>=◌, with_labels, read, built, unless, give}
-use Rattle.eo_names.specs.Names.{Binding, AreBelow, BindingsBelow, read_pairs}
-use Rattle.eo_names.specs.Refused.{told, of_term}
-use Rattle.eo_names.specs.Ready.{IsReady}
+use Rattle.eo_names.specs.Names.{Binding, BindingsBelow, read_pairs}
+use Rattle.eo_names.specs.Refused.{told}
 use Rattle.eo_names.specs.Worlds.{World, Read}
 use Rattle.eo_names.specs.declared.scope.Scope.{Scope}
-use Rattle.eo_names.specs.Scopes.{bound_in, setting_in, read_setting}
-use Rattle.eo_names.specs.declared.scope.Setting as code
+use Rattle.eo_names.specs.Scopes.{bound_in, setting_in}
 use Rattle.eo_names.specs.Laws.{WorldStays}
-use Rattle.eo_elab.specs.Worlds.{place, in_setting, context_in, context_at, labels_in, more_pairs_in}
+use Rattle.eo_elab.specs.Worlds.{place, in_setting, labels_in, more_pairs_in}
 
 -- the exit of a `?` refuses a pair for the same fault
 pub adds_fault : (w : World) (old new : Terms) (given gives : List Binding) (pair : Sexp) (before after : List Binding) (r : Result (Unit {0}) ElabRefused) (e : ElabRefused) → IsErrAnd r (λ x. x ≡ e)
@@ -57,16 +45,6 @@ adds_fault w old new given gives pair before after (Err x) e q h = subst (λ y. 
 pub unlabelled : (t : Terms) (ls : List Binding) (r : Result ℕ ElabRefused) (o : Read Tree) (p : Checked Tree) → p ≡ without_labels o → GivesTerm t ls r o → GivesTree t r p
 unlabelled t ls (Ok i) o p same h = record { live = h.live; is = same ∙ ap without_labels h.is }
 unlabelled t ls (Err e) o p same h = tells_on told e p o (λ f q. same ∙ ap without_labels q) h
-
-pub none_ready : (k : Kept) (n : ℕ) (ls : List LocalName) → ls ≡ [] → IsBelow n k → IsReady n k ls
-none_ready k n ls e h = record { below = h; names = subst (AreBelow n) (sym e) (All-nil (λ (l : LocalName). l.id < n)) }
-
--- a table that grows keeps what is read
-pub same_context : (k : Kept) (old new : Terms) → StaysUnder k → IsBelow (length old.trees) k → Grows old new → context_in new k ≡ context_in old k
-same_context k old new law h g = let s = (law old new h g).stays in λ i. record { signature = s.signature i; macros = s.macros i; setting = InProof }
-
-pub same_context_at : (x : code.Setting) (k : Kept) (old new : Terms) → StaysUnder k → IsBelow (length old.trees) k → Grows old new → context_at new k x ≡ context_at old k x
-same_context_at x k old new law h g = let s = (law old new h g).stays in λ i. record { signature = s.signature i; macros = s.macros i; setting = read_setting x }
 
 -- what has no label, read with them
 pub labelled : (t : Terms) (ls : List Binding) (labels : List Label) → labels_in t ls ≡ labels → (r : Result ℕ ElabRefused) (o : Checked Tree) → GivesTree t r o → GivesTerm t ls r (with_labels labels o)
@@ -157,15 +135,6 @@ pub used_on : (c : Context) (ts : List Tree) (r : Result Use ElabRefused) (o p :
 used_on c ts (Ok u) o p same h = λ x ls parts labels. same x ls parts labels ∙ h x ls parts labels
 used_on c ts (Err e) o p same h = λ x ls parts labels. tells_on told e (o (world_at x c ls) parts labels) (p (world_at x c ls) parts labels) (λ f q. same x ls parts labels ∙ q) (h x ls parts labels)
 
--- a term that was not made is refused for its height
-pub refused_as : {A : Type 0} (X : Type 0) (r : TermRefused) (whole : Checked A) → (IsTall {X = X} (Err r) → whole ≡ Err TermHeight) → Tells told (of_term r) whole
-refused_as X term.Tall whole h = h tt
-refused_as X (term.Memory e) whole h = tt
-
-pub tall_told : {A : Type 0} (e : TermRefused) (b : Bool) (whole : Checked A) → (b ≡ true → whole ≡ Err TermHeight) → TallWhere e b → Tells told (of_term e) whole
-tall_told term.Tall b whole f h = f h
-tall_told (term.Memory e) b whole f h = tt
-
 -- what is answered is there
 pub given_there : {A B E : Type 0} (told : E → Option FaultName) (There : A → Type 0) (read : A → B) (r : Result A E) (o : Checked B) → Gives told There read r o → IfOk r There
 given_there told There read (Ok a) o h = h.live
@@ -180,9 +149,3 @@ use_more old new (use_.Fold k) g h = tt
 use_more old new (use_.Bind binder collector) g h = tt
 use_more old new (use_.Macro tree) g h = omega (arith, h, g.more_trees)
 use_more old new (use_.Operator code) g h = tt
-
--- a sound constant of a name that may be declared
-pub may_repeat : (c : Context) (ts : List Tree) (name : List ℕ) (r : Result ConstDecl ElabRefused) → is_free_or_reference c name ≡ true → IfOk r (λ d. constant_fault (read_constant ts d) ≡ None) → IfOk r (λ d. d.name ≡ name)
-    → IfOk r (λ d. MayRepeat c (read_constant ts d))
-may_repeat c ts name (Ok d) free sound named = record { sound = sound; name = ap (is_free_or_reference c) named ∙ free }
-may_repeat c ts name (Err e) free sound named = tt

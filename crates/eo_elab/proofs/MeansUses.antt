@@ -1,5 +1,5 @@
 -- The meaning of a term uses no parameter that its locals do not use, where terminators are values and macros use their own alone.
-use Rattle.std.specs.Prelude.{◌≡◌, ℕ, suc, Bool, true, not, List, [], ◌∷◌, ◌++◌, map, bytes_eq, Ok, Err, refl}
+use Rattle.std.specs.Prelude.{nat_lt, ◌≡◌, ℕ, suc, Bool, true, not, List, [], ◌∷◌, ◌++◌, map, bytes_eq, Ok, Err, refl}
 use Rattle.std.specs.List.{list_all, list_any}
 use Rattle.std.proofs.Common.{subst, ap}
 use Rattle.eo_base.specs.declared.FaultName.TheVariants.{BadCommand, Redeclared, BadArity}
@@ -12,7 +12,7 @@ use Rattle.eo_names.specs.Binders.{pair_local, variable, list_of}
 use Rattle.eo_names.specs.Contexts.{Context, Local, is_list}
 use Rattle.eo_names.specs.Folding.{folded}
 use Rattle.eo_names.specs.Readers.{Label, ◌>>=◌, give, read, built}
-use Rattle.eo_elab.specs.Fitting.{FitsTerms}
+use Rattle.eo_elab.specs.Fitting.{FitsTerms, label_is_closed, are_free}
 use Rattle.eo_elab.specs.Meaning.{atom, ListForm, ALet, AnAnnotation, ABitString, AnApplication, ATermFirst, tree_use, list_form, used, label, labels_of, means, means_list, means_all, in_let, in_binder, pair_list, pairs_after, annotated, without_labels, meaning}
 use Rattle.eo_elab.proofs.Uses.{all_in_both}
 use Rattle.eo_elab.proofs.FoldUses.{Within, AllWithin, folded_uses}
@@ -140,3 +140,11 @@ module _ (known : ℕ → Bool) where
         by_reading : (m : Checked (Tree × List Label)) → EndsIn known c m (Within known) → without_labels m ≡ Ok t → Within known t
         by_reading (Ok r) g q = subst (Within known) (ok_injective r.0 t q) (g r refl).0
         by_reading (Err fault) g q = absurd (err_is_not_ok fault t q)
+
+-- names that a term gives itself are free, and stand for trees without parameters
+pub labels_fit : (c : Context) → FitsTerms c → (s : Sexp) (t : Tree) (labels : List Label) → means c [] s [] ≡ Ok (t, labels) →
+    (list_all label_is_closed labels ≡ true) × (are_free c [] labels ≡ true)
+labels_fit c fits s t labels e =
+    let none : ℕ → Bool = λ j. nat_lt j 0 in
+    let within = (means_reads none c fits [] refl s [] (no_labels none c) (t, labels) e).1 in
+    (within.trees, within.free)

@@ -1,9 +1,6 @@
 pub mod Meaning
-pub mod Declarations
 pub mod BitStrings
 pub mod Forms
 pub mod Worlds
-pub mod Declaring
 pub mod Gives
 pub mod Fitting
-pub mod RuleParts

@@ -23,11 +23,6 @@ use Rattle.eo_names.specs.declared.locals.LocalName.{LocalName}
 use Rattle.eo_names.specs.Readers.{Label, Reader}
 use Rattle.eo_names.specs.Scopes.{setting_in, read_setting}
 use Rattle.eo_names.specs.declared.scope.Setting as code
-use Rattle.eo_elab.specs.Declarations.{meanings, constant_meant, attribute, declared_case, declared_cases}
-use Rattle.eo_shape.specs.declared.AttributeShape.{AttributeShape}
-use Rattle.eo_shape.specs.Reading.{read_attribute}
-use Rattle.eo_shape.specs.Shapes.{CaseShape}
-use Rattle.eo_sig.specs.Signature.{Attribute, Case}
 
 -- what names stand for outside of every scope
 abbrev pub context_in : Terms → Kept → Context
@@ -36,10 +31,6 @@ context_in t k = context t.trees k
 -- the same in a file of the kind that is told
 abbrev pub context_at : Terms → Kept → code.Setting → Context
 context_at t k x = record { signature = signature t.trees k; macros = macros t.trees k; setting = read_setting x }
-
--- in a reference file
-abbrev pub reference_context : Terms → Kept → Context
-reference_context t k = record { signature = signature t.trees k; macros = macros t.trees k; setting = InReference }
 
 abbrev pub sexps : List Sexp → Sexps
 sexps ss = sexps_of ss
@@ -61,26 +52,9 @@ abbrev pub labels_in : Terms → List Binding → List Label
 labels_in t bs = map (λ (b : Binding). record { name = b.0; tree = tree_at t.trees b.1 }) bs
 
 module _ (w : World) where
-  -- a term outside an `assert`, and terms in order
+  -- a term outside an `assert`
   abbrev pub meaning_in : Sexp → Checked Tree
   meaning_in s = meaning w.names w.locals s
-
-  abbrev pub meanings_in : List Sexp → Checked (List Tree)
-  meanings_in ss = meanings w.names w.locals ss
-
-  -- the constant that a term means, and how a constant folds its arguments
-  abbrev pub constant_in : Sexp → Checked ℕ
-  constant_in s = constant_meant w.names w.locals s
-
-  abbrev pub attribute_in : AttributeShape → Checked Attribute
-  attribute_in shape = attribute w.names w.locals (read_attribute shape)
-
-  -- a case of a program with so many inputs, and cases in order
-  abbrev pub case_in : ℕ → CaseShape → Checked Case
-  case_in inputs shape = declared_case w.names w.locals inputs shape
-
-  abbrev pub cases_in : ℕ → List CaseShape → Checked (List Case)
-  cases_in inputs shapes = declared_cases w.names w.locals inputs shapes
 
   -- a term
   abbrev pub term_in : Sexp → Reader Tree

@@ -1,34 +1,18 @@
-//! Laws of what is declared. A call costs nothing: it tells a proof what its clauses say.
-ghost use Rattle.std.specs.Prelude.{◌≡◌, ℕ, List, [], Ok, true};
+//! A law of the names that terms give themselves. A call costs nothing: it tells a proof what its
+//! clauses say.
+ghost use Rattle.std.specs.Prelude.{◌≡◌, List, [], Ok, true};
 ghost use Rattle.std.specs.List.{list_all};
-ghost use Rattle.eo_elab.specs.Declarations.{declared_rule, defined, defined_fun, defined_sort};
-ghost use Rattle.eo_elab.specs.Fitting.{FitsTerms, are_free, macro_is_bound, label_is_closed};
+ghost use Rattle.eo_elab.specs.Fitting.{FitsTerms, are_free, label_is_closed};
 ghost use Rattle.eo_elab.specs.Meaning.{means};
 ghost use Rattle.eo_names.specs.Contexts.{Context};
 ghost use Rattle.eo_names.specs.Readers.{Label};
 ghost use Rattle.eo_sexp.specs.Sexp.{Sexp};
-ghost use Rattle.eo_shape.specs.Shapes.{ParameterShape, RuleShape};
-ghost use Rattle.eo_sig.specs.Signature.{Macro, Rule, are_ordered};
 ghost use Rattle.eo_term.specs.Tree.{Tree};
 
-/// A law: where terminators are values and macros use their own parameters alone, the type of each
-/// parameter of a rule that is declared uses earlier parameters only, and a macro that is defined
-/// uses its own parameters alone.
-pub fn ordering_law()
-    ensures rules { (c : Context) (s : RuleShape) (r : Rule) → FitsTerms c →
-        declared_rule c s ≡ Ok r → are_ordered 0 r.parameters ≡ true }
-    ensures macros { (c : Context) (name : List ℕ) (params : List ParameterShape) (body : Sexp) (m : Macro) → FitsTerms c →
-        defined c name params body ≡ Ok m → macro_is_bound m ≡ true }
-{}
-
-/// A law: where terminators are values and macros use their own parameters alone, so do the macros
-/// that a reference file defines; and the names that terms of an assertion give themselves may be
-/// declared, each is given once, and they stand for trees without parameters.
-pub fn reference_law()
-    ensures functions { (c : Context) (name : List ℕ) (params : List ParameterShape) (output body : Sexp) (m : Macro) → FitsTerms c →
-        defined_fun c name params output body ≡ Ok m → macro_is_bound m ≡ true }
-    ensures sorts { (c : Context) (name : List ℕ) (params : List (List ℕ)) (type : Sexp) (m : Macro) → FitsTerms c →
-        defined_sort c name params type ≡ Ok m → macro_is_bound m ≡ true }
+/// A law: where terminators are values and macros use their own parameters alone, the names that
+/// terms of an assertion give themselves may be declared, each is given once, and they stand for
+/// trees without parameters.
+pub fn labels_law()
     ensures labels { (c : Context) (s : Sexp) (t : Tree) (labels : List Label) → FitsTerms c →
         means c [] s [] ≡ Ok (t, labels) → list_all label_is_closed labels ≡ true }
     ensures free { (c : Context) (s : Sexp) (t : Tree) (labels : List Label) → FitsTerms c →

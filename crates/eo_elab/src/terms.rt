@@ -1,21 +1,21 @@
 //! The meaning of a term.
-ghost use Rattle.std.specs.Prelude.{◌≡◌, length, IfOk, OnErr};
+ghost use Rattle.std.specs.Prelude.{◌≡◌, length, OnErr};
 ghost use Rattle.eo_term.specs.Growth.{Grows};
 ghost use Rattle.eo_names.specs.Gives.{GivesTree};
 ghost use Rattle.eo_names.specs.Ready.{IsReady, Keeps};
 ghost use Rattle.eo_names.specs.Worlds.{world_of};
 ghost use Rattle.eo_names.specs.Names.{BindingsBelow};
-ghost use Rattle.eo_elab.specs.Gives.{GivesTrees, GivesTerm, NamesGrow, atom_told};
+ghost use Rattle.eo_elab.specs.Gives.{GivesTerm, NamesGrow, atom_told};
 ghost use Rattle.eo_names.specs.Scopes.{read_setting};
-ghost use Rattle.eo_elab.specs.Worlds.{meaning_in, meanings_in, world_in, meant_at, reference_setting, reference_meaning};
+ghost use Rattle.eo_elab.specs.Worlds.{meaning_in, world_in, meant_at, reference_setting, reference_meaning};
 
 use crate::atoms::atom;
 use crate::walk::mean;
 use crate::{ElabRefused, Locals, Names, Setting};
 use eo_names::{Scope, names_law};
-use eo_sexp::{Children, Kind, Sexp};
+use eo_sexp::{Kind, Sexp};
 use eo_sig::{Signature, SignatureView};
-use eo_term::{Id, Ids, Table};
+use eo_term::{Id, Table};
 use std::alloc::Global;
 
 /// The meaning of a term of a signature or a proof, as a term of the table. Names stand for what
@@ -145,9 +145,13 @@ fn mean_at(
     mean(alloc, s, &Scope::Outer(locals, setting), sig, table, labels)
 }
 
-/// The meaning of a term in a file of this kind, outside of its assertions.
+/// The meaning of a term in a file of this kind, outside of its assertions, as a term of the table.
+/// The names that it gives itself are let go.
+///
+/// A refusal is the first fault, as [`term`] and [`reference_term`] have it. The terms that the
+/// signature and the names hold stay; a refused call may leave terms more in the table.
 #[inline]
-pub(crate) fn term_at(
+pub fn term_at(
     alloc: Global,
     s: &Sexp<'_>,
     locals: &Locals,
@@ -164,9 +168,9 @@ pub(crate) fn term_at(
     mean_term(alloc, s, locals, setting, &view, table)
 }
 
-/// The same where this is declared.
+/// The same by what a view of a signature declares, such as that of a program whose cases are read.
 #[inline]
-pub(crate) fn mean_term(
+pub fn mean_term(
     alloc: Global,
     s: &Sexp<'_>,
     locals: &Locals,
@@ -228,27 +232,4 @@ fn mean_unlabelled(
 {
     let mut labels = Names::new(alloc);
     mean_at(alloc, s, locals, setting, sig, table, &mut labels)
-}
-
-/// The meanings of terms in order, in a file of this kind, where this is declared.
-pub(crate) fn mean_terms(
-    alloc: Global,
-    terms: &Children<'_>,
-    locals: &Locals,
-    setting: Setting,
-    sig: &SignatureView<'_>,
-    table: &mut Table,
-) -> Result<Ids, ElabRefused>
-    requires ready { IsReady (length table.old.trees) sig.now locals.now }
-    ensures gives { GivesTrees table.new result (meanings_in (world_in table.old sig.now locals.now setting) terms.now) }
-    ensures count { IfOk result (λ ids. length ids ≡ length terms.now) }
-    ensures grows { Grows table.old table.new }
-{
-    names_law();
-    let mut ids = Ids::new(alloc);
-    for s in terms.again() {
-        let id = mean_term(alloc, &s, locals, setting, sig, table)?;
-        ids.push(id)?;
-    }
-    Ok(ids)
 }

@@ -12,7 +12,7 @@ use Rattle.eo_term.specs.Terms.{Terms}
 use Rattle.eo_names.specs.Contexts.{Context}
 use Rattle.eo_names.specs.Names.{Binding, BindingsBelow}
 use Rattle.eo_names.specs.Refused as names
-use Rattle.eo_elab.specs.Declaring.{DeclarationBelow, MayBeReferred, read_declaration}
+use Rattle.eo_declare.specs.Declaring.{DeclarationBelow, MayBeReferred, read_declaration}
 use Rattle.eo_elab.specs.Worlds.{labels_in}
 use Rattle.eo_ref.specs.declared.RefNext.{RefNext}
 use Rattle.eo_ref.specs.declared.RefNext.TheVariants as next

@@ -8,8 +8,8 @@ use Rattle.eo_term.specs.Tree.{Tree}
 use Rattle.eo_names.specs.Contexts.{Context, Setting, InReference, InAssert}
 use Rattle.eo_names.specs.Readers.{Label}
 use Rattle.eo_elab.specs.Meaning.{means}
-use Rattle.eo_elab.specs.Declarations.{Declaration, reference_declaration}
-use Rattle.eo_elab.specs.Declaring.{or_bad}
+use Rattle.eo_declare.specs.Declarations.{Declaration, reference_declaration}
+use Rattle.eo_declare.specs.Declaring.{or_bad}
 
 pub data ReferenceNext : Type 0 where
   Declares : (declaration : Declaration) → ReferenceNext

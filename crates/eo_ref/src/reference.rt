@@ -8,7 +8,8 @@ ghost use Rattle.eo_ref.specs.Answers.{command_in, next_in, asserted_in, declare
 ghost use Rattle.eo_ref.specs.Ids.{has_id, with_id};
 
 use crate::{RefNext, RefRefused};
-use eo_elab::{ElabRefused, Locals, Names, reference_declaration, reference_term};
+use eo_declare::reference_declaration;
+use eo_elab::{ElabRefused, Locals, Names, reference_term};
 use eo_sexp::Sexp;
 use eo_shape::{Command, ShapeRefused, command_of};
 use eo_sig::Signature;

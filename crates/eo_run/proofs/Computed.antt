@@ -17,7 +17,7 @@ use Rattle.eo_shape.specs.Shapes as Shapes
 use Rattle.eo_elab.specs.Meaning as ElabMeaning
 use Rattle.eo_term.specs.Operators as ElabOperators
 use Rattle.eo_names.specs.Folding as ElabFolding
-use Rattle.eo_elab.specs.Declarations as ElabDeclarations
+use Rattle.eo_declare.specs.Declarations as DeclareDeclarations
 use Rattle.eo_proof.specs.Scopes as ProofScopes
 use Rattle.eo_rule.specs.Uses as RuleUses
 use Rattle.eo_session.specs.State as SessionState
@@ -25,5 +25,5 @@ use Rattle.eo_session.specs.Step as SessionStep
 use Rattle.eo_session.specs.Commands as SessionCommands
 
 unfoldable pub computed : ℕ
-unfolding digits is_utf8 chars encode BaseChecks.◌>>=◌ BaseChecks.require BaseChecks.no_fault BaseChecks.value_or BaseFaultTexts.text BaseFaults.number BaseLimits.limits BaseLimits.open_calls_limit SexpCommands.◌>>=◌ SexpCommands.comes_first SexpCommands.at_most SexpCommands.span SexpCommands.delimited_atom SexpCommands.delimited SexpCommands.word_before SexpCommands.word SexpCommands.front SexpCommands.prepend SexpCommands.and_others SexpCommands.listed SexpCommands.opened SexpCommands.atom SexpCommands.turn SexpCommands.children SexpCommands.lists SexpCommands.sexp SexpCommands.command SexpLexicon.is_space SexpLexicon.is_line_end SexpLexicon.is_text SexpLexicon.is_quotable SexpLexicon.is_word SexpLexicon.class SexpLexicon.advance SexpLexicon.pass_byte SexpLexicon.pass SexpLexicon.skip SexpLexicon.string_byte SexpLexicon.string_turn SexpLexicon.string SexpLexicon.bar_at SexpLexicon.quoted SexpLexicon.begins_digit SexpLexicon.kind_of SexpTexts.after SexpTexts.hold SexpTexts.behind SexpTexts.begins_one_of SexpTexts.is_unsat SexpTexts.begins_pair SexpTexts.stripped SexpTexts.strip SexpTexts.end_of SexpTexts.is_extra SexpTexts.last_atom SexpTexts.known SexpTexts.decided SexpTexts.from_token SexpTexts.from_front SexpTexts.answer SexpTexts.so_far SexpTexts.next_from SexpTexts.next_spot SexpTexts.spot_after SexpTexts.placed SexpTexts.read_next SexpTexts.reads_from SexpTexts.reads_all SexpTexts.reads_file RunCheck.verdict RunCheck.load_verdict RunRun.◌>>=◌ RunRun.placed RunRun.or_fault RunRun.run_commands RunRun.run_reference RunRun.include_file RunRun.refer_to_file RunRun.open_file RunRun.run_file RunRun.included_runner RunRun.job_file RunRun.run_signature RunRun.run_proof RunRun.run_job_reference RunRun.before_proof RunRun.run_check RunRun.run_load LitLiterals.literal_value LitLiterals.string_value LitLiterals.string_bytes Shapes.command_of SessionState.first_state SessionState.begin_reference SessionState.end_fault SessionStep.evaluated SessionStep.value SessionStep.type_value SessionStep.formula_of SessionStep.formula SessionStep.added_constant SessionStep.typed_constant SessionStep.added_macro SessionStep.define_program SessionStep.declare_rule SessionStep.assume SessionStep.assume_push SessionStep.assert SessionStep.values SessionStep.premises SessionStep.use_of SessionStep.concluded_by SessionStep.concluded SessionStep.step_plain SessionStep.step_pop SessionCommands.path_of SessionCommands.reference_path SessionCommands.next_by SessionCommands.scoped_command SessionCommands.placed_command SessionCommands.uncounted SessionCommands.step ElabOperators.operator_named ElabFolding.folded ElabMeaning.atom ElabMeaning.means ElabMeaning.means_all ElabMeaning.in_let ElabMeaning.in_binder ElabMeaning.pair_list ElabMeaning.pairs_after ElabMeaning.annotated ElabMeaning.meaning ElabDeclarations.meanings ElabDeclarations.declared_const ElabDeclarations.declared_fun ElabDeclarations.declared_sort ElabDeclarations.declared_parameterized ElabDeclarations.declared_literals ElabDeclarations.defined ElabDeclarations.defined_fun ElabDeclarations.defined_sort ElabDeclarations.declared_case ElabDeclarations.declared_cases ElabDeclarations.declared_program ElabDeclarations.requirements_meant ElabDeclarations.declared_rule ElabDeclarations.declaration ProofScopes.with_fact ProofScopes.with_scope ProofScopes.outside ProofScopes.innermost_hypothesis RuleUses.typed RuleUses.joined RuleUses.match_use RuleUses.matched RuleUses.check_value RuleUses.check_types RuleUses.conclude_value RuleUses.check_formula RuleUses.check_stated RuleUses.kind_conclusion RuleUses.rule_conclusion RuleUses.conclusion
+unfolding digits is_utf8 chars encode BaseChecks.◌>>=◌ BaseChecks.require BaseChecks.no_fault BaseChecks.value_or BaseFaultTexts.text BaseFaults.number BaseLimits.limits BaseLimits.open_calls_limit SexpCommands.◌>>=◌ SexpCommands.comes_first SexpCommands.at_most SexpCommands.span SexpCommands.delimited_atom SexpCommands.delimited SexpCommands.word_before SexpCommands.word SexpCommands.front SexpCommands.prepend SexpCommands.and_others SexpCommands.listed SexpCommands.opened SexpCommands.atom SexpCommands.turn SexpCommands.children SexpCommands.lists SexpCommands.sexp SexpCommands.command SexpLexicon.is_space SexpLexicon.is_line_end SexpLexicon.is_text SexpLexicon.is_quotable SexpLexicon.is_word SexpLexicon.class SexpLexicon.advance SexpLexicon.pass_byte SexpLexicon.pass SexpLexicon.skip SexpLexicon.string_byte SexpLexicon.string_turn SexpLexicon.string SexpLexicon.bar_at SexpLexicon.quoted SexpLexicon.begins_digit SexpLexicon.kind_of SexpTexts.after SexpTexts.hold SexpTexts.behind SexpTexts.begins_one_of SexpTexts.is_unsat SexpTexts.begins_pair SexpTexts.stripped SexpTexts.strip SexpTexts.end_of SexpTexts.is_extra SexpTexts.last_atom SexpTexts.known SexpTexts.decided SexpTexts.from_token SexpTexts.from_front SexpTexts.answer SexpTexts.so_far SexpTexts.next_from SexpTexts.next_spot SexpTexts.spot_after SexpTexts.placed SexpTexts.read_next SexpTexts.reads_from SexpTexts.reads_all SexpTexts.reads_file RunCheck.verdict RunCheck.load_verdict RunRun.◌>>=◌ RunRun.placed RunRun.or_fault RunRun.run_commands RunRun.run_reference RunRun.include_file RunRun.refer_to_file RunRun.open_file RunRun.run_file RunRun.included_runner RunRun.job_file RunRun.run_signature RunRun.run_proof RunRun.run_job_reference RunRun.before_proof RunRun.run_check RunRun.run_load LitLiterals.literal_value LitLiterals.string_value LitLiterals.string_bytes Shapes.command_of SessionState.first_state SessionState.begin_reference SessionState.end_fault SessionStep.evaluated SessionStep.value SessionStep.type_value SessionStep.formula_of SessionStep.formula SessionStep.added_constant SessionStep.typed_constant SessionStep.added_macro SessionStep.define_program SessionStep.declare_rule SessionStep.assume SessionStep.assume_push SessionStep.assert SessionStep.values SessionStep.premises SessionStep.use_of SessionStep.concluded_by SessionStep.concluded SessionStep.step_plain SessionStep.step_pop SessionCommands.path_of SessionCommands.reference_path SessionCommands.next_by SessionCommands.scoped_command SessionCommands.placed_command SessionCommands.uncounted SessionCommands.step ElabOperators.operator_named ElabFolding.folded ElabMeaning.atom ElabMeaning.means ElabMeaning.means_all ElabMeaning.in_let ElabMeaning.in_binder ElabMeaning.pair_list ElabMeaning.pairs_after ElabMeaning.annotated ElabMeaning.meaning DeclareDeclarations.meanings DeclareDeclarations.declared_const DeclareDeclarations.declared_fun DeclareDeclarations.declared_sort DeclareDeclarations.declared_parameterized DeclareDeclarations.declared_literals DeclareDeclarations.defined DeclareDeclarations.defined_fun DeclareDeclarations.defined_sort DeclareDeclarations.declared_case DeclareDeclarations.declared_cases DeclareDeclarations.declared_program DeclareDeclarations.requirements_meant DeclareDeclarations.declared_rule DeclareDeclarations.declaration ProofScopes.with_fact ProofScopes.with_scope ProofScopes.outside ProofScopes.innermost_hypothesis RuleUses.typed RuleUses.joined RuleUses.match_use RuleUses.matched RuleUses.check_value RuleUses.check_types RuleUses.conclude_value RuleUses.check_formula RuleUses.check_stated RuleUses.kind_conclusion RuleUses.rule_conclusion RuleUses.conclusion
 computed = 0

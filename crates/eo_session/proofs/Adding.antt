@@ -20,8 +20,8 @@ use Rattle.eo_names.specs.declared.refused.ElabRefused.{ElabRefused}
 use Rattle.eo_names.specs.Refused.{told as elab_told}
 use Rattle.eo_names.specs.Contexts.{Context}
 use Rattle.eo_elab.specs.Meaning.{meaning}
-use Rattle.eo_elab.specs.Declarations.{is_named_by_reference, is_reference_name, is_free_or_reference, meanings, attribute, constant, plain_constant, function_type, sort_type, not_tall, declared_const, declared_fun, declared_sort}
-use Rattle.eo_elab.specs.Declaring.{MayRepeat}
+use Rattle.eo_declare.specs.Declarations.{is_named_by_reference, is_reference_name, is_free_or_reference, meanings, attribute, constant, plain_constant, function_type, sort_type, not_tall, declared_const, declared_fun, declared_sort}
+use Rattle.eo_declare.specs.Declaring.{MayRepeat}
 use Rattle.eo_session.specs.declared.held.Held.{Held}
 use Rattle.eo_session.specs.Held.{state_of}
 use Rattle.eo_session.specs.declared.refused.Refused.{Refused}

@@ -13,7 +13,7 @@ use Rattle.eo_eval.specs.Faults.{value_or_fault}
 use Rattle.eo_names.specs.Contexts.{Setting, InProof, InReference, InAssert}
 use Rattle.eo_names.specs.Readers.{Label}
 use Rattle.eo_elab.specs.Meaning.{means, meaning}
-use Rattle.eo_elab.specs.Declarations.{is_reference_name, declared_const, declared_fun, declared_sort, declared_parameterized, declared_literals, defined, defined_fun, defined_sort, declared_program, declared_rule}
+use Rattle.eo_declare.specs.Declarations.{is_reference_name, declared_const, declared_fun, declared_sort, declared_parameterized, declared_literals, defined, defined_fun, defined_sort, declared_program, declared_rule}
 use Rattle.eo_proof.specs.Scopes.{depth, scope_limit, is_live, is_free_outside, fact_named, innermost_hypothesis}
 use Rattle.eo_rule.specs.Uses.{Use, conclusion}
 use Rattle.eo_rule.specs.Uses as rule

@@ -12,7 +12,7 @@ ghost use Rattle.eo_session.specs.Stepping.{Does};
 use crate::Refused;
 use crate::held::Held;
 use eo_base::Name;
-use eo_elab::{Locals, Names, reference_law, reference_term};
+use eo_elab::{Locals, Names, labels_law, reference_term};
 use eo_reclaim::push_ids;
 use eo_sexp::Sexp;
 use eo_sig::{MacroDecl, Params, growth_law};
@@ -28,7 +28,7 @@ impl Held {
         ensures whole { OnOk result (IsWhole self.new) }
         ensures does { Does result (asserted (state_of self.old) formula.now) self.new }
     {
-        reference_law();
+        labels_law();
         let mut names = Names::new(self.alloc);
         let id = self.read_assertion(formula, &mut names)?;
         self.assert_as(id, &mut names)

@@ -6,7 +6,7 @@ ghost use Rattle.eo_shape.specs.Reading.{read_attribute as shape_of, read_progra
 ghost use Rattle.eo_term.specs.Tree.{Tree};
 ghost use Rattle.eo_term.specs.Growth.{tree_in};
 ghost use Rattle.eo_names.specs.Scopes.{read_setting};
-ghost use Rattle.eo_elab.specs.Declaring.{MayRepeat, MayBeMacro};
+ghost use Rattle.eo_declare.specs.Declaring.{MayRepeat, MayBeMacro};
 ghost use Rattle.eo_elab.specs.Fitting.{macro_is_bound};
 ghost use Rattle.eo_elab.specs.Worlds.{context_in};
 ghost use Rattle.eo_session.specs.Numbered.{origin_of};
@@ -20,11 +20,11 @@ ghost use Rattle.eo_session.specs.Stepping.{Does};
 use crate::held::Held;
 use crate::{Origin, Refused};
 use eo_base::FaultName;
-use eo_elab::{
-    Setting, declared_const, declared_fun, declared_literals, declared_parameterized,
-    declared_program, declared_sort, defined, defined_fun, defined_sort, ordering_law,
-    reference_law,
+use eo_declare::{
+    declared_const, declared_fun, declared_literals, declared_parameterized, declared_program,
+    declared_sort, defined, defined_fun, defined_sort, ordering_law, reference_law,
 };
+use eo_elab::Setting;
 use eo_sexp::{Children, Sexp};
 use eo_shape::{AttributeShape, ParameterShapes, ProgramShape, Symbols};
 use eo_sig::{Attribute, ConstDecl, Entry, LiteralClass, MacroDecl, ProgramDecl, growth_law};

@@ -13,7 +13,7 @@ ghost use Rattle.eo_session.specs.Stepping.{Does};
 use crate::held::Held;
 use crate::{Origin, Refused};
 use eo_base::FaultName;
-use eo_elab::{declared_rule, ordering_law};
+use eo_declare::{declared_rule, ordering_law};
 use eo_shape::RuleShape;
 use eo_sig::{RuleDecl, growth_law};
 

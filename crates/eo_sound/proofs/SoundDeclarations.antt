@@ -10,7 +10,7 @@ use Rattle.eo_session.proofs.Adding.{fold_of}
 use Rattle.eo_base.proofs.ChecksLemmas.{ok_injective, err_is_not_ok, bind_ok, require_then}
 use Rattle.eo_base.specs.Checks.{Checked, Passed, ◌>>=◌, no_fault}
 use Rattle.eo_base.specs.declared.FaultName.{FaultName}
-use Rattle.eo_elab.specs.Declarations.{constant, plain_constant, sort_type, declared_const, declared_fun, declared_sort, defined, defined_fun, defined_sort, declared_program, declared_rule, is_reference_name}
+use Rattle.eo_declare.specs.Declarations.{constant, plain_constant, sort_type, declared_const, declared_fun, declared_sort, defined, defined_fun, defined_sort, declared_program, declared_rule, is_reference_name}
 use Rattle.eo_elab.specs.Fitting.{FitsTerms, macro_is_bound, label_is_closed}
 use Rattle.eo_elab.specs.Meaning.{means}
 use Rattle.eo_lit.specs.declared.LiteralClass.{LiteralClass}

@@ -6,7 +6,7 @@ use Rattle.std.proofs.lemmas.Bool.{eqb-true}
 use Rattle.std.proofs.lemmas.List.Elements.{All-nil, All-head, All-tail}
 use Rattle.eo_base.proofs.ChecksLemmas.{ok_injective, err_is_not_ok, bind_ok, require_then}
 use Rattle.eo_base.specs.declared.FaultName.TheVariants.{SecondReference, ScopeOpen, NoReference, NoRefutation}
-use Rattle.eo_elab.specs.Declarations.{declared_const, declared_fun, declared_sort, declared_parameterized, declared_literals}
+use Rattle.eo_declare.specs.Declarations.{declared_const, declared_fun, declared_sort, declared_parameterized, declared_literals}
 use Rattle.eo_proof.specs.Scopes.{Fact, Scope, has_false}
 use Rattle.eo_rule.specs.Derivability.{Derives}
 use Rattle.eo_sound.proofs.Deriving.{OfFormula}

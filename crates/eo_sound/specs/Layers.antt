@@ -1,7 +1,7 @@
 -- What the layers below say of equality, of declarations, of evaluation, of the uses of rules and of derivability.
 use Rattle.std.specs.Prelude.{◌≡◌, ℕ, true, List, [], ◌++◌, Ok, Contains, Decides}
 use Rattle.std.specs.List.{list_all}
-use Rattle.eo_elab.specs.Declarations.{declared_rule, defined, defined_fun, defined_sort}
+use Rattle.eo_declare.specs.Declarations.{declared_rule, defined, defined_fun, defined_sort}
 use Rattle.eo_elab.specs.Fitting.{FitsTerms, macro_is_bound, label_is_closed}
 use Rattle.eo_elab.specs.Meaning.{means}
 use Rattle.eo_stack.specs.Evaluation.{Value, eval0}

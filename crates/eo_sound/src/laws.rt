@@ -11,7 +11,8 @@ ghost use Rattle.eo_sound.specs.Soundness.{IsSound};
 ghost use Rattle.eo_session.specs.State.{State, first_state, begin_reference, end_fault};
 ghost use Rattle.eo_session.specs.declared.Next.{Next};
 
-use eo_elab::{ordering_law, reference_law};
+use eo_declare::{ordering_law, reference_law};
+use eo_elab::labels_law;
 use eo_eval::values_law;
 use eo_rule::{conclusion_law, derivability_law};
 use eo_term::equality_law;
@@ -45,6 +46,7 @@ fn layers_law()
     equality_law();
     ordering_law();
     reference_law();
+    labels_law();
     values_law();
     conclusion_law();
     derivability_law();

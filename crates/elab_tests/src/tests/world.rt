@@ -2,13 +2,14 @@
 ghost use Rattle.std.specs.Prelude.{◌≡◌, ◌<◌, ◌≤◌, [], true, length, IsTrue, IfOk, OnOk};
 ghost use Rattle.eo_sig.specs.Reading.{IsBelow, ConstBelow, MacroBelow, ProgramBelow, RuleBelow};
 ghost use Rattle.eo_term.specs.Growth.{Grows};
-ghost use Rattle.eo_elab.specs.Declaring.{IsCommand, DeclarationBelow};
+ghost use Rattle.eo_declare.specs.Declaring.{IsCommand, DeclarationBelow};
 ghost use Rattle.eo_names.specs.Names.{AreBelow, BindingsBelow};
 ghost use Rattle.eo_names.specs.Ready.{IsReady, Keeps};
 ghost use Rattle.eo_sexp.specs.Collecting.{IsAtCommand, IsLive};
 
 use eo_base::both;
-use eo_elab::{ElabRefused, Locals, Names, declaration, reference_term, term};
+use eo_declare::declaration;
+use eo_elab::{ElabRefused, Locals, Names, reference_term, term};
 use eo_sexp::{Collector, Fed, Sexp};
 use eo_shape::{ShapeRefused, command_of};
 use eo_sig::{

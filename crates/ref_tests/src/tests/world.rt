@@ -1,7 +1,7 @@
 //! What commands of a reference file say over a signature.
 ghost use Rattle.std.specs.Prelude.{◌<◌, length, IfOk};
 ghost use Rattle.eo_sig.specs.Reading.{IsBelow, ConstBelow, MacroBelow};
-ghost use Rattle.eo_elab.specs.Declaring.{DeclarationBelow};
+ghost use Rattle.eo_declare.specs.Declaring.{DeclarationBelow};
 
 use super::text::read;
 use eo_base::both;

@@ -2,7 +2,7 @@ use Rattle.std.specs.Prelude.{Ok}
 use Rattle.eo_base.specs.Checks.{Checked}
 use Rattle.eo_base.proofs.Answering.{fails}
 use Rattle.eo_base.proofs.ChecksLemmas.{bind_step, bind_fails}
-use Rattle.eo_elab.specs.Declarations.{Declaration}
+use Rattle.eo_declare.specs.Declarations.{Declaration}
 use Rattle.eo_ref.specs.Reference.{ReferenceNext, Declares}
 use Rattle.eo_ref.proofs.reference.Reference.declared.Goals as goal
 

@@ -3,7 +3,7 @@ use Rattle.std.specs.Prelude.{None, Result}
 use Rattle.eo_sig.specs.Signature.{Constant, constant_fault}
 use Rattle.eo_sig.specs.Reading.{read_constant, read_parameter}
 use Rattle.eo_term.specs.Terms.{tree_at}
-use Rattle.eo_elab.specs.Declarations.{is_free_or_reference}
+use Rattle.eo_declare.specs.Declarations.{is_free_or_reference}
 use Rattle.eo_session.specs.Held.{state_of}
 use Rattle.eo_session.specs.State.{State, context, is_in_scope}
 use Rattle.eo_session.specs.Step.{added_constant, typed_constant}

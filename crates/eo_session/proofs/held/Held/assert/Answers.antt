@@ -34,8 +34,8 @@ assert_as-requires-clause-new c =
     let labels = labels_in mid.table c.read_assertion.new.names in
     let is = c.in_ok-id.ensures.gives.is in
     let fits : FitsTerms (context_in st InAssert) = record { folds = c.requires.whole.held.terms.folds; macros = c.requires.whole.held.terms.macros } in
-    let closed = c.reference_law.ensures.labels (context_in st InAssert) s t labels fits is in
-    let free = c.reference_law.ensures.free (context_in st InAssert) s t labels fits is in
+    let closed = c.labels_law.ensures.labels (context_in st InAssert) s t labels fits is in
+    let free = c.labels_law.ensures.free (context_in st InAssert) s t labels fits is in
     subst (λ (z : State). MayBeNames z labels) (sym c.in_ok-id.ensures.keeps.same) (assertion_names st labels free closed)
 
 pub returns-clause-does : goal.returns-clause-does

@@ -5,7 +5,7 @@ use Rattle.eo_session.proofs.Adding.{declared-refused, declared-added, const-alo
 use Rattle.eo_session.proofs.Holding.{keeps_table}
 use Rattle.eo_session.specs.State.{State, context, is_in_scope}
 use Rattle.eo_sig.specs.Reading.{read_constant, read_parameter}
-use Rattle.eo_elab.specs.Declaring.{MayRepeat}
+use Rattle.eo_declare.specs.Declaring.{MayRepeat}
 use Rattle.eo_session.proofs.held.Held.declare_const.Goals as goal
 
 pub returns-in_err-d-clause-does : goal.returns-in_err-d-clause-does

@@ -5,7 +5,7 @@ use Rattle.eo_session.proofs.Adding.{declared-refused, declared-added}
 use Rattle.eo_session.proofs.Holding.{keeps_table}
 use Rattle.eo_session.specs.State.{State, context}
 use Rattle.eo_sig.specs.Reading.{read_macro}
-use Rattle.eo_elab.specs.Declaring.{MayBeMacro}
+use Rattle.eo_declare.specs.Declaring.{MayBeMacro}
 use Rattle.eo_session.proofs.held.Held.define.Goals as goal
 
 pub returns-in_err-d-clause-does : goal.returns-in_err-d-clause-does

@@ -1,0 +1,5 @@
+pub mod Declarations
+pub mod Worlds
+pub mod Declaring
+pub mod Gives
+pub mod RuleParts
