@@ -1,6 +1,6 @@
 -- What calls that declare give, said in another way.
 use Rattle.std.proofs.Common.{◌≡◌, ℕ, ◌<◌, Bool, true, List, [], length, ap, sym, subst, ◌∙◌}
-use Rattle.std.specs.Prelude.{Result, Ok, Err, not, IfOk, None}
+use Rattle.std.specs.Prelude.{Result, Ok, Err, IfOk, None}
 use Rattle.std.proofs.lemmas.List.Elements.{All-nil}
 use Rattle.eo_base.specs.declared.FaultName.TheVariants.{TermHeight}
 use Rattle.eo_base.specs.Answers.{Tells}
