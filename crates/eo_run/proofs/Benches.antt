@@ -1,6 +1,6 @@
 -- The files of a bench, and what is answered for their run.
-use Rattle.std.proofs.Common.{◌≡◌, ℕ, List, [], ◌++◌, Some, refl, sym, ◌∙◌, append_assoc, arith}
-use Rattle.std.specs.Prelude.{codes}
+use Rattle.std.proofs.Common.{◌≡◌, ℕ, List, [], ◌++◌, Some, refl, sym, subst, ◌∙◌, append_assoc, arith}
+use Rattle.std.specs.Prelude.{codes, Result, Ok, OnOk}
 use Rattle.eo_base.specs.Causes.{Rose}
 use Rattle.eo_io.specs.Library.{Files}
 use Rattle.eo_io.specs.Stored.{with_file}
@@ -30,13 +30,16 @@ counted-answers files job paths answer.ReadFault run h l kind cause = absurd (no
 counted-answers files job paths answer.OutOfMemory run h l kind cause = (tt, tt)
 
 -- three files that are added one after another
-pub three_added : (n : ℕ) (none one two three : Files) (reference proof : List ℕ) → none ≡ [] → one ≡ with_file none (codes "bench.eo") bench_signature
-    → two ≡ with_file one (codes "bench.smt2") reference → three ≡ with_file two (codes "bench.proof") proof
-    → reference ≡ bench_reference n → proof ≡ bench_proof n → three ≡ bench_files n
+pub three_added : (n : ℕ) (none one two three : Files) → none ≡ [] → one ≡ with_file none (codes "bench.eo") bench_signature
+    → two ≡ with_file one (codes "bench.smt2") (bench_reference n) → three ≡ with_file two (codes "bench.proof") (bench_proof n) → three ≡ bench_files n
 unfolding bench_files
-three_added n none one two three reference proof e0 e1 e2 e3 r p =
-    e3 ∙ (λ i. with_file (e2 i) (codes "bench.proof") proof) ∙ (λ i. with_file (with_file (e1 i) (codes "bench.smt2") reference) (codes "bench.proof") proof)
-    ∙ (λ i. with_file (with_file (with_file (e0 i) (codes "bench.eo") bench_signature) (codes "bench.smt2") (r i)) (codes "bench.proof") (p i))
+three_added n none one two three e0 e1 e2 e3 =
+    e3 ∙ (λ i. with_file (e2 i) (codes "bench.proof") (bench_proof n)) ∙ (λ i. with_file (with_file (e1 i) (codes "bench.smt2") (bench_reference n)) (codes "bench.proof") (bench_proof n))
+    ∙ (λ i. with_file (with_file (with_file (e0 i) (codes "bench.eo") bench_signature) (codes "bench.smt2") (bench_reference n)) (codes "bench.proof") (bench_proof n))
+
+-- what a call that gave ensures
+pub done : {T E : Type 0} (P : Type 0) (r : Result T E) (x : T) → r ≡ Ok x → OnOk r P → P
+done {T} {E} P r x e h = subst (λ (q : Result T E). OnOk q P) e h
 
 -- ---- lines
 

@@ -1,12 +1,13 @@
 //! A check of a proof that is made in memory, which tells how fast the program is.
-ghost use Rattle.std.specs.Prelude.{◌≡◌, ◌++◌, [], false, IfOk, OnOk, string_bytes};
+ghost use Rattle.std.specs.Prelude.{◌≡◌, ◌++◌, [], false, IfOk, OnOk, codes, string_bytes};
+ghost use Rattle.eo_io.specs.Stored.{with_file};
 ghost use Rattle.eo_run.specs.Bench.{bench_files, bench_job, bench_reference, bench_proof};
 ghost use Rattle.eo_run.specs.Bench.{hop, hop_clause, hop_fact, bench_end};
 ghost use Rattle.eo_run.specs.Benching.{AnswersBench, counted};
 
 use crate::checking::{check_job, first_run};
 use crate::{BenchEnd, CheckJob, Verdict};
-use eo_base::Text;
+use eo_base::{Text, both};
 use eo_io::{HonestLibrary, Paths};
 use eo_session::Session;
 use std::alloc::{AllocError, Global};
@@ -33,13 +34,25 @@ const SIGNATURE: &[u8] = b"(declare-const Int Type)\n\
 pub fn bench(alloc: Global, n: u32, paths: &mut Paths) -> BenchEnd
     ensures { AnswersBench (bench_files n) bench_job paths.new result }
 {
-    let Ok(job) = job_of(alloc) else {
-        return BenchEnd::Other(Verdict::OutOfMemory);
-    };
     let Ok(mut files) = files_of(alloc, n) else {
         return BenchEnd::Other(Verdict::OutOfMemory);
     };
-    count_run(alloc, &job, &mut files, paths)
+    let end = check_bench(alloc, &mut files, paths);
+    drop(files);
+    end
+}
+
+/// Checks the job of a bench over files in memory, of which none is open.
+fn check_bench(alloc: Global, files: &mut HonestLibrary, paths: &mut Paths) -> BenchEnd
+    requires { files.old.unread ≡ [] }
+    ensures { AnswersBench files.old.told bench_job paths.new result }
+{
+    let Ok(job) = job_of(alloc) else {
+        return BenchEnd::Other(Verdict::OutOfMemory);
+    };
+    let end = count_run(alloc, &job, files, paths);
+    drop(job);
+    end
 }
 
 /// Checks a job over files in memory, of which none is open, and counts what is there at its end.
@@ -92,13 +105,39 @@ fn files_of(alloc: Global, n: u32) -> Result<HonestLibrary, AllocError>
     ensures told { IfOk result (λ files. files.told ≡ bench_files n) }
     ensures none_open { IfOk result (λ files. files.unread ≡ []) }
 {
-    let reference = reference_of(alloc, n)?;
-    let proof = proof_of(alloc, n)?;
-    let mut files = HonestLibrary::new(alloc)?;
-    files.add(b"bench.eo", SIGNATURE)?;
-    files.add(b"bench.smt2", reference.as_bytes())?;
-    files.add(b"bench.proof", proof.as_bytes())?;
+    let mut first = HonestLibrary::new(alloc)?;
+    let ((), files) = both(add_files(alloc, n, &mut first), first)?;
     Ok(files)
+}
+
+/// Adds the files of a bench to a library without files.
+fn add_files(alloc: Global, n: u32, files: &mut HonestLibrary) -> Result<(), AllocError>
+    requires none { files.old.told ≡ [] }
+    ensures told { OnOk result (files.new.told ≡ bench_files n) }
+    ensures unread { OnOk result (files.new.unread ≡ files.old.unread) }
+{
+    files.add(b"bench.eo", SIGNATURE)?;
+    add_reference(alloc, n, files)?;
+    add_proof(alloc, n, files)?;
+    Ok(())
+}
+
+fn add_reference(alloc: Global, n: u32, files: &mut HonestLibrary) -> Result<(), AllocError>
+    ensures told { OnOk result (files.new.told ≡ with_file files.old.told (codes "bench.smt2") (bench_reference n)) }
+    ensures unread { OnOk result (files.new.unread ≡ files.old.unread) }
+{
+    let text = reference_of(alloc, n)?;
+    files.add(b"bench.smt2", text.as_bytes())?;
+    Ok(())
+}
+
+fn add_proof(alloc: Global, n: u32, files: &mut HonestLibrary) -> Result<(), AllocError>
+    ensures told { OnOk result (files.new.told ≡ with_file files.old.told (codes "bench.proof") (bench_proof n)) }
+    ensures unread { OnOk result (files.new.unread ≡ files.old.unread) }
+{
+    let text = proof_of(alloc, n)?;
+    files.add(b"bench.proof", text.as_bytes())?;
+    Ok(())
 }
 
 fn reference_of(alloc: Global, n: u32) -> Result<String, AllocError>

@@ -6,18 +6,18 @@ ghost use Rattle.eo_run.specs.Judging.{IsCheckAnswer, IsLoadAnswer, IsPlaced, Ru
 ghost use Rattle.eo_run.specs.Judging.{MayRun, StandsFor, BeginsNamed};
 ghost use Rattle.eo_run.specs.Opening.{IsStop};
 ghost use Rattle.eo_run.specs.Progress.{progress_of, Begins};
-ghost use Rattle.eo_run.specs.Reading.{LibraryStays};
+ghost use Rattle.eo_run.specs.Reading.{LibraryStays, progress};
 ghost use Rattle.eo_run.specs.Refutation.{CorrectRefutes, ClosedKeepsRules};
 ghost use Rattle.eo_run.specs.Run.{first_progress, first_load as load_progress, with_folded, if_given, refusal_at, shown};
 ghost use Rattle.eo_run.specs.Run.{run_signature, run_job_reference, before_proof, run_proof, run_check};
-ghost use Rattle.eo_session.specs.State.{begin_reference};
+ghost use Rattle.eo_session.specs.State.{begin_reference, first_state};
 ghost use Rattle.eo_io.specs.Paths.{fold_path};
 ghost use Rattle.eo_sexp.specs.Texts.{first_spot};
 
 use crate::laws::soundness_law;
 use crate::opening::{OPENS, Run, Source, check_file, refused};
 use crate::{CheckJob, Verdict};
-use eo_base::{Fault, FaultName, Place, Text};
+use eo_base::{Fault, FaultName, Place, Text, both};
 use eo_io::{Library, PathRefused, Paths, fold_path};
 use eo_session::{EndAnswer, Origin, Refused, Session};
 use eo_sexp::Spot;
@@ -409,8 +409,14 @@ fn check_path<L: Library>(
 pub(crate) fn first_run(alloc: Global, job: &CheckJob) -> Result<Run, AllocError>
     ensures { IfOk result (λ r. Begins r (first_progress job.now)) }
 {
-    let included = first_included(alloc, job)?;
-    let session = Session::new(alloc, job.closed)?;
+    new_run(alloc, first_included(alloc, job)?, job.closed)
+}
+
+/// A run of a new session, where these files count as included.
+fn new_run(alloc: Global, included: Paths, closed: bool) -> Result<Run, AllocError>
+    ensures { IfOk result (λ r. Begins r (progress (first_state closed) included)) }
+{
+    let (session, included) = both(Session::new(alloc, closed), included)?;
     Ok(Run { session, included })
 }
 
@@ -418,22 +424,35 @@ pub(crate) fn first_run(alloc: Global, job: &CheckJob) -> Result<Run, AllocError
 fn first_included(alloc: Global, job: &CheckJob) -> Result<Paths, AllocError>
     ensures { IfOk result (λ paths. paths ≡ (first_progress job.now).included) }
 {
-    let mut included = Paths::new(alloc);
-    if let Some(include) = &job.include {
-        add_folded(alloc, &mut included, include.as_bytes())?;
-    }
-    add_folded(alloc, &mut included, job.proof.as_bytes())?;
+    let mut first = Paths::new(alloc);
+    let ((), included) = both(add_first(alloc, job, &mut first), first)?;
     Ok(included)
+}
+
+/// Adds the files of a job that count as included from the start.
+fn add_first(alloc: Global, job: &CheckJob, included: &mut Paths) -> Result<(), AllocError>
+    ensures { OnOk result (included.new ≡ with_folded (with_folded included.old job.now.include) (Some job.now.proof)) }
+{
+    if let Some(include) = &job.include {
+        add_folded(alloc, included, include.as_bytes())?;
+    }
+    add_folded(alloc, included, job.proof.as_bytes())
 }
 
 /// The run of a load before its first command.
 fn first_load(alloc: Global, file: &Text) -> Result<Run, AllocError>
     ensures { IfOk result (λ r. Begins r (load_progress file.now)) }
 {
-    let mut included = Paths::new(alloc);
-    add_folded(alloc, &mut included, file.as_bytes())?;
-    let session = Session::new(alloc, false)?;
-    Ok(Run { session, included })
+    new_run(alloc, first_of(alloc, file)?, false)
+}
+
+/// A file that counts as included from the start of its load.
+fn first_of(alloc: Global, file: &Text) -> Result<Paths, AllocError>
+    ensures { IfOk result (λ paths. paths ≡ with_folded [] (Some file.now)) }
+{
+    let mut first = Paths::new(alloc);
+    let ((), included) = both(add_folded(alloc, &mut first, file.as_bytes()), first)?;
+    Ok(included)
 }
 
 /// Adds a file that the job names to those that were included, unless its path is none.
