@@ -1,11 +1,11 @@
 -- Places of files by their numbers, and what opening a file tells.
-use Rattle.std.proofs.Common.{◌≡◌, refl, ℕ, suc, Bool, true, false, List, Option, Some, None, sym, ap, subst, ◌∙◌}
+use Rattle.std.proofs.Common.{◌≡◌, refl, ℕ, suc, Bool, true, false, List, ◌∷◌, Option, Some, None, sym, ap, subst, ◌∙◌}
 use Rattle.std.specs.Prelude.{◌≢◌, Result, Ok, Err, is_some, slice_get, if◌then◌else◌, IsSome}
 use Rattle.std.proofs.lemmas.Option.{none-some, same_Some}
 use Rattle.eo_base.specs.declared.FaultName.{FaultName}
 use Rattle.eo_base.specs.declared.FaultName.TheVariants.{FileAbsent, SecondReference}
 use Rattle.eo_base.proofs.ChecksLemmas.{err_is_not_ok}
-use Rattle.eo_io.specs.Library.{Files, Rest, file_at, Opens}
+use Rattle.eo_io.specs.Library.{Files, Rest, file_at, Opens, Closes}
 use Rattle.eo_io.specs.Paths.{Extends}
 use Rattle.eo_io.specs.declared.Opened.TheVariants as opened
 use Rattle.eo_sexp.specs.Spot.{Spot}
@@ -14,7 +14,7 @@ use Rattle.eo_run.specs.Run.{Progress, refusal_at, commands_of, open_file}
 use Rattle.eo_session.specs.Numbered.{origin_of, number_of}
 use Rattle.eo_run.specs.Answer.{Denotes}
 use Rattle.eo_run.specs.Opening as opening
-use Rattle.eo_run.specs.Opening.{opener_of, run_source, IsNumbered, RunsOpen, RefusesFile, RunsFile, place_in}
+use Rattle.eo_run.specs.Opening.{opener_of, run_source, IsNumbered, as_found, StaysOpen, RunsOpen, RefusesFile, RunsFile, place_in}
 use Rattle.eo_session.specs.declared.Next.TheVariants as next
 use Rattle.eo_run.specs.declared.Verdict.{Verdict}
 use Rattle.eo_run.specs.Verdict.{Refusal}
@@ -37,11 +37,6 @@ placed-in paths s h = ap is_some h
 
 -- ---- what opening a file tells
 
--- the answer for a file that is there
-abbrev pub as_found : Result Spot Verdict → Result (Option Spot) Verdict
-as_found (Ok at) = Ok (Some at)
-as_found (Err v) = Err v
-
 pub ready-runs : (told : Option Files) (s : Source) (r : Result Spot Verdict) (old new : Progress) (paths : List (List ℕ)) (before mid : List Rest) → Opens opened.Ready told s.path.now before mid → RunsOpen told s r old new paths mid → RunsFile told s (as_found r) old new paths
 ready-runs None s (Ok at) old new paths before mid o h = λ files k. absurd (none-some files k)
 ready-runs None s (Err v) old new paths before mid o h = λ files k. absurd (none-some files k)
@@ -51,6 +46,18 @@ ready-runs (Some fs) s (Err v) old new paths before mid o h = λ files k.
     stops-weaker (λ (refusal : Refusal). run_source files s (commands_of s.wrapped o.0) old ≡ Err refusal) (RefusesFile files s old) paths v
     (λ refusal e. (o.0, subst (λ (f : Files). file_at f s.path.now ≡ Some o.0) (same_Some fs files k) o.1, e))
     ((subst (λ (m : List Rest). RunsOpen (Some fs) s (Err v) old new paths m) o.2 h) files k)
+
+-- a file that was opened, and is closed again
+opened-on : (told : Option Files) (path : List ℕ) (before mid : List Rest) → Opens opened.Ready told path before mid → (rest : Rest) × (mid ≡ rest ∷ before)
+opened-on None path before mid o = o
+opened-on (Some fs) path before mid o = (Some o.0, o.2)
+
+pub closes-open : (told : Option Files) (path : List ℕ) (before mid after last : List Rest) → Opens opened.Ready told path before mid → StaysOpen mid after → Closes after last → last ≡ before
+closes-open told path before mid after last o stays closes =
+    let on = opened-on told path before mid o in
+    let left : StaysOpen (on.0 ∷ before) after = subst (λ (m : List Rest). StaysOpen m after) on.1 stays in
+    let both : closes.0 ∷ last ≡ left.0 ∷ before = sym closes.1 ∙ left.1 in
+    cc
 
 -- ---- what asks for nothing
 

@@ -1,7 +1,9 @@
 -- A run of a file that goes on behind what its commands ask for.
-use Rattle.std.proofs.Common.{◌≡◌, refl, ℕ, zero, suc, ◌-◌, ◌≤◌, Bool, true, false, List, [], ◌∷◌, ◌++◌, length, ap, sym, subst, ◌∙◌, arith, append_assoc}
-use Rattle.std.specs.Prelude.{◌≢◌, Result, Ok, Err, Option, Some, None, bytes_eq}
+use Rattle.std.proofs.Common.{◌≡◌, refl, ℕ, zero, suc, ◌+◌, ◌-◌, ◌≤◌, Bool, true, false, List, [], ◌∷◌, ◌++◌, length, ap, sym, subst, ◌∙◌, arith, append_assoc}
+use Rattle.std.specs.Prelude.{◌≢◌, ◌^◌, min, Result, Ok, Err, Option, Some, None, IfErr, bytes_eq}
+use Rattle.std.proofs.Math.Nat.{min-le_left, min-le_right, le-min}
 use Rattle.std.specs.List.{list_any}
+use Rattle.eo_base.specs.Causes.{Rose}
 use Rattle.eo_base.specs.declared.Fault.{Fault}
 use Rattle.eo_base.specs.declared.FaultName.{FaultName}
 use Rattle.eo_base.specs.declared.FaultName.TheVariants.{BadPath, IncludeDepth, FileAbsent}
@@ -15,21 +17,22 @@ use Rattle.eo_session.specs.State.{State, begin_reference}
 use Rattle.eo_run.specs.Run.{Progress, Ran, is_exit, refusal_at, commands_of, open_nothing, run_commands, with_included}
 use Rattle.eo_run.specs.Reading.{Continuation, Asks, progress, LeadsOn, AsksFor, FailsAt, LibraryStays}
 use Rattle.eo_run.specs.Opening as opening
-use Rattle.eo_run.specs.Opening.{IsNumbered, FoldsHere, BeginsHere, opener_of, run_source, LeadsIn, FinishesIn, FailsIn, Told, StopsAs, Opens, IfWhole, IsTaken, IsLeft, TakesPiece, TakesEnd, StaysOpen, LibraryReads, RunsOpen, RefusesFile, RunsFile}
-use Rattle.eo_session.specs.Numbered.{origin_of}
+use Rattle.eo_run.specs.Opening.{IsNumbered, FoldsHere, BeginsHere, opener_of, run_source, LeadsIn, FinishesIn, FailsIn, Told, StopsAs, Opens, IfWhole, IsTaken, IsLeft, TakesPiece, TakesEnd, StaysOpen, LibraryReads, RunsOpen, RefusesFile, RunsFile, Keeps, FileHasCause, as_found}
+use Rattle.eo_session.specs.Numbered.{origin_of, number_of}
 use Rattle.eo_run.specs.Answer.{Denotes, AnswerHasCause}
 use Rattle.eo_session.specs.Origin as origin
 use Rattle.eo_session.specs.declared.Next.{Next}
 use Rattle.eo_session.specs.declared.Next.TheVariants as next
 use Rattle.eo_run.specs.declared.Verdict.{Verdict}
 use Rattle.eo_run.specs.declared.Verdict.TheVariants as answer
+use Rattle.eo_run.specs.declared.opening.Run.{Run}
 use Rattle.eo_run.specs.declared.opening.Source.{Source}
 use Rattle.eo_run.specs.declared.reading.Stop.{Stop}
 use Rattle.eo_run.specs.declared.reading.Stop.TheVariants as stop
 use Rattle.eo_run.proofs.Running.{leads-trans, leads-fails, leads-asks, asks-leads, asks-finishes, asks-fails}
 use Rattle.eo_run.proofs.Opened.{nothing-is, opener-is, include-bad, include-again, include-deep, include-absent, include-runs, refer-bad, refer-second, refer-absent, refer-runs}
 use Rattle.eo_run.proofs.Pieces.{stops-weaker}
-use Rattle.eo_run.proofs.Numbers.{denotes-here, begin-present}
+use Rattle.eo_run.proofs.Numbers.{denotes-here, placed-in, numbered-later, begin-present}
 
 -- ---- where the same files are told later
 
@@ -178,6 +181,11 @@ module _ (told : Option Files) (s : Source) (left : ℕ) (opens : s.opens ≡ su
         pub includes-stops : (v : Verdict) (last : Progress) → RunsFile told i (Err v) (with_included p file) last paths → Opens told s at (next.Include name) (Err v) p last paths
         includes-stops v last h = λ files k. stops-weaker (RefusesFile files i (with_included p file)) _ paths v (λ refusal g. runs-inner files g.0 g.1 ∙ g.2) (h files k)
 
+        pub includes-ends : (r : Result (Option Spot) Verdict) (last : Progress) → IsNumbered paths s → RunsFile told i r (with_included p file) last paths → Opens told s at (next.Include name) (opening.opened_at r s at) p last paths
+        includes-ends (Ok (Some end)) last here h = includes-runs end tt last h
+        includes-ends (Ok None) last here h = includes-absent (record { name = FileAbsent; place = opening.place_in s at }) last last h (denotes-here paths s FileAbsent at here)
+        includes-ends (Err v) last here h = includes-stops v last h
+
     -- ---- a reference file
 
     pub refers-second : (f : Fault) (last : Progress) (fault : FaultName) → begin_reference p.state ≡ Err fault → Denotes paths f (refusal_at s.path.now at fault) → Opens told s at (next.Reference name) (Err (answer.Refused f)) p last paths
@@ -199,6 +207,49 @@ module _ (told : Option Files) (s : Source) (left : ℕ) (opens : s.opens ≡ su
 
       pub refers-stops : (v : Verdict) (last : Progress) → RunsFile told i (Err v) (record p { state = st }) last paths → Opens told s at (next.Reference name) (Err v) p last paths
       refers-stops v last h = λ files k. stops-weaker (RefusesFile files i (record p { state = st })) _ paths v (λ refusal g. runs-reference files g.0 g.1 ∙ g.2) (h files k)
+
+      pub refers-ends : (r : Result (Option Spot) Verdict) (last : Progress) → IsNumbered paths s → RunsFile told i r (record p { state = st }) last paths → Opens told s at (next.Reference name) (opening.opened_at r s at) p last paths
+      refers-ends (Ok (Some end)) last here h = refers-runs end tt last h
+      refers-ends (Ok None) last here h = refers-absent (record { name = FileAbsent; place = opening.place_in s at }) last last h (denotes-here paths s FileAbsent at here)
+      refers-ends (Err v) last here h = refers-stops v last h
+
+-- ---- what is answered by how the run of a file ends
+
+-- a cause that is told stays one
+rose-grows : (a b m n : ℕ) → a ≤ b → m ≤ n → Rose b m → Rose a n
+rose-grows a b m n l k h =
+    let low : min (a + 1) (2 ^ 64 - 1) ≤ min (b + 1) (2 ^ 64 - 1) = le-min (omega (arith, min-le_left (a + 1) (2 ^ 64 - 1), l)) (min-le_right (a + 1) (2 ^ 64 - 1)) in
+    let high : min (b + 1) (2 ^ 64 - 1) ≤ m = h in
+    omega (arith, low, high, k)
+
+cause-grows : {F : Type 0} (told : Option F) (v : Verdict) (a b m n : ℕ) → a ≤ b → m ≤ n → AnswerHasCause v told b m → AnswerHasCause v told a n
+cause-grows told answer.ReadFault a b m n l k h = rose-grows a b m n l k h
+cause-grows None (answer.Refused fault) a b m n l k h = λ e. rose-grows a b m n l k (h e)
+cause-grows (Some f) (answer.Refused fault) a b m n l k h = tt
+cause-grows told answer.Correct a b m n l k h = tt
+cause-grows told answer.Incomplete a b m n l k h = tt
+cause-grows told (answer.Loaded commands) a b m n l k h = tt
+cause-grows told answer.OutOfMemory a b m n l k h = tt
+
+pub found-cause : {F : Type 0} (told later : Option F) → later ≡ told → (r : Result Spot Verdict) (a b m n : ℕ) → a ≤ b → m ≤ n → IfErr r (λ v. AnswerHasCause v later b m) → FileHasCause (as_found r) told a n
+found-cause told later same (Ok at) a b m n l k h = tt
+found-cause {F} told later same (Err v) a b m n l k h = cause-grows told v a b m n l k (subst (λ (o : Option F). AnswerHasCause v o b m) same h)
+
+pub found-keeps : (r : Result Spot Verdict) (run : Run) (before after : List (List ℕ)) → Keeps r run before after → Keeps (as_found r) run before after
+found-keeps (Ok at) run before after k = record { going = k.going; kind = tt; table = k.table }
+found-keeps (Err v) run before after k = record { going = tt; kind = k.kind; table = k.table }
+
+pub opened-cause : {F : Type 0} (told : Option F) (r : Result (Option Spot) Verdict) (s : Source) (at : Spot) (b n : ℕ) → FileHasCause r told b n → IfErr (opening.opened_at r s at) (λ v. AnswerHasCause v told b n)
+opened-cause told (Ok (Some end)) s at b n h = tt
+opened-cause None (Ok None) s at b n h = λ e. h
+opened-cause (Some f) (Ok None) s at b n h = tt
+opened-cause told (Err v) s at b n h = h
+
+pub opened-keeps : (r : Result (Option Spot) Verdict) (run : Run) (before mid after : List (List ℕ)) (s : Source) (at : Spot) → IsNumbered mid s → Extends before mid → Keeps r run mid after → Keeps (opening.opened_at r s at) run before after
+opened-keeps (Ok (Some end)) run before mid after s at here grows k = record { going = k.going; kind = tt; table = extends-trans before mid after grows k.table }
+opened-keeps (Ok None) run before mid after s at here grows k =
+    record { going = tt; kind = placed-in after s (numbered-later mid after (number_of s.from) s.path.now k.table here); table = extends-trans before mid after grows k.table }
+opened-keeps (Err v) run before mid after s at here grows k = record { going = tt; kind = k.kind; table = extends-trans before mid after grows k.table }
 
 -- ---- what is answered for a command at its own place
 

@@ -1,9 +1,9 @@
 -- What the run of a file, with the files that its commands open, does to a run, where files are told.
-use Rattle.std.specs.Prelude.{◌≡◌, ◌≢◌, ℕ, zero, suc, ◌+◌, ◌≤◌, ◌<◌, Bool, true, false, List, [], ◌∷◌, ◌++◌, length, slice_get, IsSome, Option, Some, None, Result, Ok, Err, OnOk, IfErr, ⊤}
+use Rattle.std.specs.Prelude.{◌≡◌, ◌≢◌, ℕ, zero, suc, ◌+◌, ◌-◌, ◌≤◌, ◌<◌, Bool, true, false, List, [], ◌∷◌, ◌++◌, length, slice_get, IsSome, Option, Some, None, Result, Ok, Err, OnOk, IfErr, ⊤}
 use Rattle.eo_base.specs.Causes.{Rose}
 use Rattle.eo_base.specs.Checks.{Checked}
 use Rattle.eo_base.specs.declared.FaultName.{FaultName}
-use Rattle.eo_base.specs.declared.FaultName.TheVariants.{BadPath}
+use Rattle.eo_base.specs.declared.FaultName.TheVariants.{BadPath, FileAbsent}
 use Rattle.eo_base.specs.declared.Place.{Place}
 use Rattle.eo_base.specs.Limits.{limits}
 use Rattle.eo_io.specs.Library.{Files, Rest, file_at}
@@ -102,6 +102,17 @@ place_in s at = record { file = number_of s.from; line = at.line; offset = at.of
 abbrev pub refused_at : FaultName → Source → Spot → Verdict
 refused_at name s at = answer.Refused (record { name = name; place = place_in s at })
 
+-- what is answered for a file that is there, by how its run ends
+abbrev pub as_found : Result Spot Verdict → Result (Option Spot) Verdict
+as_found (Ok at) = Ok (Some at)
+as_found (Err v) = Err v
+
+-- and for a command at this place that names a file
+abbrev pub opened_at : Result (Option Spot) Verdict → Source → Spot → Result (Unit {0}) Verdict
+opened_at (Ok (Some end)) s at = Ok tt
+opened_at (Ok None) s at = Err (refused_at FileAbsent s at)
+opened_at (Err v) s at = Err v
+
 -- what is answered for a file that is not read to its end
 abbrev pub stop_verdict : Stop → Source → Verdict
 stop_verdict (stop.Fault name at) s = refused_at name s at
@@ -132,6 +143,14 @@ IncludesAt told s at file result old new paths = (name : List ℕ) → fold_path
 
 abbrev pub RefersAt : Option Files → Source → Spot → (file : List ℕ) → Result (Unit {0}) Verdict → (old new : Progress) → List (List ℕ) → Type 0
 RefersAt told s at file result old new paths = (name : List ℕ) → fold_path s.path.now name ≡ Some file → Opens told s at (next.Reference name) result old new paths
+
+-- i is this file as one that s includes: of the same origin, and with one less that may be open inside it.
+pub record IsIncluded (s : Source) (file : List ℕ) (number : ℕ) (i : Source) : Type 0 where
+  pub path : i.path.now ≡ file
+  pub same : origin_of i.from ≡ origin_of s.from
+  pub numbered : number_of i.from ≡ number
+  pub plain : i.wrapped ≡ false
+  pub opens : i.opens ≡ s.opens - 1
 
 -- ---- a piece, and the end
 

@@ -1,11 +1,14 @@
 //! Files that are run, with the files that their commands open.
-ghost use Rattle.std.specs.Prelude.{◌≡◌, ◌≢◌, ◌<◌, ◌+◌, false, [], OnOk, IfOk, IfErr, length, vec_len};
+ghost use Rattle.std.specs.Prelude.{◌≡◌, ◌≢◌, ◌<◌, ◌≤◌, ◌+◌, false, [], OnOk, IfOk, IfErr, length, drop, vec_len, bytes_eq};
+ghost use Rattle.std.specs.List.{list_any};
 ghost use Rattle.eo_base.specs.Limits.{limits};
+ghost use Rattle.eo_io.specs.Library.{Closes};
 ghost use Rattle.eo_sexp.specs.Collecting.{new_collector, IsLive, HasRoom};
 ghost use Rattle.eo_sexp.specs.Cutting.{IsWaiting};
 ghost use Rattle.eo_run.specs.Answer.{AnswerHasCause};
 ghost use Rattle.eo_run.specs.Opening.{IsReady, Keeps, LibraryReads, FileHasCause, RunsOpen, RunsFile, TakesPiece, TakesEnd};
-ghost use Rattle.eo_run.specs.Opening.{Opens, IncludesAt, RefersAt, FoldsHere, BeginsHere, stop_verdict, refused_at};
+ghost use Rattle.eo_run.specs.Opening.{Opens, IncludesAt, RefersAt, FoldsHere, BeginsHere, IsIncluded, as_found, opened_at};
+ghost use Rattle.eo_run.specs.Opening.{stop_verdict, refused_at};
 ghost use Rattle.eo_session.specs.State.{begin_reference};
 ghost use Rattle.eo_run.specs.Progress.{progress_of};
 ghost use Rattle.eo_run.specs.Reading.{LibraryStays};
@@ -68,12 +71,23 @@ pub(crate) fn check_file<L: Library>(
         Opened::Failed => Err(Verdict::ReadFault),
         Opened::Ready => {
             let end = check_open(alloc, source, files, run, paths);
-            files.close();
-            match end {
-                Ok(at) => Ok(Some(at)),
-                Err(verdict) => Err(verdict),
-            }
+            closed(files, end)
         }
+    }
+}
+
+/// Closes the file opened last, whose run ends so.
+fn closed<L: Library>(files: &mut L, end: Result<Spot, Verdict>) -> Result<Option<Spot>, Verdict>
+    requires { L.open_files files.old ≢ [] }
+    ensures is { result ≡ as_found end }
+    ensures same { L.told files.new ≡ L.told files.old }
+    ensures closes { Closes (L.open_files files.old) (L.open_files files.new) }
+    ensures later { L.faults files.old ≤ L.faults files.new }
+{
+    files.close();
+    match end {
+        Ok(at) => Ok(Some(at)),
+        Err(verdict) => Err(verdict),
     }
 }
 
@@ -190,10 +204,18 @@ fn take_piece<L: Library>(
                 if ends {
                     return Ok(false);
                 }
-                rest = &rest[asked.used..];
+                rest = left_of(rest, asked.used);
             }
         }
     }
+}
+
+/// What is left of a piece behind these bytes.
+fn left_of(piece: &[u8], used: usize) -> &[u8]
+    requires { used ≤ length piece.now }
+    ensures { result.now ≡ drop used piece.now }
+{
+    &piece[used..]
 }
 
 /// Checks the commands that the end of a file makes whole, with those of the files that they open.
@@ -283,7 +305,7 @@ fn include<L: Library>(
     ensures keeps { Keeps result run.new paths.old paths.new }
     ensures stays { LibraryStays L.told L.open_files L.faults files.old files.new }
 {
-    if run.included.find(file).is_some() {
+    if is_included(run, file) {
         return Ok(());
     }
     if source.opens == 1 {
@@ -295,16 +317,28 @@ fn include<L: Library>(
     let Ok(number) = paths.add(file) else {
         return Err(Verdict::OutOfMemory);
     };
-    let inner = Source {
+    let inner = included_in(source, file, number);
+    let end = check_file(alloc, &inner, files, run, paths);
+    opened(end, source, at)
+}
+
+/// Whether this file counts as included.
+fn is_included(run: &Run, file: &[u8]) -> bool
+    ensures { result ≡ list_any (bytes_eq file.now) run.now.included }
+{
+    run.included.find(file).is_some()
+}
+
+/// The file of this path, with its number, as one that this file includes.
+fn included_in<'a>(source: &Source<'_>, file: &'a [u8], number: usize) -> Source<'a>
+    requires { 0 < source.now.opens }
+    ensures { IsIncluded source.now file.now number result }
+{
+    Source {
         path: file,
         from: source.from.in_file(number),
         wrapped: false,
         opens: source.opens - 1,
-    };
-    match check_file(alloc, &inner, files, run, paths) {
-        Ok(Some(_)) => Ok(()),
-        Ok(None) => Err(refused(FaultName::FileAbsent, source, at)),
-        Err(stop) => Err(stop),
     }
 }
 
@@ -327,7 +361,7 @@ fn refer<L: Library>(
     ensures keeps { Keeps result run.new paths.old paths.new }
     ensures stays { LibraryStays L.told L.open_files L.faults files.old files.new }
 {
-    begin(&mut run.session, source, at)?;
+    begin(run, source, at)?;
     let Ok(number) = paths.add(file) else {
         return Err(Verdict::OutOfMemory);
     };
@@ -337,20 +371,29 @@ fn refer<L: Library>(
         wrapped: false,
         opens: 0,
     };
-    match check_file(alloc, &reference, files, run, paths) {
+    let end = check_file(alloc, &reference, files, run, paths);
+    opened(end, source, at)
+}
+
+/// What is answered for a command at this place that names a file, by how the run of the file ends.
+fn opened(end: Result<Option<Spot>, Verdict>, source: &Source<'_>, at: Spot) -> Result<(), Verdict>
+    ensures { result ≡ opened_at end source.now at }
+{
+    match end {
         Ok(Some(_)) => Ok(()),
         Ok(None) => Err(refused(FaultName::FileAbsent, source, at)),
-        Err(verdict) => Err(verdict),
+        Err(stop) => Err(stop),
     }
 }
 
-/// Begins the reference file that a command at this place names.
-fn begin(session: &mut Session, source: &Source<'_>, at: Spot) -> Result<(), Verdict>
-    requires going { session.old.ended ≡ false }
-    ensures going { OnOk result (session.new.ended ≡ false) }
-    ensures begins { BeginsHere source.now at result (begin_reference session.old.state) session.new.state }
+/// Begins the reference file that a command at this place names. It does not count as included.
+fn begin(run: &mut Run, source: &Source<'_>, at: Spot) -> Result<(), Verdict>
+    requires going { run.old.session.ended ≡ false }
+    ensures going { OnOk result (run.new.session.ended ≡ false) }
+    ensures included { OnOk result (run.new.included ≡ run.old.included) }
+    ensures begins { BeginsHere source.now at result (begin_reference run.old.session.state) run.new.session.state }
 {
-    match session.begin_reference() {
+    match run.session.begin_reference() {
         Ok(()) => Ok(()),
         Err(Refused::Fault(name)) => Err(refused(name, source, at)),
         Err(Refused::Ended) => unreachable!(),

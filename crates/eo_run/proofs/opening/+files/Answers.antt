@@ -1,6 +1,6 @@
 use Rattle.std.proofs.Common.{◌-◌, ◌<◌, ℕ, List, [], false, length, take, drop, refl, Bool, sym, ap, subst, ◌∙◌, arith, length-take, append-nil, inl, inr}
-use Rattle.std.specs.Prelude.{Result, Ok, Err, Option, None, Some, IfErr}
-use Rattle.eo_base.specs.declared.FaultName.TheVariants.{IncludeDepth, FileAbsent, FileLong}
+use Rattle.std.specs.Prelude.{Result, Ok, Err, Option, Some, IfErr, slice_get}
+use Rattle.eo_base.specs.declared.FaultName.TheVariants.{IncludeDepth, FileLong}
 use Rattle.eo_io.specs.Library.{Rest}
 use Rattle.eo_sexp.specs.Spot.{Spot}
 use Rattle.eo_sexp.specs.Texts.{Ends}
@@ -10,7 +10,7 @@ use Rattle.eo_session.specs.Numbered.{origin_of, number_of}
 use Rattle.eo_run.specs.Progress.{progress_of}
 use Rattle.eo_run.specs.Reading.{progress, count_of, behind, at_end, LeadsOn, ChecksPiece, ChecksEnd, IsAsked, IsAskedAtEnd, IsFed, IsEnded}
 use Rattle.eo_run.specs.Run.{refusal_at}
-use Rattle.eo_run.specs.Opening.{Keeps, IsNumbered, LeadsIn, Told, IsStop, IsRead, IsTaken, IsLeft, Opens, StaysOpen, TakesPiece, TakesEnd, RunsOpen, RunsFile, place_in}
+use Rattle.eo_run.specs.Opening.{Keeps, IsNumbered, LeadsIn, Told, IsStop, IsRead, IsTaken, IsLeft, Opens, StaysOpen, FileHasCause, TakesPiece, TakesEnd, RunsOpen, RunsFile, place_in}
 use Rattle.eo_session.specs.declared.Next.{Next}
 use Rattle.eo_session.specs.declared.Next.TheVariants as next
 use Rattle.eo_session.specs.declared.Origin.TheVariants as code
@@ -18,10 +18,9 @@ use Rattle.eo_run.specs.declared.Verdict.{Verdict}
 use Rattle.eo_run.specs.declared.opening.Source.{Source}
 use Rattle.eo_run.specs.declared.reading.Asked.{Asked}
 use Rattle.eo_run.specs.declared.reading.Stop.{Stop}
-use Rattle.std.proofs.lemmas.List.{take_rest}
 use Rattle.eo_base.proofs.Answering.{at_exit}
-use Rattle.eo_run.proofs.Taking.{opens-later, taken-later, left-later, takes-later, open-later, ends-later, goes-on, goes-behind, leaves-behind, leaves-reference, finishes-here, stops-behind, stopped-here, extends-trans, stays-trans, reads-trans, stays-length, one-less, include-unfolded, refer-unfolded, refer-unbegun, unbegun-present, includes-again, includes-deep, includes-absent, includes-runs, includes-stops, refers-absent, refers-runs, refers-stops}
-use Rattle.eo_run.proofs.Numbers.{numbered-later, denotes-here, placed-in, ready-runs, opens-done, opens-exit}
+use Rattle.eo_run.proofs.Taking.{opens-later, taken-later, left-later, takes-later, open-later, ends-later, goes-on, goes-behind, leaves-behind, leaves-reference, finishes-here, stops-behind, stopped-here, extends-trans, stays-trans, reads-trans, stays-length, one-less, include-unfolded, refer-unfolded, refer-unbegun, unbegun-present, includes-again, includes-deep, includes-ends, refers-ends, found-cause, found-keeps, opened-cause, opened-keeps}
+use Rattle.eo_run.proofs.Numbers.{numbered-later, denotes-here, placed-in, closes-open, ready-runs, opens-done, opens-exit}
 use Rattle.eo_run.proofs.Pieces.{reads-nothing, reads-piece, has_room, front-is, piece-is, stops-open, left-open, long-open, ends-open, stays-read}
 use Rattle.eo_run.proofs.opening.+files.Goals as goal
 
@@ -130,7 +129,7 @@ take_piece-commands-preserved g t c =
     let a = c.in-Ok-Some.asked in
     let asked : IsAsked (origin_of s.from) st new c.commands.collector d rest a = subst (λ (o : Option Asked). ChecksPiece (origin_of s.from) (Ok o) st new c.commands.collector d rest) c.in-Ok-Some.field-0-is c.in-Ok-Some.ensures.checks in
     let opened = c.in_ok-open_next-in-Ok-Some.ensures in
-    let tail = take_rest rest a.used in
+    let tail = c.left_of-rest.ensures in
     record {
       leads = subst (λ (q : List ℕ). Told told (λ files. LeadsIn files s old last (behind c.args.collector.now c.args.piece.now) (behind d q))) (sym tail)
           (goes-behind told s old st new included (behind c.args.collector.now c.args.piece.now) (behind c.commands.collector rest) i.leads (behind d (drop a.used rest)) a.next a.at asked.asks last paths tt
@@ -156,7 +155,7 @@ take_piece-commands-smaller g t c =
     let d = c.check_piece.new.collector in
     let a = c.in-Ok-Some.asked in
     let asked : IsAsked (origin_of s.from) st new c.commands.collector d rest a = subst (λ (o : Option Asked). ChecksPiece (origin_of s.from) (Ok o) st new c.commands.collector d rest) c.in-Ok-Some.field-0-is c.in-Ok-Some.ensures.checks in
-    subst (λ (q : List ℕ). count_of (behind d q false []) < count_of (behind c.commands.collector rest false [])) (sym (take_rest rest a.used)) asked.fewer
+    subst (λ (q : List ℕ). count_of (behind d q false []) < count_of (behind c.commands.collector rest false [])) (sym (c.left_of-rest.ensures)) asked.fewer
 
 -- ---- what the end makes whole
 
@@ -306,12 +305,27 @@ open_next-returns-in-Done-clause-opens g t c =
 
 -- ---- a file that is included
 
-pub include-returns-then-is_some-clause-includes : goal.include-returns-then-is_some-clause-includes
-include-returns-then-is_some-clause-includes g t c = λ name folds.
+pub include-check_file-end-requires : goal.include-check_file-end-requires
+include-check_file-end-requires g t c κs within =
+    let s = c.args.source.now in
+    let is = c.included_in-inner.ensures in (
+      omega (arith, is.opens, c.requires.opens),
+      (
+        within,
+        record {
+          room = omega (arith, is.opens, c.requires.opens, c.requires.ready.room);
+          going = c.requires.ready.going;
+          numbered = ap (slice_get c.add-2.new.self) is.numbered ∙ c.in-Ok-add.ensures.number ∙ ap (λ (p : List ℕ). Some p) (sym is.path);
+        },
+      ),
+    )
+
+pub include-returns-then-is_included-clause-includes : goal.include-returns-then-is_included-clause-includes
+include-returns-then-is_included-clause-includes g t c = λ name folds.
     let s = c.args.source.now in
     let file = c.args.file.now in
     includes-again (g.L.Library.told c.args.files.now) s (s.opens - 1) (omega (arith, c.requires.opens)) c.args.at name (progress_of c.args.run.now) c.args.paths.now file folds tt
-    (sym c.find.ensures.there ∙ sym c.is_some.ensures ∙ c.if-is_some.true)
+    (sym c.is_included.ensures ∙ c.if-is_included.true)
 
 pub include-returns-then-source-eq1-clause-includes : goal.include-returns-then-source-eq1-clause-includes
 include-returns-then-source-eq1-clause-includes g t c = λ name folds.
@@ -321,97 +335,72 @@ include-returns-then-source-eq1-clause-includes g t c = λ name folds.
     let p = progress_of c.args.run.now in
     let paths = c.args.paths.now in
     let at = c.args.at in
-    let new = sym c.find.ensures.there ∙ sym c.is_some.ensures ∙ c.if-is_some.false in
+    let new = sym c.is_included.ensures ∙ c.if-is_included.false in
     subst (λ (v : Verdict). Opens told s at (next.Include name) (Err v) p p paths) (sym c.refused.ensures)
     (includes-deep told s (s.opens - 1) (omega (arith, c.requires.opens)) at name p paths file folds new (record { name = IncludeDepth; place = place_in s at }) p (omega (arith, c.if-source-eq1.true)) (denotes-here paths s IncludeDepth at c.requires.ready.numbered))
 
-pub include-returns-in-Ok-Some-clause-includes : goal.include-returns-in-Ok-Some-clause-includes
-include-returns-in-Ok-Some-clause-includes g t c = λ name folds.
+pub include-returns-clause-includes : goal.include-returns-clause-includes
+include-returns-clause-includes g t c = λ name folds.
     let s = c.args.source.now in
     let told = g.L.Library.told c.args.files.now in
     let file = c.args.file.now in
     let p = progress_of c.args.run.now in
-    let last = progress_of c.check_file.new.run in
-    let paths = c.check_file.new.paths in
-    let new = sym c.find.ensures.there ∙ sym c.is_some.ensures ∙ c.if-is_some.false in
-    let i : Source = record { path = c.args.file; from = c.in_file.result; wrapped = false; opens = s.opens - 1 } in
-    let end = c.in-Ok-Some.field-0-0 in
-    let runs : RunsFile told i (Ok (Some end)) (progress p.state c.add.new.self) last paths = subst (λ (o : Option Spot). RunsFile told i (Ok o) (progress p.state c.add.new.self) last paths) c.in-Ok-Some.field-0-is c.in-Ok-Some.ensures.runs in
-    includes-runs told s (s.opens - 1) (omega (arith, c.requires.opens)) c.args.at name p paths file folds new (s.opens - 2) (omega (arith, c.requires.opens, c.if-source-eq1.false)) i refl c.in_file.ensures.same refl refl end tt last
-    (subst (λ (ps : List (List ℕ)). RunsFile told i (Ok (Some end)) (progress p.state ps) last paths) c.in-Ok.ensures.table runs)
-
-pub include-returns-in-Ok-Some-clause-keeps : goal.include-returns-in-Ok-Some-clause-keeps
-include-returns-in-Ok-Some-clause-keeps g t c =
-    let keeps = c.in-Ok-Some.ensures.keeps in
-    record {
-      going = keeps.going;
-      kind = tt;
-      table = extends-trans c.args.paths.now c.add-2.new.self c.check_file.new.paths c.in-Ok-add.ensures.grows keeps.table;
-    }
-
-pub include-returns-in-Ok-None-clause-includes : goal.include-returns-in-Ok-None-clause-includes
-include-returns-in-Ok-None-clause-includes g t c = λ name folds.
-    let s = c.args.source.now in
-    let told = g.L.Library.told c.args.files.now in
-    let file = c.args.file.now in
-    let p = progress_of c.args.run.now in
-    let last = progress_of c.check_file.new.run in
-    let paths = c.check_file.new.paths in
+    let end = c.check_file-end in
+    let last = progress_of end.new.run in
+    let paths = end.new.paths in
     let at = c.args.at in
-    let new = sym c.find.ensures.there ∙ sym c.is_some.ensures ∙ c.if-is_some.false in
-    let i : Source = record { path = c.args.file; from = c.in_file.result; wrapped = false; opens = s.opens - 1 } in
-    let runs : RunsFile told i (Ok None) (progress p.state c.add.new.self) last paths = subst (λ (o : Option Spot). RunsFile told i (Ok o) (progress p.state c.add.new.self) last paths) c.in-Ok-None.field-0-is c.in-Ok-None.ensures.runs in
+    let new = sym c.is_included.ensures ∙ c.if-is_included.false in
+    let i = c.included_in-inner.result in
+    let is = c.included_in-inner.ensures in
     let added : IsNumbered c.add-2.new.self s = numbered-later c.args.paths.now c.add-2.new.self (number_of s.from) s.path.now c.in-Ok-add.ensures.grows c.requires.ready.numbered in
-    let here : IsNumbered paths s = numbered-later c.add-2.new.self paths (number_of s.from) s.path.now c.in-Ok-None.ensures.keeps.table added in
-    subst (λ (v : Verdict). Opens told s at (next.Include name) (Err v) p last paths) (sym c.refused-in-Ok-None.ensures)
-    (includes-absent told s (s.opens - 1) (omega (arith, c.requires.opens)) at name p paths file folds new (s.opens - 2) (omega (arith, c.requires.opens, c.if-source-eq1.false)) i refl c.in_file.ensures.same refl refl (record { name = FileAbsent; place = place_in s at }) last last
-    (subst (λ (ps : List (List ℕ)). RunsFile told i (Ok None) (progress p.state ps) last paths) c.in-Ok.ensures.table runs) (denotes-here paths s FileAbsent at here))
+    let here : IsNumbered paths s = numbered-later c.add-2.new.self paths (number_of s.from) s.path.now end.ensures.keeps.table added in
+    subst (λ (r : Result (Unit {0}) Verdict). Opens told s at (next.Include name) r p last paths) (sym c.opened.ensures)
+    (includes-ends told s (s.opens - 1) (omega (arith, c.requires.opens)) at name p paths file folds new (s.opens - 2) (omega (arith, c.requires.opens, c.if-source-eq1.false)) i is.path is.same is.plain is.opens end.result last here
+    (subst (λ (ps : List (List ℕ)). RunsFile told i end.result (progress p.state ps) last paths) c.in-Ok.ensures.table end.ensures.runs))
 
-pub include-returns-in-Ok-None-clause-keeps : goal.include-returns-in-Ok-None-clause-keeps
-include-returns-in-Ok-None-clause-keeps g t c =
-    let s = c.args.source.now in
-    let paths = c.check_file.new.paths in
-    let later = c.in-Ok-None.ensures.keeps.table in
-    let added : IsNumbered c.add-2.new.self s = numbered-later c.args.paths.now c.add-2.new.self (number_of s.from) s.path.now c.in-Ok-add.ensures.grows c.requires.ready.numbered in
-    record {
-      going = tt;
-      kind = subst (IsStop paths) (sym c.refused-in-Ok-None.ensures) (placed-in paths s (numbered-later c.add-2.new.self paths (number_of s.from) s.path.now later added));
-      table = extends-trans c.args.paths.now c.add-2.new.self paths c.in-Ok-add.ensures.grows later;
-    }
-
-pub include-returns-in-Err-clause-includes : goal.include-returns-in-Err-clause-includes
-include-returns-in-Err-clause-includes g t c = λ name folds.
-    let s = c.args.source.now in
+pub include-returns-clause-cause : goal.include-returns-clause-cause
+include-returns-clause-cause g t c =
     let told = g.L.Library.told c.args.files.now in
-    let file = c.args.file.now in
-    let p = progress_of c.args.run.now in
-    let last = progress_of c.check_file.new.run in
-    let paths = c.check_file.new.paths in
-    let new = sym c.find.ensures.there ∙ sym c.is_some.ensures ∙ c.if-is_some.false in
-    let i : Source = record { path = c.args.file; from = c.in_file.result; wrapped = false; opens = s.opens - 1 } in
-    includes-stops told s (s.opens - 1) (omega (arith, c.requires.opens)) c.args.at name p paths file folds new (s.opens - 2) (omega (arith, c.requires.opens, c.if-source-eq1.false)) i refl c.in_file.ensures.same refl refl c.in-Err.stop last
-    (subst (λ (ps : List (List ℕ)). RunsFile told i (Err c.in-Err.stop) (progress p.state ps) last paths) c.in-Ok.ensures.table c.in-Err.ensures.runs)
+    let before = g.L.Library.faults c.args.files.now in
+    let now = g.L.Library.faults c.check_file-end.new.files in
+    subst (λ (r : Result (Unit {0}) Verdict). IfErr r (λ v. AnswerHasCause v told before now)) (sym c.opened.ensures)
+    (opened-cause told c.check_file-end.result c.args.source.now c.args.at before now c.check_file-end.ensures.cause)
 
-pub include-returns-in-Err-clause-keeps : goal.include-returns-in-Err-clause-keeps
-include-returns-in-Err-clause-keeps g t c =
-    let keeps = c.in-Err.ensures.keeps in
-    record {
-      going = tt;
-      kind = keeps.kind;
-      table = extends-trans c.args.paths.now c.add-2.new.self c.check_file.new.paths c.in-Ok-add.ensures.grows keeps.table;
-    }
+pub include-returns-clause-keeps : goal.include-returns-clause-keeps
+include-returns-clause-keeps g t c =
+    let s = c.args.source.now in
+    let run = c.check_file-end.new.run in
+    let before = c.args.paths.now in
+    let mid = c.add-2.new.self in
+    let after = c.check_file-end.new.paths in
+    let grows = c.in-Ok-add.ensures.grows in
+    subst (λ (r : Result (Unit {0}) Verdict). Keeps r run before after) (sym c.opened.ensures)
+    (opened-keeps c.check_file-end.result run before mid after s c.args.at (numbered-later before mid (number_of s.from) s.path.now grows c.requires.ready.numbered) grows c.check_file-end.ensures.keeps)
 
 -- ---- a reference file
+
+pub refer-check_file-end-requires : goal.refer-check_file-end-requires
+refer-check_file-end-requires g t c κs within = (
+  omega (arith, c.requires.opens),
+  (
+    within,
+    record {
+      room = omega (arith, c.requires.opens, c.requires.ready.room);
+      going = c.in_ok-begin.ensures.going;
+      numbered = c.in-Ok.ensures.number;
+    },
+  ),
+)
 
 pub refer-returns-in_err-begin-clause-refers : goal.refer-returns-in_err-begin-clause-refers
 refer-returns-in_err-begin-clause-refers g t c = λ name folds.
     let s = c.args.source.now in
     let told = g.L.Library.told c.args.files.now in
     let p = progress_of c.args.run.now in
-    let last = progress c.begin.new.session.state c.args.run.now.included in
+    let last = progress_of c.begin.new.run in
     let x = c.in_err-begin.field-0.0 in
     at_exit (λ (r : Result (Unit {0}) Verdict). Opens told s c.args.at (next.Reference name) r p last c.args.paths.now) c.from_residual.result x c.from_residual.ensures.1
-    (refer-unbegun told s (s.opens - 1) (omega (arith, c.requires.opens)) c.args.at p last c.args.paths.now c.requires.ready.numbered name c.args.file.now folds x c.begin.new.session.state c.in_err-begin.ensures.begins)
+    (refer-unbegun told s (s.opens - 1) (omega (arith, c.requires.opens)) c.args.at p last c.args.paths.now c.requires.ready.numbered name c.args.file.now folds x c.begin.new.run.session.state c.in_err-begin.ensures.begins)
 
 pub refer-returns-in_err-begin-clause-cause : goal.refer-returns-in_err-begin-clause-cause
 refer-returns-in_err-begin-clause-cause g t c =
@@ -419,97 +408,85 @@ refer-returns-in_err-begin-clause-cause g t c =
     let n = g.L.Library.faults c.args.files.now in
     let x = c.in_err-begin.field-0.0 in
     at_exit (λ (r : Result (Unit {0}) Verdict). IfErr r (λ v. AnswerHasCause v told n n)) c.from_residual.result x c.from_residual.ensures.1
-    (unbegun-present told c.args.source.now c.args.at x c.args.run.now.session.state c.begin.new.session.state n n c.in_err-begin.ensures.begins)
+    (unbegun-present told c.args.source.now c.args.at x c.args.run.now.session.state c.begin.new.run.session.state n n c.in_err-begin.ensures.begins)
 
-pub refer-returns-in-Ok-Some-clause-refers : goal.refer-returns-in-Ok-Some-clause-refers
-refer-returns-in-Ok-Some-clause-refers g t c = λ name folds.
+pub refer-returns-clause-refers : goal.refer-returns-clause-refers
+refer-returns-clause-refers g t c = λ name folds.
     let s = c.args.source.now in
     let told = g.L.Library.told c.args.files.now in
     let p = progress_of c.args.run.now in
-    let last = progress_of c.check_file.new.run in
-    let paths = c.check_file.new.paths in
-    let st = c.begin.new.session.state in
-    let i : Source = record { path = c.args.file; from = code.Reference c.in-Ok.number; wrapped = false; opens = 0 } in
-    let end = c.in-Ok-Some.field-0-0 in
-    refers-runs told s (s.opens - 1) (omega (arith, c.requires.opens)) c.args.at name p paths c.args.file.now folds st c.in_ok-begin.ensures.begins i refl refl refl refl end tt last
-    (subst (λ (o : Option Spot). RunsFile told i (Ok o) (progress st p.included) last paths) c.in-Ok-Some.field-0-is c.in-Ok-Some.ensures.runs)
-
-pub refer-returns-in-Ok-Some-clause-keeps : goal.refer-returns-in-Ok-Some-clause-keeps
-refer-returns-in-Ok-Some-clause-keeps g t c =
-    let keeps = c.in-Ok-Some.ensures.keeps in
-    record {
-      going = keeps.going;
-      kind = tt;
-      table = extends-trans c.args.paths.now c.add.new.self c.check_file.new.paths c.in-Ok.ensures.grows keeps.table;
-    }
-
-pub refer-returns-in-Ok-None-clause-refers : goal.refer-returns-in-Ok-None-clause-refers
-refer-returns-in-Ok-None-clause-refers g t c = λ name folds.
-    let s = c.args.source.now in
-    let told = g.L.Library.told c.args.files.now in
-    let p = progress_of c.args.run.now in
-    let last = progress_of c.check_file.new.run in
-    let paths = c.check_file.new.paths in
+    let end = c.check_file-end in
+    let last = progress_of end.new.run in
+    let paths = end.new.paths in
     let at = c.args.at in
-    let st = c.begin.new.session.state in
+    let st = c.begin.new.run.session.state in
     let i : Source = record { path = c.args.file; from = code.Reference c.in-Ok.number; wrapped = false; opens = 0 } in
     let added : IsNumbered c.add.new.self s = numbered-later c.args.paths.now c.add.new.self (number_of s.from) s.path.now c.in-Ok.ensures.grows c.requires.ready.numbered in
-    let here : IsNumbered paths s = numbered-later c.add.new.self paths (number_of s.from) s.path.now c.in-Ok-None.ensures.keeps.table added in
-    subst (λ (v : Verdict). Opens told s at (next.Reference name) (Err v) p last paths) (sym c.refused.ensures)
-    (refers-absent told s (s.opens - 1) (omega (arith, c.requires.opens)) at name p paths c.args.file.now folds st c.in_ok-begin.ensures.begins i refl refl refl refl (record { name = FileAbsent; place = place_in s at }) last last
-    (subst (λ (o : Option Spot). RunsFile told i (Ok o) (progress st p.included) last paths) c.in-Ok-None.field-0-is c.in-Ok-None.ensures.runs) (denotes-here paths s FileAbsent at here))
+    let here : IsNumbered paths s = numbered-later c.add.new.self paths (number_of s.from) s.path.now end.ensures.keeps.table added in
+    subst (λ (r : Result (Unit {0}) Verdict). Opens told s at (next.Reference name) r p last paths) (sym c.opened.ensures)
+    (refers-ends told s (s.opens - 1) (omega (arith, c.requires.opens)) at name p paths c.args.file.now folds st c.in_ok-begin.ensures.begins i refl refl refl refl end.result last here
+    (subst (λ (ps : List (List ℕ)). RunsFile told i end.result (progress st ps) last paths) c.in_ok-begin.ensures.included end.ensures.runs))
 
-pub refer-returns-in-Ok-None-clause-keeps : goal.refer-returns-in-Ok-None-clause-keeps
-refer-returns-in-Ok-None-clause-keeps g t c =
+pub refer-returns-clause-cause : goal.refer-returns-clause-cause
+refer-returns-clause-cause g t c =
+    let told = g.L.Library.told c.args.files.now in
+    let before = g.L.Library.faults c.args.files.now in
+    let now = g.L.Library.faults c.check_file-end.new.files in
+    subst (λ (r : Result (Unit {0}) Verdict). IfErr r (λ v. AnswerHasCause v told before now)) (sym c.opened.ensures)
+    (opened-cause told c.check_file-end.result c.args.source.now c.args.at before now c.check_file-end.ensures.cause)
+
+pub refer-returns-clause-keeps : goal.refer-returns-clause-keeps
+refer-returns-clause-keeps g t c =
     let s = c.args.source.now in
-    let paths = c.check_file.new.paths in
-    let later = c.in-Ok-None.ensures.keeps.table in
-    let added : IsNumbered c.add.new.self s = numbered-later c.args.paths.now c.add.new.self (number_of s.from) s.path.now c.in-Ok.ensures.grows c.requires.ready.numbered in
-    record {
-      going = tt;
-      kind = subst (IsStop paths) (sym c.refused.ensures) (placed-in paths s (numbered-later c.add.new.self paths (number_of s.from) s.path.now later added));
-      table = extends-trans c.args.paths.now c.add.new.self paths c.in-Ok.ensures.grows later;
-    }
-
-pub refer-returns-in-Err-clause-refers : goal.refer-returns-in-Err-clause-refers
-refer-returns-in-Err-clause-refers g t c = λ name folds.
-    let s = c.args.source.now in
-    let i : Source = record { path = c.args.file; from = code.Reference c.in-Ok.number; wrapped = false; opens = 0 } in
-    refers-stops (g.L.Library.told c.args.files.now) s (s.opens - 1) (omega (arith, c.requires.opens)) c.args.at name (progress_of c.args.run.now) c.check_file.new.paths c.args.file.now folds c.begin.new.session.state c.in_ok-begin.ensures.begins i refl refl refl refl
-    c.in-Err.verdict (progress_of c.check_file.new.run) c.in-Err.ensures.runs
-
-pub refer-returns-in-Err-clause-keeps : goal.refer-returns-in-Err-clause-keeps
-refer-returns-in-Err-clause-keeps g t c =
-    let keeps = c.in-Err.ensures.keeps in
-    record {
-      going = tt;
-      kind = keeps.kind;
-      table = extends-trans c.args.paths.now c.add.new.self c.check_file.new.paths c.in-Ok.ensures.grows keeps.table;
-    }
+    let run = c.check_file-end.new.run in
+    let before = c.args.paths.now in
+    let mid = c.add.new.self in
+    let after = c.check_file-end.new.paths in
+    let grows = c.in-Ok.ensures.grows in
+    subst (λ (r : Result (Unit {0}) Verdict). Keeps r run before after) (sym c.opened.ensures)
+    (opened-keeps c.check_file-end.result run before mid after s c.args.at (numbered-later before mid (number_of s.from) s.path.now grows c.requires.ready.numbered) grows c.check_file-end.ensures.keeps)
 
 -- ---- a file
 
-pub check_file-returns-in-Ok-clause-runs : goal.check_file-returns-in-Ok-clause-runs
-check_file-returns-in-Ok-clause-runs g t c =
+pub check_file-returns-in-Ready-clause-runs : goal.check_file-returns-in-Ready-clause-runs
+check_file-returns-in-Ready-clause-runs g t c =
     let s = c.args.source.now in
     let told = g.L.Library.told c.args.files.now in
     let old = progress_of c.args.run.now in
-    let new = progress_of c.check_open-end.new.run in
-    let paths = c.check_open-end.new.paths in
+    let end = c.check_open-end in
+    let new = progress_of end.new.run in
+    let paths = end.new.paths in
     let mid = g.L.Library.open_files c.open.new.self in
-    ready-runs told s (Ok c.in-Ok.at) old new paths (g.L.Library.open_files c.args.files.now) mid c.in-Ready.ensures.opens
-    (open-later told (g.L.Library.told c.open.new.self) c.in-Ready.ensures.same s (Ok c.in-Ok.at) old new paths mid c.in-Ok.ensures.runs)
+    subst (λ (r : Result (Option Spot) Verdict). RunsFile told s r old new paths) (sym c.closed.ensures.is)
+    (ready-runs told s end.result old new paths (g.L.Library.open_files c.args.files.now) mid c.in-Ready.ensures.opens
+    (open-later told (g.L.Library.told c.open.new.self) c.in-Ready.ensures.same s end.result old new paths mid end.ensures.runs))
 
-pub check_file-returns-in-Err-clause-runs : goal.check_file-returns-in-Err-clause-runs
-check_file-returns-in-Err-clause-runs g t c =
-    let s = c.args.source.now in
+pub check_file-returns-in-Ready-clause-cause : goal.check_file-returns-in-Ready-clause-cause
+check_file-returns-in-Ready-clause-cause g t c =
     let told = g.L.Library.told c.args.files.now in
-    let old = progress_of c.args.run.now in
-    let new = progress_of c.check_open-end.new.run in
-    let paths = c.check_open-end.new.paths in
+    let before = g.L.Library.faults c.args.files.now in
+    let now = g.L.Library.faults c.closed.new.files in
+    subst (λ (r : Result (Option Spot) Verdict). FileHasCause r told before now) (sym c.closed.ensures.is)
+    (found-cause told (g.L.Library.told c.open.new.self) c.in-Ready.ensures.same c.check_open-end.result before (g.L.Library.faults c.open.new.self) (g.L.Library.faults c.check_open-end.new.files) now
+    c.in-Ready.ensures.later c.closed.ensures.later c.check_open-end.ensures.cause)
+
+pub check_file-returns-in-Ready-clause-keeps : goal.check_file-returns-in-Ready-clause-keeps
+check_file-returns-in-Ready-clause-keeps g t c =
+    let end = c.check_open-end in
+    subst (λ (r : Result (Option Spot) Verdict). Keeps r end.new.run c.args.paths.now end.new.paths) (sym c.closed.ensures.is)
+    (found-keeps end.result end.new.run c.args.paths.now end.new.paths end.ensures.keeps)
+
+pub check_file-returns-in-Ready-clause-stays : goal.check_file-returns-in-Ready-clause-stays
+check_file-returns-in-Ready-clause-stays g t c =
+    let old = g.L.Library.open_files c.args.files.now in
     let mid = g.L.Library.open_files c.open.new.self in
-    ready-runs told s (Err c.in-Err.verdict) old new paths (g.L.Library.open_files c.args.files.now) mid c.in-Ready.ensures.opens
-    (open-later told (g.L.Library.told c.open.new.self) c.in-Ready.ensures.same s (Err c.in-Err.verdict) old new paths mid c.in-Err.ensures.runs)
+    let after = g.L.Library.open_files c.check_open-end.new.files in
+    let reads = c.check_open-end.ensures.reads in
+    record {
+      same = c.closed.ensures.same ∙ reads.same ∙ c.in-Ready.ensures.same;
+      closed = closes-open (g.L.Library.told c.args.files.now) c.args.source.now.path.now old mid after (g.L.Library.open_files c.closed.new.files) c.in-Ready.ensures.opens reads.stays c.closed.ensures.closes;
+      later = omega (arith, c.in-Ready.ensures.later, reads.later, c.closed.ensures.later);
+    }
 
 pub check_pieces-pieces-init : goal.check_pieces-pieces-init
 check_pieces-pieces-init g t c =
