@@ -1,20 +1,36 @@
 -- The exits of the functions that read a file.
-use Rattle.std.proofs.Common.{◌≡◌, ◌≤◌, ◌<◌, ◌+◌, sym, subst, Bool, true, false, List, [], ℕ, length, drop}
+use Rattle.std.proofs.Common.{◌≡◌, ◌≤◌, ◌<◌, ◌+◌, sym, ap, ◌∙◌, subst, Bool, true, false, List, [], ℕ, length, drop}
 use Rattle.std.specs.Prelude.{Ok, Err}
+use Rattle.eo_base.specs.Checks.{Checked}
 use Rattle.eo_base.specs.declared.FaultName.{FaultName}
 use Rattle.eo_base.specs.Limits.{limits}
 use Rattle.eo_sexp.specs.Spot.{Spot}
 use Rattle.eo_sexp.specs.Texts.{Then, Placed}
-use Rattle.eo_sexp.specs.Collecting.{Collecting, IsLive, here_of}
+use Rattle.eo_sexp.specs.Collecting.{Collecting, AtCommand, Holds, IsLive, here_of, start_of}
+use Rattle.eo_sexp.specs.Sexp.{Sexp}
 use Rattle.eo_sexp.specs.Cutting.{IsWaiting}
 use Rattle.eo_session.specs.State.{State}
 use Rattle.eo_session.specs.Commands.{step}
-use Rattle.eo_run.specs.Reading.{Continuation, count_of, behind, at_end, LeadsOn, AsksFor, FailsAt, ChecksCommand, ChecksPiece, ChecksEnd, IsAsked, IsAskedAtEnd}
+use Rattle.eo_session.specs.Stepping.{Standing, StepsTo}
+use Rattle.eo_session.specs.declared.Next.{Next}
+use Rattle.eo_session.specs.declared.refused.Refused.{Refused}
+use Rattle.eo_session.specs.declared.refused.Refused.TheVariants as refused
+use Rattle.eo_run.specs.Reading.{Continuation, count_of, behind, at_end, LeadsOn, AsksFor, FailsAt, ChecksCommand, ChecksLast, ChecksPiece, ChecksEnd, IsAsked, IsAskedAtEnd}
 use Rattle.eo_run.specs.declared.reading.Asked.{Asked}
 use Rattle.eo_run.specs.declared.reading.Stop.{Stop}
 use Rattle.eo_run.specs.declared.reading.Stop.TheVariants as stop
 use Rattle.eo_run.proofs.Running.{on-fails, on-asks, command-fails, command-asks}
 use Rattle.eo_session.specs.Origin.{Origin}
+
+-- a command that is refused, at its first byte
+pub fault-steps : (x : Refused) (name : FaultName) (m : Checked (State × Next)) (old new : Standing) → x ≡ refused.Fault name → StepsTo (Err x) m old new → m ≡ Err name
+fault-steps x name m old new e h = (subst (λ (y : Refused). StepsTo (Err y) m old new) e h).1
+
+pub refused-last : (from : Origin) (old new : State) (c : Collecting) (s : Sexp) (name : FaultName) (at : Spot) → Holds c s → step old from s ≡ Err name → (IsLive c → at ≡ start_of c) → ChecksLast from (Err (stop.Fault name at)) old new c
+refused-last from old new c s name at h e starts = λ k phase is.
+    let both : AtCommand k phase ≡ AtCommand h.0 h.1 = sym is ∙ h.2 in
+    let same : k ≡ h.0 = cc in
+    (ap (step old from) (ap (λ (p : Placed). p.sexp) same ∙ sym h.3) ∙ e, starts (subst (λ (d : Collecting). IsLive d) (sym is) tt) ∙ ap start_of is)
 
 module _ (from : Origin) (old st new : State) (r t s : Continuation) (k : Placed) (leads : LeadsOn from old r st t) (gives : (closes : Bool) (more : List ℕ) → t closes more ≡ Then k (s closes more)) where
   -- a refused command refuses the run
