@@ -367,17 +367,32 @@ fn parameters(alloc: Global, table: &mut Table) -> Result<Locals, AllocError>
     Ok(locals)
 }
 
+// Adds the parameters to names of which there are none.
 fn add_parameters(table: &mut Table, locals: &mut Locals) -> Result<(), AllocError>
     requires none { locals.old ≡ [] }
     ensures below { OnOk result (AreBelow (length table.new.trees) locals.new) }
     ensures grows { Grows table.old table.new }
 {
-    let xs = table.intern_low(Node::Par(0))?;
-    let ys = table.intern_low(Node::Par(1))?;
-    let z = table.intern_low(Node::Par(2))?;
-    locals.add(b"xs", xs, true)?;
-    locals.add(b"ys", ys, true)?;
-    locals.add(b"z", z, false)?;
+    add_parameter(table, locals, b"xs", 0, true)?;
+    add_parameter(table, locals, b"ys", 1, true)?;
+    add_parameter(table, locals, b"z", 2, false)
+}
+
+// Adds a name for the parameter of this number.
+fn add_parameter(
+    table: &mut Table,
+    locals: &mut Locals,
+    name: &[u8],
+    number: u8,
+    list: bool,
+) -> Result<(), AllocError>
+    requires number { number < 64 }
+    requires below { AreBelow (length table.old.trees) locals.old }
+    ensures below { OnOk result (AreBelow (length table.new.trees) locals.new) }
+    ensures grows { Grows table.old table.new }
+{
+    let id = table.intern_low(Node::Par(number))?;
+    locals.add(name, id, list)?;
     Ok(())
 }
 
