@@ -1,7 +1,7 @@
 //! The suite: a signature of propositional reasoning and equality, which proofs may include.
 #![tactic(auto)]
 
-ghost use Rattle.std.specs.Prelude.{◌≡◌};
+ghost use Rattle.std.specs.Prelude.{◌≡◌, bytes_eq};
 ghost use Rattle.eo_cpc.specs.Suite.{suite};
 
 /// The text of the suite, a line for each command: constants with their attributes, programs, and
@@ -90,6 +90,13 @@ pub fn suite() -> &'static [u8]
 (declare-rule chain_resolution ((C Bool) (Ds Bool :list) (ps @List) (Ls @List)) :premise-list (and C Ds) and :args \
   (ps Ls) :conclusion ($uncl ($chain ($cl C) Ds ps Ls)))\n\
 (declare-rule scope ((F Bool) (G Bool)) :assumption F :premises (G) :conclusion (=> F G))\n"
+}
+
+/// Whether these bytes are the suite.
+pub fn is_suite(bytes: &[u8]) -> bool
+    ensures { result ≡ bytes_eq bytes.now suite }
+{
+    bytes == suite()
 }
 
 #[cfg(test)]
