@@ -9,11 +9,12 @@
 ghost use Rattle.std.specs.Prelude.{◌≡◌, ◌<◌, length, All, IsTrue, IfSome};
 ghost use Rattle.eo_term.specs.Terms.{HasArity, PartsBelow, TextsBelow, IsPlain, IsProper};
 ghost use Rattle.eo_sig.specs.Growth.{GrowsUnder};
+ghost use Rattle.eo_sig.specs.declared.records.ProgramDecl.{ProgramDecl};
 ghost use Rattle.eo_sig.specs.Reading.{CaseBelow, IsBelow, ProgramBelow};
 
 use eo_base::{Name, both};
 use eo_eval::{Evaluator, Outcome};
-use eo_sig::{Case, Cases, Params, ProgramDecl, SigRefused, Signature};
+use eo_sig::{Case, Cases, Params, ProgramDecl, Signature};
 use eo_term::{BOOL, Id, Ids, Node, OpCode, OpName, TRUE, Table, TermRefused};
 use eo_type::Types;
 use std::alloc::{AllocError, Global};
@@ -81,17 +82,14 @@ impl World {
 
     /// Adds a program with one case, and answers its number.
     fn program(&mut self, name: &[u8], patterns: &[Id], body: Id) -> Option<usize> {
-        let d = program(self.alloc, &self.table, name, patterns, body)?;
-        self.add(d).ok()?
-    }
-
-    fn add(&mut self, d: ProgramDecl) -> Result<Option<usize>, SigRefused>
-        requires { ProgramBelow self.old d }
-    {
-        if !self.sig.is_free(d.name.as_bytes()) {
-            return Ok(None);
+        if !self.sig.is_free(name) {
+            return None;
         }
-        Ok(Some(self.sig.add_program(&self.table, d)?))
+        let d = program(self.alloc, &self.table, name, patterns, body)?;
+        let Ok(number) = self.sig.add_program(&self.table, d) else {
+            return None;
+        };
+        Some(number)
     }
 
     fn outcome(&mut self, id: Id) -> Option<Outcome> {
@@ -175,7 +173,8 @@ fn program(
     patterns: &[Id],
     body: Id,
 ) -> Option<ProgramDecl>
-    ensures { IfSome result (ProgramBelow (length table.now.trees)) }
+    ensures below { IfSome result (ProgramBelow (length table.now.trees)) }
+    ensures named { IfSome result (λ (d : ProgramDecl). d.name ≡ name.now) }
 {
     let output = live(table, BOOL)?;
     let cases = cases_of(alloc, table, patterns, body)?;
@@ -233,15 +232,25 @@ fn calls_on_halves(w: &mut World, a: Id, b: Id) -> Option<Id> {
 
 /// `w` on n, that and a call that was begun in it, and that and one that was not.
 fn terms(w: &mut World, n: usize) -> Option<[Id; 3]> {
-    let zero = w.num(0)?;
-    let one = w.num(1)?;
-    let n = w.num(n as i128)?;
-    let whole = w.call(1, &[n])?;
-    let begun = w.call(0, &[zero, one])?;
-    let other = w.call(1, &[one])?;
+    let whole = whole_on(w, n as i128)?;
+    let begun = begun(w)?;
+    let other = whole_on(w, 1)?;
     let again = w.op(OpName::And, &[whole, begun])?;
     let more = w.op(OpName::And, &[whole, other])?;
     Some([whole, again, more])
+}
+
+// `w` on a number.
+fn whole_on(w: &mut World, number: i128) -> Option<Id> {
+    let number = w.num(number)?;
+    w.call(1, &[number])
+}
+
+// `c` on 0 and 1.
+fn begun(w: &mut World) -> Option<Id> {
+    let zero = w.num(0)?;
+    let one = w.num(1)?;
+    w.call(0, &[zero, one])
 }
 
 fn word_of(outcome: Option<Outcome>) -> &'static str {
