@@ -2,6 +2,7 @@ pub mod Causes
 pub mod Checks
 pub mod Faults
 pub mod FaultTexts
+pub mod FaultLaws
 pub mod Limits
 pub mod Characters
 pub mod Statuses

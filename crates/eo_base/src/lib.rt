@@ -5,6 +5,7 @@
 ghost use Rattle.std.specs.Prelude.{◌≡◌};
 ghost use Rattle.eo_base.specs.Faults.{number};
 ghost use Rattle.eo_base.specs.FaultTexts.{text};
+ghost use Rattle.eo_base.specs.FaultLaws.{HaveOwnNumbers, HaveOwnTexts};
 ghost use Rattle.eo_base.specs.Statuses.{status_code};
 
 pub mod limits;
@@ -101,10 +102,20 @@ pub enum FaultName {
     ScopeOpen,
     /// `false` is no fact at the end.
     NoRefutation,
+    /// A value of which a part has no spelling.
+    Unprintable,
+    /// A proof whose file was opened more than once.
+    ProofShared,
+    /// A line of a certificate that breaks a form or a condition.
+    BadCertificate,
+    /// A certificate that does not reach `false`.
+    NoFalse,
+    /// A step by a rule that is not known to keep truth.
+    NotSemantic,
 }
 
 impl FaultName {
-    /// Its number, from 1 to 41.
+    /// Its number, from 1 to 46.
     #[tactic(auto, unfolding(crate::specs::Faults::number))]
     pub fn number(self) -> u8
         ensures { result ≡ number self }
@@ -159,9 +170,20 @@ impl FaultName {
             FaultName::Parameters => "Parameters",
             FaultName::ScopeOpen => "ScopeOpen",
             FaultName::NoRefutation => "NoRefutation",
+            FaultName::Unprintable => "Unprintable",
+            FaultName::ProofShared => "ProofShared",
+            FaultName::BadCertificate => "BadCertificate",
+            FaultName::NoFalse => "NoFalse",
+            FaultName::NotSemantic => "NotSemantic",
         }
     }
 }
+
+/// A law: different faults have different numbers and different texts.
+pub fn faults_law()
+    ensures numbers { HaveOwnNumbers }
+    ensures texts { HaveOwnTexts }
+{}
 
 /// Where a fault stands.
 #[derive(Clone, Copy, Debug, PartialEq, Eq)]
