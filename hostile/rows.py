@@ -100,10 +100,6 @@ def not_asserted(row):
     return CHECK, {"r.smt2": FORMULAS, "p.eo": row + "\n"}, (2, "refused F28 NotAsserted p.eo:1:0\n")
 
 
-def negations(count):
-    return ["(define @t0 () p)"] + [f"(define @t{k + 1} () (not @t{k}))" for k in range(count)]
-
-
 def loaded(text, status, line):
     return LOAD, {"a.eo": text}, (status, line)
 
@@ -119,23 +115,83 @@ COUNT_DOWN = (
     "(program $e ((n Int)) :signature (Int) Bool ((($e 0) true) (($e n) ($e (eo::add n -1)))))"
 )
 
+# On 0 and a number as many calls as twice the number less one, all of them different.
+HALVES = (
+    "(program $c ((a Int) (b Int)) :signature (Int Int) Bool ((($c a b) "
+    "(eo::ite (eo::is_eq (eo::add a 1) b) true (eo::and ($c a (eo::zdiv (eo::add a b) 2)) "
+    "($c (eo::zdiv (eo::add a b) 2) b))))))",
+    "(program $w ((a Int)) :signature (Int) Bool ((($w a) ($c 0 a))))",
+)
+
+# Macros of a negation, of ten, of a hundred, and so on to 100,000.
+NEGATIONS = ("(define d0 ((x Bool)) (not x))",) + tuple(
+    f"(define d{k} ((x Bool)) {f'(d{k - 1} ' * 10}x{')' * 11}" for k in range(1, 6)
+)
+
+
+def negations(count):
+    """So many negations of p by these macros."""
+    macros = "".join(f"(d{k} " * int(digit) for k, digit in zip(range(5, -1, -1), f"{count:06}"))
+    return f"{macros}p{')' * macros.count('(')}"
+
+
+def refused(fault, *rows):
+    """A check that refuses the last of these lines."""
+    text = lines(*rows)
+    at = len(text) - len(rows[-1]) - 1
+    return CHECK, {"r.smt2": FORMULAS, "p.eo": text}, (2, f"refused {fault} p.eo:{len(rows)}:{at}\n")
+
+
+def value(term):
+    return f"(step @s (= {term} true) :rule refl :args (true))"
+
+
+def lets(name, count):
+    """Lets of which each binds a name by what stands for the one before it."""
+    opened = "".join(f"(let (({name(k + 1)} {name(k)})) " for k in range(count))
+    return f"(let (({name(0)} q)) {opened}{name(count)}{')' * (count + 1)}"
+
+
 LIMITS = {
-    "lists in lists": loaded("(" * 512, 2, "refused F02 Unclosed a.eo:1:512\n"),
+    "lists in lists": loaded("(" * 100_000, 2, "refused F02 Unclosed a.eo:1:100000\n"),
+    "lists in lists, one more": loaded(
+        "(" * 100_001, 2, "refused F07 Nesting a.eo:1:100000\n"),
     "lists in the outer pair": (
-        CHECK, {"r.smt2": FORMULAS, "p.eo": "(" * 513}, (2, "refused F02 Unclosed p.eo:1:513\n"),
+        CHECK, {"r.smt2": FORMULAS, "p.eo": "(" * 100_001},
+        (2, "refused F02 Unclosed p.eo:1:100001\n"),
     ),
-    "a formula of many lists": not_asserted("(assume @a " + "(not " * 511 + "p" + ")" * 512),
+    "a formula of many lists": not_asserted(
+        "(assume @a " + "(not " * 99_999 + "p" + ")" * 100_000),
     "a type of many lists": accepted(
-        "(declare-const c " + "(-> Bool " * 511 + "Bool" + ")" * 512),
+        "(declare-const c " + "(-> Bool " * 99_999 + "Bool" + ")" * 100_000),
     "operators in operators": not_asserted(
-        "(assume @a " + "(eo::and true " * 511 + "true" + ")" * 512),
-    "a `let` in a `let`": not_asserted("(assume @a " + "(let ((x q)) " * 509 + "x" + ")" * 510),
-    "a tall formula": accepted(*negations(1_999)),
+        "(assume @a " + "(eo::and true " * 99_999 + "true" + ")" * 100_000),
+    "lets of one name": not_asserted(f"(assume @a {lets(lambda k: 'x', 99_996)})"),
+    "lets of different names": not_asserted(f"(assume @a {lets(lambda k: f'x{k}', 99_996)})"),
+    "a long conjunction": accepted(
+        f"(define m () (and{' p' * 65_535}))", "(step @s (= m m) :rule refl :args (m))"),
+    "a list that is too long": (
+        CHECK, {"r.smt2": FORMULAS, "p.eo": f"(define m () (and{' p' * 65_536}))\n"},
+        (2, "refused F08 Width p.eo:1:131088\n"),
+    ),
+    "a tall formula": accepted(*NEGATIONS, f"(define h () {negations(999_999)})"),
+    "a formula that is too tall": refused(
+        "F18 TermHeight", *NEGATIONS, f"(define h () (not {negations(999_999)}))"),
     "a tall conclusion": accepted(
-        *negations(1_997), "(step @s (= @t1997 @t1997) :rule refl :args (@t1997))"),
-    "a tall assumption": open_scope(*negations(1_999), "(assume-push @a @t1999)"),
-    "calls in calls": accepted(
-        COUNT_DOWN, "(step @s (= ($e 999) true) :rule refl :args (true))"),
+        *NEGATIONS, f"(define h () {negations(999_997)})", "(step @s (= h h) :rule refl :args (h))"),
+    "a tall assumption": open_scope(
+        *NEGATIONS, f"(define h () {negations(999_999)})", "(assume-push @a h)"),
+    "conjunctions that double": accepted(
+        "(define u0 ((x Bool)) x)",
+        *(f"(define u{k} ((x Bool)) (and (u{k - 1} x) (u{k - 1} x)))" for k in range(1, 65)),
+        "(define v () (u64 p))"),
+    "calls in calls": accepted(COUNT_DOWN, value("($e 999999)")),
+    "calls in calls, one more": refused("F19 EvalDepth", COUNT_DOWN, value("($e 1000000)")),
+    "different calls": accepted(*HALVES, value("($w 1000000)")),
+    "different calls, and one of them again": accepted(
+        *HALVES, value("(eo::and ($w 1000000) ($c 0 1))")),
+    "different calls, one more": refused(
+        "F20 EvalCalls", *HALVES, value("(eo::and ($w 1000000) ($w 1))")),
     "scopes in scopes": open_scope(*(f"(assume-push @a{k} p)" for k in range(1_000))),
     "files in files": includes(16),
 }
@@ -183,9 +239,16 @@ def refuse_each(name, words, files, due):
 
 
 def at_limit(name, words, files, due):
-    """Runs with the stack that a shell gives."""
+    """Runs with the stack that a shell gives, and prints the seconds and the memory of it."""
     put(files)
-    got = run(words, preexec_fn=lambda: resource.setrlimit(resource.RLIMIT_STACK, (STACK, STACK)))
+    process = subprocess.Popen(
+        [program, *words], cwd=work, stdout=subprocess.PIPE, text=True,
+        preexec_fn=lambda: resource.setrlimit(resource.RLIMIT_STACK, (STACK, STACK)))
+    line = process.stdout.read()
+    _, status, used = os.wait4(process.pid, 0)
+    got = os.waitstatus_to_exitcode(status), line
+    seconds = used.ru_utime + used.ru_stime
+    print(f"hostile: {name}: {seconds:.2f} s, {used.ru_maxrss / 1024:.0f} MB")
     return 0 if got == due else differs(name, got, due)
 
 

@@ -1,7 +1,7 @@
 //! The greatest sizes that are accepted. The greatest height of a term stands with the terms.
 
 /// Lists that are open at one place, a proof's outer pair not counted.
-pub const NESTING: usize = 512;
+pub const NESTING: usize = 100_000;
 
 /// Children of a list.
 pub const WIDTH: usize = 65_536;
@@ -19,10 +19,10 @@ pub const FILE: u64 = 1_099_511_627_776;
 pub const CHARACTERS: usize = 1_048_576;
 
 /// Program calls that are begun and not finished.
-pub const CALL_DEPTH: usize = 1_000;
+pub const CALL_DEPTH: usize = 1_000_000;
 
 /// Different program calls in one evaluation.
-pub const CALLS: usize = 1_000_000;
+pub const CALLS: usize = 2_000_000;
 
 /// Scopes that are open.
 pub const SCOPES: usize = 1_000;

@@ -576,6 +576,29 @@ pub fn defined(
     ensures grows { GrowsUnder sig.now table.old table.new }
 {
     sig.laws();
+    if !may_declare(sig, name) {
+        return Err(ElabRefused::Redeclared);
+    }
+    defined_allowed(alloc, name, params, body, sig, table)
+}
+
+/// The same for a name that may be declared, which is not asked again.
+pub fn defined_allowed(
+    alloc: Global,
+    name: &[u8],
+    params: &ParameterShapes<'_>,
+    body: &Sexp<'_>,
+    sig: &Signature,
+    table: &mut Table,
+) -> Result<MacroDecl, ElabRefused>
+    requires below { IsBelow (length table.old.trees) sig.now }
+    requires may { is_free_or_reference (context_in table.old sig.now) name.now ≡ true }
+    ensures gives { GivesMacro table.new result (defined (context_in table.old sig.now) name.now params.now body.now) }
+    ensures named { IfOk result (λ d. d.name ≡ name.now) }
+    ensures refused { OnErr result (table.new ≡ table.old) }
+    ensures grows { GrowsUnder sig.now table.old table.new }
+{
+    sig.laws();
     let mark = table.mark();
     match macro_of(alloc, name, params, body, sig, table) {
         Ok(d) => Ok(d),
@@ -595,15 +618,13 @@ fn macro_of(
     sig: &Signature,
     table: &mut Table,
 ) -> Result<MacroDecl, ElabRefused>
-    requires { IsBelow (length table.old.trees) sig.now }
+    requires below { IsBelow (length table.old.trees) sig.now }
+    requires may { is_free_or_reference (context_in table.old sig.now) name.now ≡ true }
     ensures gives { GivesMacro table.new result (defined (context_in table.old sig.now) name.now params.now body.now) }
-    ensures may { IfOk result (λ d. MayBeMacro (context_in table.old sig.now) (read_macro table.new.trees d)) }
+    ensures named { IfOk result (λ d. d.name ≡ name.now) }
     ensures grows { GrowsUnder sig.now table.old table.new }
 {
     sig.laws();
-    if !may_declare(sig, name) {
-        return Err(ElabRefused::Redeclared);
-    }
     if params.len() > PARAMETERS {
         return Err(ElabRefused::Parameters);
     }

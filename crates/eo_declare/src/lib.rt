@@ -12,7 +12,7 @@ mod rules;
 
 pub use declaring::{
     declaration, declared_const, declared_fun, declared_literals, declared_parameterized,
-    declared_sort, defined,
+    declared_sort, defined, defined_allowed,
 };
 pub use laws::{ordering_law, reference_law};
 pub use programs::declared_program;

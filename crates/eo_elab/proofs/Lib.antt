@@ -14,3 +14,4 @@ pub mod SymbolUses
 pub mod ReadingUses
 pub mod FormUses
 pub mod MeansUses
+pub mod Finishing

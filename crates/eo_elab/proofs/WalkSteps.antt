@@ -88,7 +88,7 @@ module _ (c : Context) (ls : List Local) (labels : List Label) where
       ap (go_on (λ ts. give (before ++ ts))) (all_first s rest ∙ ap (go_on (λ u. means_all c ls rest >>= λ ts. give (u ∷ ts))) e)
 
   -- a `let`
-  let_step : (pairs body : Sexp) → in_let c ls (Next pairs (Next body NoSexp)) labels ≡ (pair_list c ls pairs >>= λ ps. means c (map pair_local ps ++ ls) body) labels
+  pub let_step : (pairs body : Sexp) → in_let c ls (Next pairs (Next body NoSexp)) labels ≡ (pair_list c ls pairs >>= λ ps. means c (map pair_local ps ++ ls) body) labels
   unfolding in_let
   let_step pairs body = refl
 
@@ -117,7 +117,7 @@ module _ (c : Context) (ls : List Local) (labels : List Label) where
   let_not_two (x ∷ y ∷ z ∷ xs) e = let_more x y z (sexps_of xs)
 
   -- a term with attributes
-  annotated_step : (s : Sexp) (attributes : Sexps) → annotated c ls (Next s attributes) labels ≡ (means c ls s >>= λ t. label c t (labels_of c.setting attributes)) labels
+  pub annotated_step : (s : Sexp) (attributes : Sexps) → annotated c ls (Next s attributes) labels ≡ (means c ls s >>= λ t. label c t (labels_of c.setting attributes)) labels
   unfolding annotated
   annotated_step s attributes = refl
 
@@ -132,13 +132,13 @@ module _ (c : Context) (ls : List Local) (labels : List Label) where
   annotated_none = refl
 
   -- a binder
-  abbrev bound_rest : Sexps → List (List ℕ × Tree) → Tree → Reader (List Tree)
+  abbrev pub bound_rest : Sexps → List (List ℕ × Tree) → Tree → Reader (List Tree)
   bound_rest rest vs first = means_all c (map pair_local vs ++ ls) rest >>= λ others. give (first ∷ others)
 
-  abbrev bound_after : Sexps → ℕ → List (List ℕ × Tree) → Reader (List Tree)
+  abbrev pub bound_after : Sexps → ℕ → List (List ℕ × Tree) → Reader (List Tree)
   bound_after rest collector ps = list_of c.signature (is_list ls) collector (map variable ps) >>= bound_rest rest (map variable ps)
 
-  binder_step : (pairs : Sexp) (rest : Sexps) (collector : ℕ) → in_binder c ls (Next pairs rest) collector labels ≡ (pair_list c ls pairs >>= bound_after rest collector) labels
+  pub binder_step : (pairs : Sexp) (rest : Sexps) (collector : ℕ) → in_binder c ls (Next pairs rest) collector labels ≡ (pair_list c ls pairs >>= bound_after rest collector) labels
   unfolding in_binder
   binder_step pairs rest collector = refl
 

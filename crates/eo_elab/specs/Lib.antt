@@ -4,3 +4,4 @@ pub mod Forms
 pub mod Worlds
 pub mod Gives
 pub mod Fitting
+pub mod Waiting

@@ -8,6 +8,7 @@ mod laws;
 mod plan;
 mod shapes;
 mod terms;
+mod waiting;
 mod walk;
 
 pub use eo_names::{Bindings as Names, ElabRefused, LocalName, Locals, Setting};

@@ -22,7 +22,7 @@ use Rattle.eo_pattern.specs.Matching.{put}
 use Rattle.eo_stack.specs.Scopes.{Bound, standing, entered}
 use Rattle.eo_eval.proofs.Waiting.{recalled_low, recalled_deep}
 
-lower : (a b : Tree) → height a ≤ height b → is_tall b ≡ false → is_tall a ≡ false
+pub lower : (a b : Tree) → height a ≤ height b → is_tall b ≡ false → is_tall a ≡ false
 lower a b h l = grind arith
 
 module _ (S : Signature) (call : Call → Eval Tree) where

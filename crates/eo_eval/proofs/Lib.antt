@@ -16,7 +16,7 @@ mod Giving
 mod Called
 mod Running
 mod Beginning
-mod Itself
+pub mod Itself
 mod Settled
 mod Remembered
 mod Calling

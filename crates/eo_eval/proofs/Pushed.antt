@@ -38,14 +38,14 @@ told_tall k t e = ap (λ (r : Ended Tree). r.0) (finish_stops (signature t.trees
 
 -- The beginning.
 
-limit_is : 1000 ≡ open_calls_limit
+pub limit_is : 1_000_000 ≡ open_calls_limit
 unfolding open_calls_limit
 limit_is = refl
 
-pub first_told : (k : Kept) (t : Terms) (e : Machine) (id : ℕ) → e.stack.frames.items ≡ [] → e.stack.values.items ≡ [] → e.scope ≡ none_bound → e.calls.entries ≡ [] → told_in k t e (next.Enter id 1000) ≡ eval (signature t.trees k) calls_limit open_calls_limit (tree_at t.trees id) []
-first_told k t e id fs vs scope cs =
-    (λ i. told (signature t.trees k) calls_limit t.trees (begun t.trees (cs i)) (scope i) (fs i) (vs i) (next.Enter id 1000))
-    ∙ (ap (λ t'. eval (signature t.trees k) calls_limit 1000 t' []) (entered_none t.trees id) ∙ ap (λ n. eval (signature t.trees k) calls_limit n (tree_at t.trees id) []) limit_is)
+pub first_told : (n : ℕ) → n ≡ open_calls_limit → (k : Kept) (t : Terms) (e : Machine) (id : ℕ) → e.stack.frames.items ≡ [] → e.stack.values.items ≡ [] → e.scope ≡ none_bound → e.calls.entries ≡ [] → told_in k t e (next.Enter id n) ≡ eval (signature t.trees k) calls_limit open_calls_limit (tree_at t.trees id) []
+first_told n limit k t e id fs vs scope cs =
+    (λ i. told (signature t.trees k) calls_limit t.trees (begun t.trees (cs i)) (scope i) (fs i) (vs i) (next.Enter id n))
+    ∙ (ap (λ t'. eval (signature t.trees k) calls_limit n t' []) (entered_none t.trees id) ∙ ap (λ m. eval (signature t.trees k) calls_limit m (tree_at t.trees id) []) limit)
 
 remembers_none : (S : Signature) (most : ℕ) (ts : List Tree) (cs : List (CallKey × code_known.Known)) (es : List (ℕ × code_known.Known)) (ls : List (LocalKey × code_known.Known)) → cs ≡ [] → es ≡ [] → ls ≡ [] → Remembers S most ts cs es ls
 remembers_none S most ts cs es ls p q r =
@@ -55,8 +55,8 @@ remembers_none S most ts cs es ls p q r =
     transport (λ i. Remembers S most ts (c i) (m i) (l i))
     (record { calls = All-nil (λ e. IsKnown ts [] (calls S most (read_call ts e.0)) e.1); terms = All-nil (λ e. (e.0 < length ts) × IsKnown ts [] (evals S most (tree_at ts e.0)) e.1); locals = All-nil (IsLocal S most ts []) })
 
-pub first_ready : (k : Kept) (t : Terms) (typed : List (ℕ × ℕ)) (e : Machine) (id : ℕ) → IsFresh e → IsUsable (signature t.trees k) → Fit k t typed → id < length t.trees → Ready k t typed e (next.Enter id 1000)
-first_ready k t typed e id fresh usable fit live =
+pub first_ready : (n : ℕ) (k : Kept) (t : Terms) (typed : List (ℕ × ℕ)) (e : Machine) (id : ℕ) → IsFresh e → IsUsable (signature t.trees k) → Fit k t typed → id < length t.trees → Ready k t typed e (next.Enter id n)
+first_ready n k t typed e id fresh usable fit live =
     let S = signature t.trees k in
     let fs = sym fresh.frames in
     let vs = sym fresh.values in
@@ -69,7 +69,7 @@ first_ready k t typed e id fresh usable fit live =
         keys_live = subst (All (λ (c : CallKey × code_known.Known). All (λ i. i < length t.trees) c.0.args)) cs (All-nil (λ (c : CallKey × code_known.Known). All (λ i. i < length t.trees) c.0.args));
         remembers = remembers_none S calls_limit t.trees e.calls.entries e.terms.entries e.locals.entries fresh.calls fresh.terms fresh.locals;
       };
-      stands = transport (λ i. Stands S calls_limit t.trees (begun t.trees (cs i)) (scope i) (fs i) (vs i) (next.Enter id 1000))
+      stands = transport (λ i. Stands S calls_limit t.trees (begun t.trees (cs i)) (scope i) (fs i) (vs i) (next.Enter id n))
           (record {
             now_live = live;
             frames_live = All-nil (IsFrame t.trees);

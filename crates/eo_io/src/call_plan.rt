@@ -1,5 +1,5 @@
 //! How the calls of the library and the sink in memory go.
-ghost use Rattle.std.specs.Prelude.{◌≡◌, ◌≤◌, OnOk, OnErr};
+ghost use Rattle.std.specs.Prelude.{◌≡◌, ◌≤◌, ◌-◌, ◌^◌, OnOk, OnErr};
 ghost use Rattle.eo_io.specs.Calls.{first_plan, with_piece, with_failing, fails_next, after_call};
 
 use crate::fault_count::FaultCount;
@@ -75,6 +75,7 @@ impl CallPlan {
     pub(crate) fn count(&mut self, failed: bool)
         ensures after { self.new ≡ after_call failed self.old }
         ensures later { self.old.faults ≤ self.new.faults }
+        ensures bounded { self.old.faults ≤ 2 ^ 64 - 1 → self.new.faults ≤ 2 ^ 64 - 1 }
     {
         self.made = self.made.saturating_add(1);
         if failed {

@@ -1,5 +1,5 @@
 //! A count of faults.
-ghost use Rattle.std.specs.Prelude.{◌≡◌, ◌≤◌};
+ghost use Rattle.std.specs.Prelude.{◌≡◌, ◌≤◌, ◌-◌, ◌^◌};
 ghost use Rattle.eo_io.specs.Calls.{one_more};
 
 use std::marker::Model;
@@ -29,6 +29,7 @@ impl FaultCount {
     pub(crate) fn raise(&mut self)
         ensures raised { self.new ≡ one_more self.old }
         ensures later { self.old ≤ self.new }
+        ensures bounded { self.new ≤ 2 ^ 64 - 1 }
     {
         self.faults = self.faults.saturating_add(1);
     }

@@ -1,7 +1,7 @@
 //! Everything outside the program: libraries of files, sinks for bytes, and paths.
 #![tactic(auto)]
 
-ghost use Rattle.std.specs.Prelude.{◌≡◌, ◌≢◌, ℕ, ◌<◌, ◌≤◌, List, [], length, Option};
+ghost use Rattle.std.specs.Prelude.{◌≡◌, ◌≢◌, ℕ, ◌<◌, ◌≤◌, ◌-◌, ◌^◌, List, [], length, Option};
 ghost use Rattle.eo_io.specs.Library.{Files, Rest, Opens, OpenHasCause, Reads, ReadHasCause, Closes};
 ghost use Rattle.eo_io.specs.Sink.{Writes, WriteHasCause};
 
@@ -72,8 +72,8 @@ pub enum PathRefused {
 /// Where files are read from: files by path, of which some are open, in the order in which they
 /// were opened.
 ///
-/// It counts its faults. The count never falls. It is said to have risen where it is larger than
-/// before, or stands at its greatest value, 2^64 - 1.
+/// It counts its faults. The count never falls, and is at most 2^64 - 1. It is said to have risen
+/// where it is larger than before, or is 2^64 - 1.
 pub trait Library {
     /// The files that it tells, if it tells any. No call changes them.
     ghost told: { Self → Option Files };
@@ -99,7 +99,8 @@ pub trait Library {
         ensures same { told self.new ≡ told self.old }
         ensures opens { Opens result (told self.old) path.now (open_files self.old) (open_files self.new) }
         ensures cause { OpenHasCause result (told self.old) path.now (faults self.old) (faults self.new) }
-        ensures later { faults self.old ≤ faults self.new };
+        ensures later { faults self.old ≤ faults self.new }
+        ensures bounded { faults self.new ≤ 2 ^ 64 - 1 };
 
     /// Reads from the file opened last into the front of a buffer that is not empty.
     ///
@@ -112,14 +113,16 @@ pub trait Library {
         ensures same { told self.new ≡ told self.old }
         ensures reads { Reads result (open_files self.old) (open_files self.new) buf.new }
         ensures cause { ReadHasCause result (faults self.old) (faults self.new) }
-        ensures later { faults self.old ≤ faults self.new };
+        ensures later { faults self.old ≤ faults self.new }
+        ensures bounded { faults self.new ≤ 2 ^ 64 - 1 };
 
     /// Closes the file opened last.
     fn close(&mut self)
         requires is_open { open_files self.old ≢ [] }
         ensures same { told self.new ≡ told self.old }
         ensures closes { Closes (open_files self.old) (open_files self.new) }
-        ensures later { faults self.old ≤ faults self.new };
+        ensures later { faults self.old ≤ faults self.new }
+        ensures bounded { faults self.new ≤ 2 ^ 64 - 1 };
 }
 
 /// Where bytes are written to.
@@ -140,5 +143,6 @@ pub trait Sink {
     fn write(&mut self, bytes: &[u8]) -> Put
         ensures writes { Writes result bytes.now (written self.old) (written self.new) }
         ensures cause { WriteHasCause result bytes.now (faults self.old) (faults self.new) }
-        ensures later { faults self.old ≤ faults self.new };
+        ensures later { faults self.old ≤ faults self.new }
+        ensures bounded { faults self.new ≤ 2 ^ 64 - 1 };
 }

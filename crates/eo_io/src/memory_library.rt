@@ -1,5 +1,5 @@
 //! The library in memory whose calls can be made to fail.
-ghost use Rattle.std.specs.Prelude.{◌≡◌, ◌≢◌, ◌<◌, ◌≤◌, [], length, map, Some, IfOk, OnOk, OnErr};
+ghost use Rattle.std.specs.Prelude.{◌≡◌, ◌≢◌, ◌<◌, ◌≤◌, ◌-◌, ◌^◌, [], length, map, Some, IfOk, OnOk, OnErr};
 ghost use Rattle.eo_io.specs.Library.{Opens, OpenHasCause, Reads, ReadHasCause, Closes};
 ghost use Rattle.eo_io.specs.Stored.{with_file, IsFileOf, after_close};
 ghost use Rattle.eo_io.specs.Calls.{with_piece, with_failing};
@@ -20,11 +20,14 @@ pub struct MemoryLibrary {
 }
 
 impl Model for MemoryLibrary {
+    ghost use Rattle.std.specs.Prelude.{◌≤◌, ◌-◌, ◌^◌};
     ghost use Rattle.eo_io.specs.Memory.{MemoryFiles};
 
     ghost Value = { MemoryFiles };
 
     ghost view = { λ a. record { stored = a.files; plan = a.plan } };
+
+    ghost invariant = { λ a. a.plan.faults ≤ 2 ^ 64 - 1 };
 }
 
 impl MemoryLibrary {
@@ -84,6 +87,7 @@ impl Library for MemoryLibrary {
             (map Some self.old.stored.unread) (map Some self.new.stored.unread) }
         ensures cause { OpenHasCause result (Some self.old.stored.told) path.now self.old.plan.faults self.new.plan.faults }
         ensures later { self.old.plan.faults ≤ self.new.plan.faults }
+        ensures bounded { self.new.plan.faults ≤ 2 ^ 64 - 1 }
         ensures answer { result ≡ open_answer self.old path.now }
         ensures after { self.new ≡ files_after_open self.old path.now }
     {
@@ -107,6 +111,7 @@ impl Library for MemoryLibrary {
         ensures reads { Reads result (map Some self.old.stored.unread) (map Some self.new.stored.unread) buf.new }
         ensures cause { ReadHasCause result self.old.plan.faults self.new.plan.faults }
         ensures later { self.old.plan.faults ≤ self.new.plan.faults }
+        ensures bounded { self.new.plan.faults ≤ 2 ^ 64 - 1 }
         ensures answer { result ≡ read_answer self.old (length buf.old) }
         ensures after { self.new ≡ files_after_read self.old (length buf.old) }
     {
@@ -123,6 +128,7 @@ impl Library for MemoryLibrary {
         ensures same { Some self.new.stored.told ≡ Some self.old.stored.told }
         ensures closes { Closes (map Some self.old.stored.unread) (map Some self.new.stored.unread) }
         ensures later { self.old.plan.faults ≤ self.new.plan.faults }
+        ensures bounded { self.new.plan.faults ≤ 2 ^ 64 - 1 }
         ensures after { self.new ≡ with_stored (after_close self.old.stored) self.old }
     {
         self.files.close();

@@ -1,5 +1,5 @@
 //! The sink in memory.
-ghost use Rattle.std.specs.Prelude.{◌≡◌, ◌≤◌, Some, IfOk, OnOk, OnErr};
+ghost use Rattle.std.specs.Prelude.{◌≡◌, ◌≤◌, ◌-◌, ◌^◌, Some, IfOk, OnOk, OnErr};
 ghost use Rattle.eo_io.specs.Calls.{with_piece, with_failing};
 ghost use Rattle.eo_io.specs.Sink.{Writes, WriteHasCause};
 ghost use Rattle.eo_io.specs.Memory.{first_written, written_by_plan, write_answer, after_write};
@@ -19,14 +19,14 @@ pub struct MemorySink {
 }
 
 impl Model for MemorySink {
-    ghost use Rattle.std.specs.Prelude.{◌≤◌, length, vec_capacity};
+    ghost use Rattle.std.specs.Prelude.{◌≤◌, ◌-◌, ◌^◌, length, vec_capacity};
     ghost use Rattle.eo_io.specs.Memory.{Written};
 
     ghost Value = { Written };
 
     ghost view = { λ a. record { bytes = a.bytes.items; room = a.room; plan = a.plan } };
 
-    ghost invariant = { λ a. (length a.bytes.items ≤ a.room) × (a.room ≤ vec_capacity a.bytes) };
+    ghost invariant = { λ a. (length a.bytes.items ≤ a.room) × (a.room ≤ vec_capacity a.bytes) × (a.plan.faults ≤ 2 ^ 64 - 1) };
 }
 
 impl MemorySink {
@@ -77,6 +77,7 @@ impl Sink for MemorySink {
         ensures writes { Writes result bytes.now (Some self.old.bytes) (Some self.new.bytes) }
         ensures cause { WriteHasCause result bytes.now self.old.plan.faults self.new.plan.faults }
         ensures later { self.old.plan.faults ≤ self.new.plan.faults }
+        ensures bounded { self.new.plan.faults ≤ 2 ^ 64 - 1 }
         ensures answer { result ≡ write_answer self.old bytes.now }
         ensures after { self.new ≡ after_write self.old bytes.now }
     {

@@ -25,14 +25,14 @@ pub struct DiskLibrary<R: Files + Drop> {
 }
 
 impl<R: Files + Drop> Model for DiskLibrary<R> {
-    ghost use Rattle.std.specs.Prelude.{◌≤◌, length, vec_capacity};
+    ghost use Rattle.std.specs.Prelude.{◌≤◌, ◌-◌, ◌^◌, length, vec_capacity};
     ghost use Rattle.eo_io.specs.Untold.{Untold};
 
     ghost Value = { Untold };
 
     ghost view = { λ a. record { opened = length a.opened.items; faults = a.faults } };
 
-    ghost invariant = { λ a. 18 ≤ vec_capacity a.opened };
+    ghost invariant = { λ a. (18 ≤ vec_capacity a.opened) × (a.faults ≤ 2 ^ 64 - 1) };
 }
 
 impl<R: Files + Drop> DiskLibrary<R> {
@@ -106,11 +106,13 @@ pub struct StdSink<P: Print + Drop> {
 }
 
 impl<P: Print + Drop> Model for StdSink<P> {
-    ghost use Rattle.std.specs.Prelude.{ℕ};
+    ghost use Rattle.std.specs.Prelude.{◌≤◌, ◌-◌, ◌^◌, ℕ};
 
     ghost Value = { ℕ };
 
     ghost view = { λ a. a.faults };
+
+    ghost invariant = { λ a. a.faults ≤ 2 ^ 64 - 1 };
 }
 
 impl<P: Print + Drop> StdSink<P> {

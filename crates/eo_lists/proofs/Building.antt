@@ -1,7 +1,6 @@
 -- Terms that spell lists, made from the back and from the front, and lists in two parts.
-use Rattle.std.proofs.Common.{◌≡◌, ℕ, zero, suc, ◌+◌, ◌<◌, ◌≤◌, true, List, [], ◌∷◌, ◌++◌, map, take, drop, fold, reverse, length, get_or, refl, sym, ap, ◌∙◌, All, arith}
+use Rattle.std.proofs.Common.{◌≡◌, ℕ, zero, suc, ◌+◌, ◌<◌, ◌≤◌, true, List, [], ◌∷◌, ◌++◌, map, drop, fold, reverse, length, get_or, refl, sym, ap, ◌∙◌, arith}
 use Rattle.std.proofs.lemmas.List.{at_drop_more, length-map}
-use Rattle.std.proofs.lemmas.List.Elements.{All-head, All-tail}
 use mathlib.Core.List.{reverse_aux}
 use Rattle.eo_base.proofs.Tests.{still_above}
 use Rattle.eo_base.specs.Limits.{height_limit}
@@ -63,10 +62,6 @@ pub spell_append : (f n : Tree) (xs ys : List Tree) → spell f (spell f n ys) x
 spell_append f n [] ys = refl
 spell_append f n (x ∷ xs) ys = ap (link f x) (spell_append f n xs ys)
 
-pub second_tall : (f n : Tree) (xs ys : List Tree) → is_tall (spell f n ys) ≡ true → is_tall (spell f n (xs ++ ys)) ≡ true
-second_tall f n [] ys e = e
-second_tall f n (x ∷ xs) ys e = tall_rest f x (spell f n (xs ++ ys)) (second_tall f n xs ys e)
-
 -- built from the front, the items stand in reverse
 fold_reverse_aux : (f n : Tree) (xs ys : List Tree) → fold (onto f) (spell f n ys) xs ≡ spell f n (reverse_aux xs ys)
 fold_reverse_aux f n [] ys = refl
@@ -74,12 +69,3 @@ fold_reverse_aux f n (x ∷ xs) ys = fold_reverse_aux f n xs (x ∷ ys)
 
 pub fold_reverse : (f n : Tree) (xs : List Tree) → fold (onto f) n xs ≡ spell f n (reverse xs)
 fold_reverse f n xs = fold_reverse_aux f n xs []
-
--- the first items have the trees that they had before the table grew
-pub front_grown : (ts us : List Tree) → ((i : ℕ) → i < length ts → tree_at us i ≡ tree_at ts i) → (p : ℕ) (is : List ℕ) → All (λ i. i < length ts) is → map (tree_at us) (take p is) ≡ map (tree_at ts) (take p is)
-front_grown ts us same zero is h = refl
-front_grown ts us same (suc p) [] h = refl
-front_grown ts us same (suc p) (i ∷ is) h =
-    let first = same i (All-head (λ (j : ℕ). j < length ts) i is h) in
-    let rest = front_grown ts us same p is (All-tail (λ (j : ℕ). j < length ts) i is h) in
-    λ k. first k ∷ rest k

@@ -1,7 +1,7 @@
 pub mod Building
 pub mod ById
-pub mod Erased
 pub mod Firsts
+mod Put
 pub mod Spell
 pub mod Values
 mod Vectors

@@ -22,7 +22,7 @@ not_terminator f n x xs e =
     let h = height_spell f n xs in
     omega arith
 
-of_terminator : (f : Tree) (n : Tree) → spelled f n n ≡ Some []
+pub of_terminator : (f : Tree) (n : Tree) → spelled f n n ≡ Some []
 of_terminator f (App (App g a) t) = ap (λ (b : Bool). if b then Some [] else (if tree_eq g f then option_map (λ items. a ∷ items) (spelled f (App (App g a) t) t) else None)) (tree_refl (App (App g a) t))
 of_terminator f n = ap none_or_empty (tree_refl n)
 

@@ -1,5 +1,5 @@
 -- What the parts of the program answer: terms taken apart and made, items by their ids, and counts of them.
-use Rattle.std.specs.Prelude.{◌≡◌, if◌then◌else◌, ℕ, suc, nat_eq, nat_le, ◌<◌, Bool, List, length, All, Option, Some, None}
+use Rattle.std.specs.Prelude.{◌≡◌, if◌then◌else◌, ℕ, suc, nat_eq, nat_le, ◌<◌, Bool, List, ◌++◌, length, All, Option, Some, None, option_map}
 use Rattle.std.specs.List.{list_all}
 use Rattle.std.specs.Map.{lookup}
 use Rattle.std.specs.Option.{option_map_or}
@@ -31,9 +31,9 @@ pub record IsSpelling (t : Terms) (s : Spelling) : Type 0 where
 abbrev pub spelled_in : Terms → Spelling → ℕ → Option (List Tree)
 spelled_in t s i = spelled (tree_in t s.fun) (tree_in t s.end) (tree_in t i)
 
--- what spells the items
-abbrev pub spell_in : Terms → Spelling → List ℕ → Tree
-spell_in t s is = spell (tree_in t s.fun) (tree_in t s.end) (trees_in t is)
+-- what spells the items and then those of the list that a term spells, if it spells one
+abbrev pub put_in : Terms → Spelling → List ℕ → ℕ → Option Tree
+put_in t s is i = option_map (λ ys. spell (tree_in t s.fun) (tree_in t s.end) (trees_in t is ++ ys)) (spelled_in t s i)
 
 -- the value of an operator, by its arguments after the constant
 abbrev pub by_operator_in : Terms → Spelling → OpName → List ℕ → Option Tree

@@ -27,7 +27,8 @@ use std::alloc::Global;
 ///
 /// `Tall`: the value would be too tall. `Memory`: want of memory. A refused call leaves the table as
 /// it was. The spine of a list is walked once, and the cost is that of a look-up by hash for each
-/// item.
+/// item that stands before a new rest: what spells the items behind an erased one, or a list before
+/// an empty one, is taken as it stands.
 pub fn list_op(
     alloc: Global,
     sig: &Signature,

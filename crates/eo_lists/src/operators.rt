@@ -1,5 +1,5 @@
 //! The operators on lists of one spelling.
-ghost use Rattle.std.specs.Prelude.{◌≡◌, ◌<◌, ◌+◌, [], ◌∷◌, length, pos, remove, All, Some};
+ghost use Rattle.std.specs.Prelude.{◌≡◌, ◌<◌, ◌+◌, [], ◌∷◌, length, pos, All, Some};
 ghost use Rattle.eo_term.specs.declared.OpName.TheVariants as name;
 ghost use Rattle.eo_term.specs.Terms.{Terms, arity};
 ghost use Rattle.eo_term.specs.Tree.{Tree, Num, truth};
@@ -7,12 +7,12 @@ ghost use Rattle.eo_term.specs.Growth.{Grows, IsTerm, tree_in, trees_in};
 ghost use Rattle.eo_term.specs.Builds.{Builds};
 ghost use Rattle.eo_lists.specs.Lists.{item_at};
 ghost use Rattle.eo_lists.specs.Outcomes.{IsListOperator, GivesList};
-ghost use Rattle.eo_lists.specs.Parts.{IsSpelling, GivesTree, by_operator_in, spell_in};
+ghost use Rattle.eo_lists.specs.Parts.{IsSpelling, GivesTree, by_operator_in, put_in};
 
 use crate::build::{build, build_reversed, put_before};
 use crate::items::{first_of_each, is_included, place_of};
-use crate::spelling::{Spelling, items, length_of};
-use eo_term::{FALSE, Id, Node, OpName, TRUE, Table, TermRefused, builds_law};
+use crate::spelling::{Spelling, items, length_of, unlink};
+use eo_term::{FALSE, Id, Ids, Node, OpName, TRUE, Table, TermRefused};
 use std::alloc::Global;
 
 /// The value of an operator, by its arguments after the constant.
@@ -73,7 +73,8 @@ fn list_len(table: &mut Table, form: &Spelling, list: Id) -> Result<Option<Id>, 
     count(table, length)
 }
 
-// The items of the first list before those of the second.
+// The items of the first list before those of the second. Where the second is empty, the first is the
+// value as it stands.
 fn list_concat(
     alloc: Global,
     table: &mut Table,
@@ -87,14 +88,13 @@ fn list_concat(
     ensures gives { GivesList table.new result (by_operator_in table.old form.now name.ListConcat (first ∷ second ∷ [])) }
     ensures grows { Grows table.old table.new }
 {
+    if table.is_same(second, form.end) {
+        return Ok(itself(table, form, first));
+    }
     let Some(found) = items(alloc, table, form, first)? else {
         return Ok(None);
     };
-    if length_of(table, form, second).is_none() {
-        return Ok(None);
-    }
-    let made = build(table, form.fun, second, found.as_slice());
-    answer(made)
+    put_items(table, form, found.as_slice(), second)
 }
 
 // The item at a place, the first being at 0.
@@ -160,7 +160,8 @@ fn list_rev(
     answer(made)
 }
 
-// The list without the first item that is this one.
+// The list without the first item that is this one. What spells the items behind it is taken as it
+// stands.
 fn list_erase(
     alloc: Global,
     table: &mut Table,
@@ -174,15 +175,19 @@ fn list_erase(
     ensures gives { GivesList table.new result (by_operator_in table.old form.now name.ListErase (list ∷ item ∷ [])) }
     ensures grows { Grows table.old table.new }
 {
-    table.laws();
-    let Some(found) = items(alloc, table, form, list)? else {
-        return Ok(None);
-    };
-    let Some(place) = place_of(found.as_slice(), item) else {
-        return Ok(Some(list));
-    };
-    let made = without(table, form, found.as_slice(), place);
-    answer(made)
+    let mut front = Ids::new(alloc);
+    let mut rest = list;
+    while !table.is_same(rest, form.end) {
+        let Some(link) = unlink(table, form.fun, rest) else {
+            return Ok(None);
+        };
+        if table.is_same(item, link.item) {
+            return put_items(table, form, front.as_slice(), link.rest);
+        }
+        front.push(link.item)?;
+        rest = link.rest;
+    }
+    Ok(Some(list))
 }
 
 // The first occurrence of each item.
@@ -231,22 +236,36 @@ fn list_minclude(
     Ok(Some(truth_value(table, holds)))
 }
 
-// The items without the one at a place.
-fn without(
+// The list itself, where the term spells one.
+fn itself(table: &Table, form: &Spelling, list: Id) -> Option<Id>
+    requires form { IsSpelling table.now form.now }
+    requires list { list < length table.now.trees }
+    ensures { GivesTree table.now result (put_in table.now form.now [] list) }
+{
+    if length_of(table, form, list).is_none() {
+        return None;
+    }
+    Some(list)
+}
+
+// The items before those of a list.
+fn put_items(
     table: &mut Table,
     form: &Spelling,
     items: &[Id],
-    place: usize,
-) -> Result<Id, TermRefused>
+    list: Id,
+) -> Result<Option<Id>, TermRefused>
     requires form { IsSpelling table.old form.now }
     requires items { All (λ i. i < length table.old.trees) items.now }
-    requires place { place < length items.now }
-    ensures gives { Builds table.new result (spell_in table.old form.now (remove items.now place)) }
+    requires list { list < length table.old.trees }
+    ensures gives { GivesList table.new result (put_in table.old form.now items.now list) }
     ensures grows { Grows table.old table.new }
 {
-    builds_law();
-    let rest = build(table, form.fun, form.end, &items[place + 1..])?;
-    build(table, form.fun, rest, &items[..place])
+    if length_of(table, form, list).is_none() {
+        return Ok(None);
+    }
+    let made = build(table, form.fun, list, items);
+    answer(made)
 }
 
 // The item at the place that the term tells.

@@ -17,8 +17,8 @@ pub(crate) struct Spelling {
 /// An item and the rest of the list.
 #[derive(Clone, Copy)]
 pub(crate) struct Link {
-    item: Id,
-    rest: Id,
+    pub(crate) item: Id,
+    pub(crate) rest: Id,
 }
 
 /// The terminator of a term that is a constant and has one.
@@ -80,8 +80,8 @@ pub(crate) fn length_of(table: &Table, form: &Spelling, list: Id) -> Option<usiz
     Some(count)
 }
 
-// The first item and the rest, where the constant stands before them.
-fn unlink(table: &Table, fun: Id, list: Id) -> Option<Link>
+/// The first item and the rest, where the constant stands before them.
+pub(crate) fn unlink(table: &Table, fun: Id, list: Id) -> Option<Link>
     requires fun { fun < length table.now.trees }
     requires list { list < length table.now.trees }
     ensures { Unlinks table.now fun list result }

@@ -33,44 +33,44 @@ no_fault_status (verdict.Loaded n) = (λ e. cc, λ e. cc, λ e. cc)
 no_fault_status (verdict.Refused r) = (λ e. cc, λ e. cc, λ e. cc)
 
 -- the line of a verdict
-pub verdict_ends : (s : Status) (v : verdict.Verdict) (w x : Option (List ℕ)) → WritesDue s (verdict_due v) w x → Ends s (verdict_due v) w x
-verdict_ends status.Ok v w x h = h
-verdict_ends status.Incomplete v w x h = h
-verdict_ends status.Refused v w x h = h
-verdict_ends status.Usage v w x h = h
-verdict_ends status.ReadFault v w x h = absurd ((no_fault_status v).0 (sym h.0))
-verdict_ends status.OutOfMemory v w x h = absurd ((no_fault_status v).1 (sym h.0))
-verdict_ends status.WriteFault v w x h = inl h
+pub verdict_ends : (F : Type 0) (s : Status) (v : verdict.Verdict) (w x : Option (List ℕ)) → WritesDue s (verdict_due v) w x → Ends F s (verdict_due v) w x
+verdict_ends F status.Ok v w x h = h
+verdict_ends F status.Incomplete v w x h = h
+verdict_ends F status.Refused v w x h = h
+verdict_ends F status.Usage v w x h = h
+verdict_ends F status.ReadFault v w x h = absurd ((no_fault_status v).0 (sym h.0))
+verdict_ends F status.OutOfMemory v w x h = absurd ((no_fault_status v).1 (sym h.0))
+verdict_ends F status.WriteFault v w x h = inl h
 
 -- the usage line
-pub usage_ends : (s : Status) (w x : Option (List ℕ)) → WritesDue s usage_due w x → Ends s usage_due w x
-usage_ends status.Ok w x h = h
-usage_ends status.Incomplete w x h = h
-usage_ends status.Refused w x h = h
-usage_ends status.Usage w x h = h
-usage_ends status.ReadFault w x h = cc
-usage_ends status.OutOfMemory w x h = cc
-usage_ends status.WriteFault w x h = inl h
+pub usage_ends : (F : Type 0) (s : Status) (w x : Option (List ℕ)) → WritesDue s usage_due w x → Ends F s usage_due w x
+usage_ends F status.Ok w x h = h
+usage_ends F status.Incomplete w x h = h
+usage_ends F status.Refused w x h = h
+usage_ends F status.Usage w x h = h
+usage_ends F status.ReadFault w x h = cc
+usage_ends F status.OutOfMemory w x h = cc
+usage_ends F status.WriteFault w x h = inl h
 
 -- the line for a fault of reading, whatever else was due
-pub read_fault_ends : (s : Status) (due : Due) (w x : Option (List ℕ)) → WritesDue s read_fault_due w x → Ends s due w x
-read_fault_ends status.Ok due w x h = cc
-read_fault_ends status.Incomplete due w x h = cc
-read_fault_ends status.Refused due w x h = cc
-read_fault_ends status.Usage due w x h = cc
-read_fault_ends status.OutOfMemory due w x h = cc
-read_fault_ends status.ReadFault due w x h = h.1
-read_fault_ends status.WriteFault due w x h = inr (inl h)
+pub read_fault_ends : (F : Type 0) (s : Status) (due : Due) (w x : Option (List ℕ)) → F → WritesDue s read_fault_due w x → Ends F s due w x
+read_fault_ends F status.Ok due w x failed h = cc
+read_fault_ends F status.Incomplete due w x failed h = cc
+read_fault_ends F status.Refused due w x failed h = cc
+read_fault_ends F status.Usage due w x failed h = cc
+read_fault_ends F status.OutOfMemory due w x failed h = cc
+read_fault_ends F status.ReadFault due w x failed h = (failed, h.1)
+read_fault_ends F status.WriteFault due w x failed h = inr (inl (failed, h))
 
 -- the line for want of memory, whatever else was due
-pub out_of_memory_ends : (s : Status) (due : Due) (w x : Option (List ℕ)) → WritesDue s out_of_memory_due w x → Ends s due w x
-out_of_memory_ends status.Ok due w x h = cc
-out_of_memory_ends status.Incomplete due w x h = cc
-out_of_memory_ends status.Refused due w x h = cc
-out_of_memory_ends status.Usage due w x h = cc
-out_of_memory_ends status.ReadFault due w x h = cc
-out_of_memory_ends status.OutOfMemory due w x h = h.1
-out_of_memory_ends status.WriteFault due w x h = inr (inr h)
+pub out_of_memory_ends : (F : Type 0) (s : Status) (due : Due) (w x : Option (List ℕ)) → WritesDue s out_of_memory_due w x → Ends F s due w x
+out_of_memory_ends F status.Ok due w x h = cc
+out_of_memory_ends F status.Incomplete due w x h = cc
+out_of_memory_ends F status.Refused due w x h = cc
+out_of_memory_ends F status.Usage due w x h = cc
+out_of_memory_ends F status.ReadFault due w x h = cc
+out_of_memory_ends F status.OutOfMemory due w x h = h.1
+out_of_memory_ends F status.WriteFault due w x h = inr (inr h)
 
 same_refusal : (paths : List (List ℕ)) (fault : Fault) (r : verdict.Refusal) → Denotes paths fault r → refusal_of paths fault ≡ r
 same_refusal paths fault r d =
@@ -79,30 +79,39 @@ same_refusal paths fault r d =
     ∙ ap (λ f. record { name = r.name; file = f; line = fault.place.line; offset = fault.place.offset }) file
     ∙ ap (λ l. record { name = r.name; file = r.file; line = l; offset = fault.place.offset }) d.line ∙ ap (λ o. record { name = r.name; file = r.file; line = r.line; offset = o }) d.offset
 
-of_verdict : (s : Status) (u v : verdict.Verdict) (w x : Option (List ℕ)) → v ≡ u → WritesDue s (verdict_due u) w x → Ends s (verdict_due v) w x
-of_verdict s u v w x e h = verdict_ends s v w x (subst (λ (u : verdict.Verdict). WritesDue s (verdict_due u) w x) (sym e) h)
+of_verdict : (F : Type 0) (s : Status) (u v : verdict.Verdict) (w x : Option (List ℕ)) → v ≡ u → WritesDue s (verdict_due u) w x → Ends F s (verdict_due v) w x
+of_verdict F s u v w x e h = verdict_ends F s v w x (subst (λ (u : verdict.Verdict). WritesDue s (verdict_due u) w x) (sym e) h)
+
+-- the line of a refusal
+refused_ends : (F : Type 0) (paths : List (List ℕ)) (fault : Fault) (v : verdict.Verdict) (s : Status) (w x : Option (List ℕ))
+    → Answers paths (answer.Refused fault) v → WritesDue s (answer_due paths (answer.Refused fault)) w x → Ends F s (verdict_due v) w x
+unfolding answer_due
+refused_ends F paths fault v s w x (r, e, d) h = of_verdict F s (verdict.Refused (refusal_of paths fault)) v w x (e ∙ ap (λ (r : verdict.Refusal). verdict.Refused r) (sym (same_refusal paths fault r d))) h
 
 -- the line of an answer to a check with this verdict
-pub answer_ends : (paths : List (List ℕ)) (a : Verdict) (v : verdict.Verdict) (s : Status) (w x : Option (List ℕ)) → Answers paths a v → WritesDue s (answer_due paths a) w x → Ends s (verdict_due v) w x
+pub answer_ends : {T : Type 0} (told : Option T) (before now : ℕ) (paths : List (List ℕ)) (a : Verdict) (v : verdict.Verdict) (s : Status) (w x : Option (List ℕ))
+    → Answers paths a v → AnswerHasCause a told before now → WritesDue s (answer_due paths a) w x → Ends (Rose before now) s (verdict_due v) w x
 unfolding answer_due
-answer_ends paths answer.Correct v s w x e h = of_verdict s verdict.Correct v w x e h
-answer_ends paths answer.Incomplete v s w x e h = of_verdict s verdict.Incomplete v w x e h
-answer_ends paths (answer.Loaded n) v s w x e h = of_verdict s (verdict.Loaded n) v w x e h
-answer_ends paths (answer.Refused fault) v s w x (r, e, d) h = of_verdict s (verdict.Refused (refusal_of paths fault)) v w x (e ∙ ap (λ (r : verdict.Refusal). verdict.Refused r) (sym (same_refusal paths fault r d))) h
-answer_ends paths answer.ReadFault v s w x e h = read_fault_ends s (verdict_due v) w x h
-answer_ends paths answer.OutOfMemory v s w x e h = out_of_memory_ends s (verdict_due v) w x h
+answer_ends told before now paths answer.Correct v s w x e c h = of_verdict (Rose before now) s verdict.Correct v w x e h
+answer_ends told before now paths answer.Incomplete v s w x e c h = of_verdict (Rose before now) s verdict.Incomplete v w x e h
+answer_ends told before now paths (answer.Loaded n) v s w x e c h = of_verdict (Rose before now) s (verdict.Loaded n) v w x e h
+answer_ends told before now paths (answer.Refused fault) v s w x e c h = refused_ends (Rose before now) paths fault v s w x e h
+answer_ends told before now paths answer.ReadFault v s w x e c h = read_fault_ends (Rose before now) s (verdict_due v) w x c h
+answer_ends told before now paths answer.OutOfMemory v s w x e c h = out_of_memory_ends (Rose before now) s (verdict_due v) w x h
 
 -- the line of the answer to a check, and to a load
-module _ (paths : List (List ℕ)) (a : Verdict) (s : Status) (w x : Option (List ℕ)) where
-  pub check_ends : (told : Option Files) (job : CheckJob) → AnswersJob told job paths a → WritesDue s (answer_due paths a) w x → EndsAs told s (Some (Check job)) w x
+module _ (paths : List (List ℕ)) (a : Verdict) (s : Status) (w x : Option (List ℕ)) (before now : ℕ) where
+  pub check_ends : (told : Option Files) (job : CheckJob) → AnswersJob told job paths a → AnswerHasCause a told before now → WritesDue s (answer_due paths a) w x
+      → EndsAs (Rose before now) told s (Some (Check job)) w x
   unfolding due
-  check_ends None job h writes = tt
-  check_ends (Some files) job h writes = answer_ends paths a (check_verdict files job) s w x h writes
+  check_ends None job h cause writes = tt
+  check_ends (Some files) job h cause writes = answer_ends (Some files) before now paths a (check_verdict files job) s w x h cause writes
 
-  pub load_ends : (told : Option Files) (file : List ℕ) → AnswersLoad told file paths a → WritesDue s (answer_due paths a) w x → EndsAs told s (Some (Load file)) w x
+  pub load_ends : (told : Option Files) (file : List ℕ) → AnswersLoad told file paths a → AnswerHasCause a told before now → WritesDue s (answer_due paths a) w x
+      → EndsAs (Rose before now) told s (Some (Load file)) w x
   unfolding due
-  load_ends None file h writes = tt
-  load_ends (Some files) file h writes = answer_ends paths a (load_verdict files file) s w x h writes
+  load_ends None file h cause writes = tt
+  load_ends (Some files) file h cause writes = answer_ends (Some files) before now paths a (load_verdict files file) s w x h cause writes
 
 -- ---- a bench
 
@@ -112,7 +121,7 @@ unfolding bench_due
 bench_is n v e = ap (judged_bench n) e
 
 -- the line of a correct one
-counts_ends : (s : Status) (n commands terms : ℕ) (w x : Option (List ℕ)) → WritesDue s (counts_due n commands terms) w x → Ends s (counts_due n commands terms) w x
+counts_ends : (s : Status) (n commands terms : ℕ) (w x : Option (List ℕ)) → WritesDue s (counts_due n commands terms) w x → Ends ⊥ s (counts_due n commands terms) w x
 unfolding counts_due
 counts_ends status.Ok n commands terms w x h = h
 counts_ends status.Incomplete n commands terms w x h = h
@@ -123,20 +132,20 @@ counts_ends status.OutOfMemory n commands terms w x h = cc
 counts_ends status.WriteFault n commands terms w x h = inl h
 
 module _ (n : ℕ) (paths : List (List ℕ)) (s : Status) (w x : Option (List ℕ)) where
-  ends_by : (v : verdict.Verdict) (d : Due) → check_verdict (bench_files n) bench_job ≡ v → judged_bench n v ≡ d → Ends s d w x → Ends s (bench_due n) w x
-  ends_by v d e is h = subst (λ (d : Due). Ends s d w x) (sym (bench_is n v e ∙ is)) h
+  ends_by : (v : verdict.Verdict) (d : Due) → check_verdict (bench_files n) bench_job ≡ v → judged_bench n v ≡ d → Ends ⊥ s d w x → Ends ⊥ s (bench_due n) w x
+  ends_by v d e is h = subst (λ (d : Due). Ends ⊥ s d w x) (sym (bench_is n v e ∙ is)) h
 
-  other_ends : (v : Verdict) → Answers paths v (check_verdict (bench_files n) bench_job) → IsOtherEnd paths v → WritesDue s (answer_due paths v) w x → Ends s (bench_due n) w x
+  other_ends : (v : Verdict) → Answers paths v (check_verdict (bench_files n) bench_job) → IsOtherEnd paths v → WritesDue s (answer_due paths v) w x → Ends ⊥ s (bench_due n) w x
   unfolding answer_due
   other_ends answer.Correct a other h = absurd other
-  other_ends answer.Incomplete a other h = ends_by verdict.Incomplete (verdict_due verdict.Incomplete) a refl (verdict_ends s verdict.Incomplete w x h)
+  other_ends answer.Incomplete a other h = ends_by verdict.Incomplete (verdict_due verdict.Incomplete) a refl (verdict_ends ⊥ s verdict.Incomplete w x h)
   other_ends (answer.Loaded commands) a other h = absurd other
-  other_ends (answer.Refused fault) a other h = ends_by (verdict.Refused a.0) (verdict_due (verdict.Refused a.0)) a.1 refl (answer_ends paths (answer.Refused fault) (verdict.Refused a.0) s w x (a.0, refl, a.2) h)
+  other_ends (answer.Refused fault) a other h = ends_by (verdict.Refused a.0) (verdict_due (verdict.Refused a.0)) a.1 refl (refused_ends ⊥ paths fault (verdict.Refused a.0) s w x (a.0, refl, a.2) h)
   other_ends answer.ReadFault a other h = absurd other
-  other_ends answer.OutOfMemory a other h = out_of_memory_ends s (bench_due n) w x h
+  other_ends answer.OutOfMemory a other h = out_of_memory_ends ⊥ s (bench_due n) w x h
 
   -- the line of the answer to a bench
-  pub bench_ends : (e : BenchEnd) → AnswersBench (bench_files n) bench_job paths e → WritesDue s (end_due n paths e) w x → Ends s (bench_due n) w x
+  pub bench_ends : (e : BenchEnd) → AnswersBench (bench_files n) bench_job paths e → WritesDue s (end_due n paths e) w x → Ends ⊥ s (bench_due n) w x
   unfolding end_due counts_due
   bench_ends (ends.Correct commands terms) a h =
       ends_by verdict.Correct (counts_due n commands terms) a.correct (counts_is commands terms a.accepted a.alive) (counts_ends s n commands terms w x h)
@@ -183,16 +192,28 @@ own_has_cause status.OutOfMemory before now sink_before sink_now reads written =
 own_has_cause status.WriteFault before now sink_before sink_now reads written = written refl
 own_has_cause status.ReadFault before now sink_before sink_now reads written = absurd (reads refl)
 
+-- where the library did not fail, it may be said that it failed only if F holds
+may_fail : (F : Type 0) (s : Status) (due : Due) (w x : Option (List ℕ)) → Ends ⊥ s due w x → Ends F s due w x
+may_fail F status.Ok due w x h = h
+may_fail F status.Incomplete due w x h = h
+may_fail F status.Refused due w x h = h
+may_fail F status.Usage due w x h = h
+may_fail F status.OutOfMemory due w x h = h
+may_fail F status.ReadFault due w x h = absurd h.0
+may_fail F status.WriteFault due w x (inl h) = inl h
+may_fail F status.WriteFault due w x (inr (inl h)) = absurd h.0
+may_fail F status.WriteFault due w x (inr (inr h)) = inr (inr h)
+
 -- what was written ends a bench, whatever the library tells
-pub bench_ends_as : (told : Option Files) (s : Status) (n : ℕ) (w x : Option (List ℕ)) → Ends s (bench_due n) w x → EndsAs told s (Some (Bench n)) w x
+pub bench_ends_as : (F : Type 0) (told : Option Files) (s : Status) (n : ℕ) (w x : Option (List ℕ)) → Ends ⊥ s (bench_due n) w x → EndsAs F told s (Some (Bench n)) w x
 unfolding due
-bench_ends_as None s n w x h = tt
-bench_ends_as (Some files) s n w x h = h
+bench_ends_as F None s n w x h = tt
+bench_ends_as F (Some files) s n w x h = may_fail F s (bench_due n) w x h
 
 -- ---- what needs no files
 
-pub own_ends : (s : Status) (w x : Option (List ℕ)) (reading other : Option Request) → reading ≡ other → Ends s (due [] reading) w x → Ends s (due [] other) w x
-own_ends s w x reading other e h = subst (λ (o : Option Request). Ends s (due [] o) w x) e h
+pub own_ends : (s : Status) (w x : Option (List ℕ)) (reading other : Option Request) → reading ≡ other → Ends ⊥ s (due [] reading) w x → Ends ⊥ s (due [] other) w x
+own_ends s w x reading other e h = subst (λ (o : Option Request). Ends ⊥ s (due [] o) w x) e h
 
 true_is_not_false : true ≡ false → ⊥
 true_is_not_false e = cc
@@ -205,16 +226,16 @@ wants_files asked reading e wants own = true_is_not_false (sym own ∙ sym (ap n
 pub asks_bench : (asked reading : Option Request) → asked ≡ reading → is_bench asked ≡ true → is_bench reading ≡ false → ⊥
 asks_bench asked reading e is other = true_is_not_false (sym is ∙ ap is_bench e ∙ other)
 
-pub own_usage : (s : Status) (w x : Option (List ℕ)) → WritesDue s usage_due w x → Ends s (due [] None) w x
+pub own_usage : (s : Status) (w x : Option (List ℕ)) → WritesDue s usage_due w x → Ends ⊥ s (due [] None) w x
 unfolding due
-own_usage s w x h = usage_ends s w x h
+own_usage s w x h = usage_ends ⊥ s w x h
 
-pub own_bench : (s : Status) (n : ℕ) (w x : Option (List ℕ)) → Ends s (bench_due n) w x → Ends s (due [] (Some (Bench n))) w x
+pub own_bench : (s : Status) (n : ℕ) (w x : Option (List ℕ)) → Ends ⊥ s (bench_due n) w x → Ends ⊥ s (due [] (Some (Bench n))) w x
 unfolding due
 own_bench s n w x h = h
 
-pub own_memory : (s : Status) (w x : Option (List ℕ)) (reading : Option Request) → WritesDue s out_of_memory_due w x → Ends s (due [] reading) w x
-own_memory s w x reading h = out_of_memory_ends s (due [] reading) w x h
+pub own_memory : (s : Status) (w x : Option (List ℕ)) (reading : Option Request) → WritesDue s out_of_memory_due w x → Ends ⊥ s (due [] reading) w x
+own_memory s w x reading h = out_of_memory_ends ⊥ s (due [] reading) w x h
 
 -- an answer other than a fault of reading has no such status
 read_fault_is : {F : Type 0} (told : Option F) (paths : List (List ℕ)) (a : Verdict) (before now : ℕ) → status.ReadFault ≡ (answer_due paths a).status → AnswerHasCause a told before now → Rose before now
@@ -256,21 +277,21 @@ no_usage paths a status.WriteFault w x h = λ e. cc
 no_usage paths a status.Usage w x h = λ _. no_usage_due paths a (sym h.0)
 
 -- the words have this reading
-pub reading_ends : (told : Option Files) (s : Status) (w x : Option (List ℕ)) (reading other : Option Request) → reading ≡ other
-    → EndsAs told s reading w x → EndsAs told s other w x
-reading_ends told s w x reading other e h = subst (λ (o : Option Request). EndsAs told s o w x) e h
+pub reading_ends : (F : Type 0) (told : Option Files) (s : Status) (w x : Option (List ℕ)) (reading other : Option Request) → reading ≡ other
+    → EndsAs F told s reading w x → EndsAs F told s other w x
+reading_ends F told s w x reading other e h = subst (λ (o : Option Request). EndsAs F told s o w x) e h
 
 -- no usage line is written where the words have a reading
 pub reads_ends : (s : Status) (request : Request) (reading : Option Request) → Some request ≡ reading → s ≢ status.Usage → UsageFits s reading
 reads_ends s request reading e never = record { only = λ q. absurd (never q); always = λ none. cc }
 
 -- the words have no reading
-pub no_reading_ends : (told : Option Files) (s : Status) (w x : Option (List ℕ)) → Ends s usage_due w x → EndsAs told s None w x
+pub no_reading_ends : (F : Type 0) (told : Option Files) (s : Status) (w x : Option (List ℕ)) → Ends F s usage_due w x → EndsAs F told s None w x
 unfolding due
-no_reading_ends None s w x h = tt
-no_reading_ends (Some files) s w x h = h
+no_reading_ends F None s w x h = tt
+no_reading_ends F (Some files) s w x h = h
 
-in_full : (s : Status) (due : Due) (w x : Option (List ℕ)) (l m k n : ℕ) → Ends s due w x → EndHasCause s l m k n → (Rose l m → ⊥) → (Rose k n → ⊥) → EndsInFull s due w x
+in_full : (s : Status) (due : Due) (w x : Option (List ℕ)) (l m k n : ℕ) → Ends (Rose l m) s due w x → EndHasCause s l m k n → (Rose l m → ⊥) → (Rose k n → ⊥) → EndsInFull s due w x
 in_full status.Ok due w x l m k n e c f g = e
 in_full status.Incomplete due w x l m k n e c f g = e
 in_full status.Refused due w x l m k n e c f g = e
@@ -280,6 +301,6 @@ in_full status.ReadFault due w x l m k n e c f g = absurd (f c)
 in_full status.WriteFault due w x l m k n e c f g = absurd (g c)
 
 -- what is due is written where nothing of the outside failed
-pub completes : (told : Option Files) (s : Status) (reading : Option Request) (w x : Option (List ℕ)) (l m k n : ℕ) → EndsAs told s reading w x → EndHasCause s l m k n → (Rose l m → ⊥) → Completes told s reading w x k n
+pub completes : (told : Option Files) (s : Status) (reading : Option Request) (w x : Option (List ℕ)) (l m k n : ℕ) → EndsAs (Rose l m) told s reading w x → EndHasCause s l m k n → (Rose l m → ⊥) → Completes told s reading w x k n
 completes None s reading w x l m k n e c f g = tt
 completes (Some files) s reading w x l m k n e c f g = in_full s (due files reading) w x l m k n e c f g

@@ -32,11 +32,11 @@ ok_correct : (files : Files) (job : CheckJob) → verdict_status (verdict files 
 unfolding verdict
 ok_correct files job e = correct_checked files job.proof (run_check files job) e
 
-module _ (law : (files : Files) (job : CheckJob) → verdict files job ≡ Correct → Refutes files job) where
-  told_refutes : (files : Files) (s : Status) (job : CheckJob) (w x : Option (List ℕ)) → Ends s (due files (Some (Check job))) w x → s ≡ status.Ok → Refutes files job
+module _ (F : Type 0) (law : (files : Files) (job : CheckJob) → verdict files job ≡ Correct → Refutes files job) where
+  told_refutes : (files : Files) (s : Status) (job : CheckJob) (w x : Option (List ℕ)) → Ends F s (due files (Some (Check job))) w x → s ≡ status.Ok → Refutes files job
   unfolding due
-  told_refutes files s job w x h ok = law files job (ok_correct files job (sym (subst (λ (s : Status). Ends s (verdict_due (verdict files job)) w x) ok h).0))
+  told_refutes files s job w x h ok = law files job (ok_correct files job (sym (subst (λ (s : Status). Ends F s (verdict_due (verdict files job)) w x) ok h).0))
 
-  pub ok_refutes : (told : Option Files) (s : Status) (reading : Option Request) (w x : Option (List ℕ)) → EndsAs told s reading w x → OkRefutes told s reading
+  pub ok_refutes : (told : Option Files) (s : Status) (reading : Option Request) (w x : Option (List ℕ)) → EndsAs F told s reading w x → OkRefutes told s reading
   ok_refutes None s reading w x h = λ job is ok. tt
-  ok_refutes (Some files) s reading w x h = λ job is ok. told_refutes files s job w x (subst (λ (r : Option Request). Ends s (due files r) w x) is h) ok
+  ok_refutes (Some files) s reading w x h = λ job is ok. told_refutes files s job w x (subst (λ (r : Option Request). Ends F s (due files r) w x) is h) ok

@@ -49,9 +49,9 @@ is_bench (Some (Check job)) = false
 is_bench (Some (Load file)) = false
 is_bench (Some (Bench n)) = true
 
--- The run ends as is due for the reading of its words, where files are told.
-abbrev pub EndsAs : Option Files → Status → Option Request → (before after : Option (List ℕ)) → Type 0
-EndsAs told s reading before after = IfSome told (λ files. Ends s (due files reading) before after)
+-- The run ends as is due for the reading of its words, where files are told. The library failed only if `failed` holds.
+abbrev pub EndsAs : (failed : Type 0) → Option Files → Status → Option Request → (before after : Option (List ℕ)) → Type 0
+EndsAs failed told s reading before after = IfSome told (λ files. Ends failed s (due files reading) before after)
 
 -- Where files are told and no call of the sink failed, all that is due is written, unless there is no memory left.
 abbrev pub Completes : Option Files → Status → Option Request → (before after : Option (List ℕ)) → (sink_before sink_now : ℕ) → Type 0

@@ -3,6 +3,7 @@ ghost use Rattle.std.specs.Prelude.{◌≡◌, ◌≢◌, ℕ, List, Option, [],
 ghost use Rattle.eo_base.specs.Causes.{Rose};
 ghost use Rattle.eo_base.specs.declared.Status.{Status as status};
 ghost use Rattle.eo_io.specs.Library.{Files};
+ghost use Rattle.eo_run.specs.Reading.{LibraryStays};
 ghost use Rattle.eo_main.specs.CommandLine.{request};
 ghost use Rattle.eo_main.specs.Ends.{Ends, EndHasCause, UsageFits, AbsentHasCause};
 ghost use Rattle.eo_main.specs.Program.{due, bench_due, needs_no_files, is_bench, EndsAs, OkRefutes, ClosedKeeps, Completes};
@@ -35,11 +36,14 @@ pub const OUT_OF_MEMORY: &[u8] = b"out of memory\n";
 ///   `correct` is written, `false` is derivable from what the reference file asserts, by rules that
 ///   are declared and not marked as unproved; with `--closed`, by none that the proof declares.
 /// - `Usage`: exactly where the words have no reading; the usage line is written.
-/// - `ReadFault`: only where the library's count of faults rose; `read fault` is written.
-/// - `WriteFault`: only where the sink's count of faults rose; a front of the line is written.
+/// - `ReadFault`: only where the library's count of faults rose; `read fault` is written. Words that
+///   need no file of the library never end so.
+/// - `WriteFault`: only where the sink's count of faults rose; a front of the line is written, which
+///   is that of `read fault` only where the library's count rose.
 /// - `OutOfMemory`: there was no memory left; `out of memory` is written.
 ///
-/// No file of the library is open.
+/// No file of the library is open, before or after, and it has the same files: so the program can be
+/// run again over it. `closed` is a law: it follows from the definitions, whatever the status.
 pub fn ethos_main<L: Library, W: Sink>(
     alloc: Global,
     words: &[Text],
@@ -47,15 +51,17 @@ pub fn ethos_main<L: Library, W: Sink>(
     out: &mut W,
 ) -> Status
     requires { L.open_files files.old ≡ [] }
-    ensures exact { EndsAs (L.told files.old) result (request words.now) (W.written out.old) (W.written out.new) }
+    ensures exact { EndsAs (Rose (L.faults files.old) (L.faults files.new)) (L.told files.old) result (request words.now)
+        (W.written out.old) (W.written out.new) }
     ensures refutes { OkRefutes (L.told files.old) result (request words.now) }
     ensures closed { ClosedKeeps (L.told files.old) (request words.now) }
-    ensures own { needs_no_files (request words.now) ≡ true → Ends result (due [] (request words.now))
+    ensures own { needs_no_files (request words.now) ≡ true → Ends ⊥ result (due [] (request words.now))
         (W.written out.old) (W.written out.new) }
     ensures cause { EndHasCause result (L.faults files.old) (L.faults files.new) (W.faults out.old) (W.faults out.new) }
     ensures usage { UsageFits result (request words.now) }
     ensures absent { is_bench (request words.now) ≡ false →
         AbsentHasCause (L.told files.old) (W.written out.old) (W.written out.new) (L.faults files.old) (L.faults files.new) }
+    ensures stays { LibraryStays L.told L.open_files L.faults files.old files.new }
 {
     soundness_law();
     match read_words(alloc, words) {
@@ -72,7 +78,7 @@ pub fn ethos_main<L: Library, W: Sink>(
 /// costs nothing: it tells a proof this.
 pub fn completeness_law()
     ensures { (told : Option Files) (s : status) (r : Option reading) (before after : Option (List ℕ)) (l m k n : ℕ) →
-        EndsAs told s r before after → EndHasCause s l m k n → (Rose l m → ⊥) → Completes told s r before after k n }
+        EndsAs (Rose l m) told s r before after → EndHasCause s l m k n → (Rose l m → ⊥) → Completes told s r before after k n }
 {}
 
 /// Runs the program, as `ethos_main` does, over files in memory of which no call fails. It never
@@ -85,7 +91,7 @@ pub fn run_in_memory<W: Sink>(
     out: &mut W,
 ) -> Status
     requires { ⟦<HonestLibrary as Library>⟧.open_files files.old ≡ [] }
-    ensures exact { EndsAs (⟦<HonestLibrary as Library>⟧.told files.old) result (request words.now)
+    ensures exact { EndsAs ⊥ (⟦<HonestLibrary as Library>⟧.told files.old) result (request words.now)
         (W.written out.old) (W.written out.new) }
     ensures refutes { OkRefutes (⟦<HonestLibrary as Library>⟧.told files.old) result (request words.now) }
     ensures complete { Completes (⟦<HonestLibrary as Library>⟧.told files.old) result (request words.now)
@@ -99,10 +105,12 @@ pub fn run_in_memory<W: Sink>(
 /// Checks the files of a job, and prints the verdict.
 fn check<L: Library, W: Sink>(alloc: Global, job: &CheckJob, files: &mut L, out: &mut W) -> Status
     requires { L.open_files files.old ≡ [] }
-    ensures exact { EndsAs (L.told files.old) result (Some (Request.Check job.now)) (W.written out.old) (W.written out.new) }
+    ensures exact { EndsAs (Rose (L.faults files.old) (L.faults files.new)) (L.told files.old) result (Some (Request.Check job.now))
+        (W.written out.old) (W.written out.new) }
     ensures cause { EndHasCause result (L.faults files.old) (L.faults files.new) (W.faults out.old) (W.faults out.new) }
     ensures usage { result ≢ Status.Usage }
     ensures absent { AbsentHasCause (L.told files.old) (W.written out.old) (W.written out.new) (L.faults files.old) (L.faults files.new) }
+    ensures stays { LibraryStays L.told L.open_files L.faults files.old files.new }
 {
     let mut paths = Paths::new(alloc);
     let verdict = check_files(alloc, job, files, &mut paths);
@@ -112,10 +120,12 @@ fn check<L: Library, W: Sink>(alloc: Global, job: &CheckJob, files: &mut L, out:
 /// Runs a signature file, and prints the verdict.
 fn load<L: Library, W: Sink>(alloc: Global, file: &Text, files: &mut L, out: &mut W) -> Status
     requires { L.open_files files.old ≡ [] }
-    ensures exact { EndsAs (L.told files.old) result (Some (Request.Load file.now)) (W.written out.old) (W.written out.new) }
+    ensures exact { EndsAs (Rose (L.faults files.old) (L.faults files.new)) (L.told files.old) result (Some (Request.Load file.now))
+        (W.written out.old) (W.written out.new) }
     ensures cause { EndHasCause result (L.faults files.old) (L.faults files.new) (W.faults out.old) (W.faults out.new) }
     ensures usage { result ≢ Status.Usage }
     ensures absent { AbsentHasCause (L.told files.old) (W.written out.old) (W.written out.new) (L.faults files.old) (L.faults files.new) }
+    ensures stays { LibraryStays L.told L.open_files L.faults files.old files.new }
 {
     let mut paths = Paths::new(alloc);
     let verdict = load_files(alloc, file, files, &mut paths);
@@ -124,7 +134,7 @@ fn load<L: Library, W: Sink>(alloc: Global, file: &Text, files: &mut L, out: &mu
 
 /// Runs the bench with so many hops, and prints its line.
 fn run_bench<W: Sink>(alloc: Global, n: u32, out: &mut W) -> Status
-    ensures exact { Ends result (bench_due n) (W.written out.old) (W.written out.new) }
+    ensures exact { Ends ⊥ result (bench_due n) (W.written out.old) (W.written out.new) }
     ensures no_read_fault { result ≢ Status.ReadFault }
     ensures cause { result ≡ Status.WriteFault → Rose (W.faults out.old) (W.faults out.new) }
     ensures usage { result ≢ Status.Usage }

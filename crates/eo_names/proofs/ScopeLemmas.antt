@@ -1,37 +1,19 @@
--- The names that a `let` or a binder binds, before those around it.
-use Rattle.std.proofs.Common.{◌≡◌, ℕ, ◌<◌, Bool, true, false, cond, List, [], ◌∷◌, ◌++◌, map, Option, None, Some, refl, ap}
+-- The names that a `let` and a binder bind, before those around them.
+use Rattle.std.proofs.Common.{◌≡◌, ℕ, ◌<◌, Bool, true, false, cond, ◌+◌, ◌-◌, List, [], ◌∷◌, ◌++◌, map, Option, None, Some, refl, ap, ◌∙◌}
 use Rattle.std.specs.Prelude.{option_map}
 use Rattle.std.specs.List.{find}
 use Rattle.std.specs.Option.{option_or}
 use Rattle.std.specs.Str.{bytes_eq}
+use Rattle.std.proofs.lemmas.List.{append_assoc}
 use Rattle.std.proofs.lemmas.List.Elements.{All-head, All-tail, All-nil, All-cons}
 use Rattle.eo_term.specs.Tree.{Tree, Con, Num, Bits, Str, Par, Var, App, Arr, Qar, Op}
 use Rattle.eo_names.specs.declared.locals.LocalName.{LocalName}
 use Rattle.eo_names.specs.Contexts.{Local, local_named, is_list}
-use Rattle.eo_names.specs.Names.{Binding, binding_local, read_local, read_locals, read_bindings, AreBelow, BindingsBelow}
+use Rattle.eo_names.specs.Names.{Binding, binding_local, read_local, read_locals, AreBelow, bound_by}
 
 module _ (ls : List LocalName) where
   abbrev pub inside : List Binding → List LocalName
   inside bs = map binding_local bs ++ ls
-
-  pub named_inside : (ts : List Tree) (name : List ℕ) (bs : List Binding) → local_named (read_locals ts (inside bs)) name ≡ option_or (local_named (read_bindings ts bs) name) (local_named (read_locals ts ls) name)
-  named_inside ts name [] = refl
-  named_inside ts name (b ∷ bs) = by (bytes_eq b.0 name) (named_inside ts name bs)
-    where
-      by : (t : Bool) → local_named (read_locals ts (inside bs)) name ≡ option_or (local_named (read_bindings ts bs) name) (local_named (read_locals ts ls) name)
-          → option_map (λ (l : Local). l.tree) (cond t (Some (read_local ts (binding_local b))) (find (λ (l : Local). bytes_eq l.name name) (read_locals ts (inside bs))))
-          ≡ option_or (option_map (λ (l : Local). l.tree) (cond t (Some (read_local ts (binding_local b))) (find (λ (l : Local). bytes_eq l.name name) (read_bindings ts bs)))) (local_named (read_locals ts ls) name)
-      by true h = refl
-      by false h = h
-
-  pub bindings_below : (n : ℕ) (bs : List Binding) → AreBelow n (inside bs) → BindingsBelow n bs
-  bindings_below n [] h = All-nil (λ (b : Binding). b.1 < n)
-  bindings_below n (b ∷ bs) h =
-      All-cons (λ (c : Binding). c.1 < n) b bs (All-head (λ (l : LocalName). l.id < n) (binding_local b) (inside bs) h) (bindings_below n bs (All-tail (λ (l : LocalName). l.id < n) (binding_local b) (inside bs) h))
-
-  pub around_below : (n : ℕ) (bs : List Binding) → AreBelow n (inside bs) → AreBelow n ls
-  around_below n [] h = h
-  around_below n (b ∷ bs) h = around_below n bs (All-tail (λ (l : LocalName). l.id < n) (binding_local b) (inside bs) h)
 
   -- none of them stands for a list
   pub list_inside : (ts : List Tree) (t : Tree) (bs : List Binding) → is_list (read_locals ts (inside bs)) t ≡ is_list (read_locals ts ls) t
@@ -52,3 +34,26 @@ first_some x o p e = ap (λ q. option_or q p) e
 
 pub second_some : {A : Type 0} (o p : Option A) → None ≡ o → p ≡ option_or o p
 second_some o p e = ap (λ q. option_or q p) e
+
+pub named_within : (ls : List LocalName) (ts : List Tree) (name : List ℕ) (xs : List LocalName) → local_named (read_locals ts (xs ++ ls)) name ≡ option_or (local_named (read_locals ts xs) name) (local_named (read_locals ts ls) name)
+named_within ls ts name [] = refl
+named_within ls ts name (x ∷ xs) = by (bytes_eq x.name name) (named_within ls ts name xs)
+  where
+    by : (t : Bool) → local_named (read_locals ts (xs ++ ls)) name ≡ option_or (local_named (read_locals ts xs) name) (local_named (read_locals ts ls) name)
+        → option_map (λ (l : Local). l.tree) (cond t (Some (read_local ts x)) (find (λ (l : Local). bytes_eq l.name name) (read_locals ts (xs ++ ls))))
+        ≡ option_or (option_map (λ (l : Local). l.tree) (cond t (Some (read_local ts x)) (find (λ (l : Local). bytes_eq l.name name) (read_locals ts xs)))) (local_named (read_locals ts ls) name)
+    by true h = refl
+    by false h = h
+
+pub within_below : (n : ℕ) (xs ls : List LocalName) → AreBelow n (xs ++ ls) → AreBelow n xs
+within_below n [] ls h = All-nil (λ (l : LocalName). l.id < n)
+within_below n (x ∷ xs) ls h = All-cons (λ (l : LocalName). l.id < n) x xs (All-head (λ (l : LocalName). l.id < n) x (xs ++ ls) h) (within_below n xs ls (All-tail (λ (l : LocalName). l.id < n) x (xs ++ ls) h))
+
+pub outside_below : (n : ℕ) (xs ls : List LocalName) → AreBelow n (xs ++ ls) → AreBelow n ls
+outside_below n [] ls h = h
+outside_below n (x ∷ xs) ls h = outside_below n xs ls (All-tail (λ (l : LocalName). l.id < n) x (xs ++ ls) h)
+
+pub list_within : (ls : List LocalName) (ts : List Tree) (t : Tree) (blocks : List (List Binding)) → is_list (read_locals ts (bound_by blocks ++ ls)) t ≡ is_list (read_locals ts ls) t
+list_within ls ts t [] = refl
+list_within ls ts t (b ∷ blocks) =
+    ap (λ xs. is_list (read_locals ts xs) t) (append_assoc (map binding_local b) (bound_by blocks) ls) ∙ list_inside (bound_by blocks ++ ls) ts t b ∙ list_within ls ts t blocks

@@ -1,5 +1,5 @@
 -- What calls answer, against the definitions: terms of a table, or the fault.
-use Rattle.std.specs.Prelude.{◌≡◌, ℕ, suc, ◌<◌, List, [], length, Result, Ok, Err, ◌++◌}
+use Rattle.std.specs.Prelude.{◌≡◌, ℕ, suc, ◌-◌, ◌<◌, List, [], length, Result, Ok, Err, ◌++◌}
 use Rattle.std.specs.List.{list_any}
 use Rattle.eo_base.specs.Answers.{Gives, Tells}
 use Rattle.eo_base.specs.Checks.{Checked}
@@ -13,6 +13,7 @@ use Rattle.eo_names.specs.declared.folding.Turn.{Turn}
 use Rattle.eo_names.specs.declared.refused.ElabRefused.{ElabRefused}
 use Rattle.eo_names.specs.declared.scope.Scope.{Scope}
 use Rattle.eo_names.specs.Refused.{told}
+use Rattle.eo_names.specs.Grouped.{if_low}
 use Rattle.eo_names.specs.Turns.{after, TurnBelow, is_tall_turn}
 use Rattle.eo_names.specs.Worlds.{World, Read, turns_in, turned_in, grouped_in, joined_in, attributed_in}
 
@@ -51,3 +52,12 @@ pub record IsTurn (w : World) (t : Terms) (k : ℕ) (us : List Tree) (turn : Tur
 abbrev pub GivesTurn : World → Terms → Result Turn ElabRefused → ℕ → List Tree → Type 0
 GivesTurn w t (Ok turn) k us = IsTurn w t k us turn
 GivesTurn w t (Err e) k us = (turns : ℕ) → Tells told e (turned_in w (suc turns) k us)
+
+-- what a constant makes of arguments where so many turns are left, before the turns that follow
+pub record IsTakenTurn (w : World) (t : Terms) (left k : ℕ) (us : List Tree) (turn : Turn) : Type 0 where
+  pub live : TurnBelow (length t.trees) turn
+  pub is : if_low (turns_in w left k us) ≡ if_low (after (turns_in w (left - 1)) t.trees turn)
+
+abbrev pub TakesTurn : World → Terms → ℕ → Result Turn ElabRefused → ℕ → List Tree → Type 0
+TakesTurn w t left (Ok turn) k us = IsTakenTurn w t left k us turn
+TakesTurn w t left (Err e) k us = Tells told e (turned_in w left k us)

@@ -5,6 +5,7 @@ pub mod Meanings
 pub mod Binders
 pub mod Refused
 pub mod Names
+pub mod Innermost
 pub mod Scopes
 pub mod Ready
 pub mod Symbols

@@ -27,9 +27,6 @@ Binding = List ℕ × ℕ
 abbrev pub binding_local : Binding → LocalName
 binding_local b = local b.0 b.1 false
 
-abbrev pub read_bindings : List Tree → List Binding → List Local
-read_bindings ts bs = map (λ b. read_local ts (binding_local b)) bs
-
 abbrev pub BindingsBelow : ℕ → List Binding → Type 0
 BindingsBelow n bs = All (λ (b : Binding). b.1 < n) bs
 
@@ -56,3 +53,8 @@ abbrev pub with_terms : List Binding → List ℕ → List Binding
 with_terms [] is = []
 with_terms (b ∷ bs) [] = b ∷ bs
 with_terms (b ∷ bs) (i ∷ is) = (b.0, i) ∷ with_terms bs is
+
+-- what these bind, the innermost first
+abbrev pub bound_by : List (List Binding) → List LocalName
+bound_by [] = []
+bound_by (bs ∷ blocks) = map binding_local bs ++ bound_by blocks

@@ -21,3 +21,8 @@ TurnBelow n (turn.Joined g items) = All (λ i. i < n) items
 abbrev pub is_tall_turn : Tree → Option (ℕ × List Tree) → Bool
 is_tall_turn t None = is_tall t
 is_tall_turn t (Some items) = list_any is_tall items.1
+
+-- whether terms are still to be joined, as a number
+abbrev pub joins : Turn → ℕ
+joins (turn.Made i) = 0
+joins (turn.Joined g items) = 1

@@ -1,12 +1,14 @@
 //! A constant folded over its arguments.
-ghost use Rattle.std.specs.Prelude.{suc, ◌<◌, ◌≤◌, length, All};
+ghost use Rattle.std.specs.Prelude.{suc, ◌<◌, ◌≤◌, length, All, IfOk};
 ghost use Rattle.eo_sig.specs.Reading.{AttributeBelow};
 ghost use Rattle.eo_names.specs.Names.{AreBelow};
 ghost use Rattle.eo_names.specs.Scopes.{bound_in};
 ghost use Rattle.eo_names.specs.Ready.{IsReady};
 ghost use Rattle.eo_term.specs.Growth.{trees_in, Grows};
-ghost use Rattle.eo_names.specs.Gives.{GivesTree, GivesTurn, BuildsTurn};
-ghost use Rattle.eo_names.specs.Worlds.{world, folded_in, turned_in};
+ghost use Rattle.eo_names.specs.Gives.{GivesTree, GivesTurn, TakesTurn, BuildsTurn};
+ghost use Rattle.eo_names.specs.Worlds.{world, folded_in, turns_in, turned_in};
+ghost use Rattle.eo_names.specs.Grouped.{if_low};
+ghost use Rattle.eo_names.specs.Turns.{after, TurnBelow, joins};
 
 use crate::ElabRefused;
 use crate::attributes::{attribute_of, group, least_count};
@@ -49,7 +51,6 @@ pub(crate) fn fold_constant(
 
 // The same, where the constants that join what it is applied to follow one another at most so
 // often.
-#[cycle(folds)]
 fn fold_within(
     alloc: Global,
     turns: usize,
@@ -65,40 +66,62 @@ fn fold_within(
     ensures grows { Grows table.old table.new }
 {
     names_law();
-    let turn = turn_of(alloc, k, args, scope, sig, table)?;
-    match &turn {
-        Turn::Made(made) => {
-            prove!(table.height(*made) <= HEIGHT_LIMIT);
-            Ok(*made)
-        }
-        Turn::Joined { by, items } => {
-            join(alloc, turns, *by, items.as_slice(), scope, sig, table)
-        }
-    }
+    let first = turn_of(alloc, k, args, scope, sig, table)?;
+    take_turns(alloc, turns, first, scope, sig, table)
 }
 
-// What was made for a constant that is joined by another, joined by it.
-#[cycle(folds)]
-fn join(
+// What becomes of it in so many more turns.
+fn take_turns(
     alloc: Global,
     turns: usize,
-    k: usize,
-    items: &[Id],
+    first: Turn,
     scope: &Scope<'_>,
     sig: &SignatureView<'_>,
     table: &mut Table,
 ) -> Result<Id, ElabRefused>
     requires ready { IsReady (length table.old.trees) sig.now (bound_in scope.now) }
-    requires items { All (λ a. a < length table.old.trees) items.now }
-    ensures gives { GivesTree table.new result (turned_in (world table.old sig.now scope.now) turns k (trees_in table.old items.now)) }
+    requires first { TurnBelow (length table.old.trees) first }
+    ensures gives { GivesTree table.new result (if_low (after (turns_in (world table.old sig.now scope.now) turns) table.old.trees first)) }
     ensures grows { Grows table.old table.new }
 {
-    if turns > 0 {
-        return fold_within(alloc, turns - 1, k, items, scope, sig, table);
+    names_law();
+    let mut turn = first;
+    let mut left = turns;
+    loop {
+        match turn {
+            Turn::Made(made) => {
+                prove!(table.height(made) <= HEIGHT_LIMIT);
+                return Ok(made);
+            }
+            Turn::Joined { by, items } => {
+                turn = next_turn(alloc, left, by, items.as_slice(), scope, sig, table)?;
+                left = left.saturating_sub(1);
+            }
+        }
     }
-    let made = apply_constant(table, k, items)?;
-    prove!(table.height(made) <= HEIGHT_LIMIT);
-    Ok(made)
+}
+
+// What the constant makes of its arguments, where so many turns are left.
+fn next_turn(
+    alloc: Global,
+    left: usize,
+    k: usize,
+    items: &[Id],
+    scope: &Scope<'_>,
+    sig: &SignatureView<'_>,
+    table: &mut Table,
+) -> Result<Turn, ElabRefused>
+    requires ready { IsReady (length table.old.trees) sig.now (bound_in scope.now) }
+    requires items { All (λ a. a < length table.old.trees) items.now }
+    ensures gives { TakesTurn (world table.old sig.now scope.now) table.new left result k (trees_in table.old items.now) }
+    ensures less { IfOk result (λ t. joins t ≤ left) }
+    ensures grows { Grows table.old table.new }
+{
+    if left == 0 {
+        let made = apply_constant(table, k, items)?;
+        return Ok(Turn::Made(made));
+    }
+    turn_of(alloc, k, items, scope, sig, table)
 }
 
 // What the constant makes of its arguments.

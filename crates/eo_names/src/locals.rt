@@ -6,8 +6,8 @@ ghost use Rattle.std.specs.List.{list_any};
 ghost use Rattle.eo_term.specs.Tree.{Tree, tree_eq};
 ghost use Rattle.eo_term.specs.Terms.{tree_at};
 ghost use Rattle.eo_names.specs.Contexts.{local_named, is_list};
-ghost use Rattle.eo_names.specs.Names.{local, read_locals, AreBelow, BindingsBelow, names_in, with_term, with_terms, ReadsOneMore};
-ghost use Rattle.eo_names.specs.Names.{read_bindings, read_pairs};
+ghost use Rattle.eo_names.specs.Names.{local, read_locals, AreBelow, names_in, with_term, with_terms, ReadsOneMore};
+ghost use Rattle.eo_names.specs.Names.{read_pairs};
 
 use eo_base::{Name, NameRef};
 use eo_term::{Id, Ids, Node, Table};
@@ -157,14 +157,6 @@ impl Bindings {
         ensures read { (ts : List Tree) → result ≡ list_any (λ p. bytes_eq p.0 name.now) (read_pairs ts self.now) }
     {
         self.names.contains_key(NameRef(name))
-    }
-
-    /// The term that the name stands for, if it is bound.
-    pub fn find(&self, name: &[u8]) -> Option<Id>
-        ensures value { (ts : List Tree) → option_map (tree_at ts) result ≡ local_named (read_bindings ts self.now) name.now }
-        ensures live { (n : ℕ) → BindingsBelow n self.now → IfSome result (λ i. i < n) }
-    {
-        self.names.get(NameRef(name)).copied()
     }
 
     /// The terms, in the order in which their names were bound. `Err` is want of memory.

@@ -7,7 +7,7 @@ ghost use Rattle.eo_names.specs.Names.{read_locals, AreBelow};
 ghost use Rattle.eo_names.specs.Scopes.{bound_in, read_setting, setting_in};
 
 use crate::Locals;
-use crate::locals::Bindings;
+use crate::inside::Blocks;
 use eo_term::{Id, Table};
 
 /// Which kind of file a term stands in.
@@ -23,13 +23,13 @@ pub enum Setting {
 
 /// Where a term stands: the kind of file, and the names that are local there, which are those that
 /// it was given, and before them what each `let` and each binder around it binds. Finding a name
-/// takes a look-up by hash for each of these.
+/// takes one look-up by hash for all of these, and then a look through those that were given.
 #[derive(Clone, Copy)]
 pub enum Scope<'a> {
     /// The names that were given, and the kind of file.
     Outer(&'a Locals, Setting),
-    /// What a `let` or a binder binds, before the names around it.
-    Inner(&'a Bindings, &'a Scope<'a>),
+    /// What each `let` and each binder around it binds, before the names around all of them.
+    Within(&'a Blocks, &'a Scope<'a>),
 }
 
 impl Scope<'_> {
@@ -39,7 +39,7 @@ impl Scope<'_> {
     {
         match self {
             Scope::Outer(_, setting) => *setting,
-            Scope::Inner(_, around) => around.setting(),
+            Scope::Within(_, around) => around.setting(),
         }
     }
 
@@ -50,7 +50,7 @@ impl Scope<'_> {
     {
         match self {
             Scope::Outer(locals, _) => locals.find(name),
-            Scope::Inner(bindings, around) => match bindings.find(name) {
+            Scope::Within(blocks, around) => match blocks.find(name) {
                 Some(id) => Some(id),
                 None => around.find(name),
             },
@@ -65,7 +65,7 @@ impl Scope<'_> {
     {
         match self {
             Scope::Outer(locals, _) => locals.is_list(table, id),
-            Scope::Inner(_, around) => around.is_list(table, id),
+            Scope::Within(_, around) => around.is_list(table, id),
         }
     }
 }

@@ -1,10 +1,11 @@
 -- What is left to match of two terms with the same root.
-use Rattle.std.specs.Prelude.{◌≡◌, ℕ, ◌<◌, ◌||◌, false, List, [], ◌∷◌, length, is_some, refl}
-use Rattle.std.proofs.Common.{sym, ap, ap₂, ◌∙◌, subst}
+use Rattle.std.specs.Prelude.{◌≡◌, ℕ, ◌+◌, ◌<◌, ◌||◌, false, max, List, [], ◌∷◌, length, is_some, refl}
+use Rattle.std.proofs.Common.{sym, ap, ap₂, ◌∙◌, subst, arith}
+use Rattle.eo_pattern.specs.Sizes.{size}
 use Rattle.std.proofs.Math.Bool.{or_assoc}
 use Rattle.eo_base.proofs.Tests.{or_first, or_second}
 use Rattle.eo_term.specs.Terms.{tree_at}
-use Rattle.eo_term.specs.Tree.{Tree, Var, App, Arr, Qar, occurs}
+use Rattle.eo_term.specs.Tree.{Tree, Var, App, Arr, Qar, occurs, height}
 use Rattle.eo_pattern.specs.Matching.{Assignment, put, Matches}
 use Rattle.eo_pattern.specs.Slots.{Leads}
 use Rattle.eo_pattern.specs.Split.{IsOne, IsTwo}
@@ -18,7 +19,8 @@ var_leads σ s a b = record {
 
 pub var_split : (ts : List Tree) (k j p t : ℕ) (s r : List ℕ) → Var s (tree_at ts p) ≡ tree_at ts k → Var r (tree_at ts t) ≡ tree_at ts j → s ≡ r → p < k → t < length ts → IsOne ts k j p t
 var_split ts k j p t s r e g h l m = record {
-  part = record { older = l; pars = λ i o. ap (occurs i) (sym e) ∙ o };
+  smaller = let n : size (tree_at ts k) ≡ 1 + size (tree_at ts p) = ap size (sym e) in omega (arith, n);
+  part = record { older = l; lower = let n : height (tree_at ts k) ≡ 1 + height (tree_at ts p) = ap height (sym e) in omega (arith, n); pars = λ i o. ap (occurs i) (sym e) ∙ o };
   term = m;
   leads = λ σ. whole σ;
 }
@@ -40,7 +42,7 @@ var_differ σ τ x y a b s r e g n m =
     n name
 
 -- a root with two parts, by what makes its tree of theirs
-module _ (c : Tree → Tree → Tree) (puts : (ρ : Assignment) (a b : Tree) → put ρ (c a b) ≡ c (put ρ a) (put ρ b)) (named : (i : ℕ) (a b : Tree) → occurs i (c a b) ≡ (occurs i a || occurs i b)) (apart : (a b d e : Tree) → c a b ≡ c d e → (a ≡ d) × (b ≡ e)) where
+module _ (c : Tree → Tree → Tree) (puts : (ρ : Assignment) (a b : Tree) → put ρ (c a b) ≡ c (put ρ a) (put ρ b)) (named : (i : ℕ) (a b : Tree) → occurs i (c a b) ≡ (occurs i a || occurs i b)) (apart : (a b d e : Tree) → c a b ≡ c d e → (a ≡ d) × (b ≡ e)) (tall : (a b : Tree) → height (c a b) ≡ 1 + max (height a) (height b)) (large : (a b : Tree) → size (c a b) ≡ 1 + (size a + size b)) where
   two_leads : (σ : Assignment) (a b d e : Tree) → Leads σ (c a b ∷ []) (c d e ∷ []) σ (a ∷ b ∷ []) (d ∷ e ∷ [])
   two_leads σ a b d e = record {
     fwd = λ ρ m. record {
@@ -68,8 +70,9 @@ module _ (c : Tree → Tree → Tree) (puts : (ρ : Assignment) (a b : Tree) →
 
   pub two_split : (ts : List Tree) (k j p q t u : ℕ) → c (tree_at ts p) (tree_at ts q) ≡ tree_at ts k → c (tree_at ts t) (tree_at ts u) ≡ tree_at ts j → (p < k) × (q < k) → t < length ts → u < length ts → IsTwo ts k j p q t u
   two_split ts k j p q t u e g l m n = record {
-    first = record { older = l.0; pars = λ i o. ap (occurs i) (sym e) ∙ (named i (tree_at ts p) (tree_at ts q) ∙ or_first (occurs i (tree_at ts p)) (occurs i (tree_at ts q)) o) };
-    second = record { older = l.1; pars = λ i o. ap (occurs i) (sym e) ∙ (named i (tree_at ts p) (tree_at ts q) ∙ or_second (occurs i (tree_at ts p)) (occurs i (tree_at ts q)) o) };
+    smaller = let n : size (tree_at ts k) ≡ 1 + (size (tree_at ts p) + size (tree_at ts q)) = ap size (sym e) ∙ large (tree_at ts p) (tree_at ts q) in omega (arith, n);
+    first = record { older = l.0; lower = let n : height (tree_at ts k) ≡ 1 + max (height (tree_at ts p)) (height (tree_at ts q)) = ap height (sym e) ∙ tall (tree_at ts p) (tree_at ts q) in omega (arith, n); pars = λ i o. ap (occurs i) (sym e) ∙ (named i (tree_at ts p) (tree_at ts q) ∙ or_first (occurs i (tree_at ts p)) (occurs i (tree_at ts q)) o) };
+    second = record { older = l.1; lower = let n : height (tree_at ts k) ≡ 1 + max (height (tree_at ts p)) (height (tree_at ts q)) = ap height (sym e) ∙ tall (tree_at ts p) (tree_at ts q) in omega (arith, n); pars = λ i o. ap (occurs i) (sym e) ∙ (named i (tree_at ts p) (tree_at ts q) ∙ or_second (occurs i (tree_at ts p)) (occurs i (tree_at ts q)) o) };
     term = m;
     other_term = n;
     leads = λ σ.
@@ -78,10 +81,10 @@ module _ (c : Tree → Tree → Tree) (puts : (ρ : Assignment) (a b : Tree) →
   }
 
 pub app_split : (ts : List Tree) (k j p q t u : ℕ) → App (tree_at ts p) (tree_at ts q) ≡ tree_at ts k → App (tree_at ts t) (tree_at ts u) ≡ tree_at ts j → (p < k) × (q < k) → t < length ts → u < length ts → IsTwo ts k j p q t u
-app_split = two_split App (λ ρ a b. refl) (λ i a b. refl) (λ a b d e h. (cc, cc))
+app_split = two_split App (λ ρ a b. refl) (λ i a b. refl) (λ a b d e h. (cc, cc)) (λ a b. refl) (λ a b. refl)
 
 pub arr_split : (ts : List Tree) (k j p q t u : ℕ) → Arr (tree_at ts p) (tree_at ts q) ≡ tree_at ts k → Arr (tree_at ts t) (tree_at ts u) ≡ tree_at ts j → (p < k) × (q < k) → t < length ts → u < length ts → IsTwo ts k j p q t u
-arr_split = two_split Arr (λ ρ a b. refl) (λ i a b. refl) (λ a b d e h. (cc, cc))
+arr_split = two_split Arr (λ ρ a b. refl) (λ i a b. refl) (λ a b d e h. (cc, cc)) (λ a b. refl) (λ a b. refl)
 
 pub qar_split : (i : ℕ) (ts : List Tree) (k j p q t u : ℕ) → Qar i (tree_at ts p) (tree_at ts q) ≡ tree_at ts k → Qar i (tree_at ts t) (tree_at ts u) ≡ tree_at ts j → (p < k) × (q < k) → t < length ts → u < length ts → IsTwo ts k j p q t u
-qar_split i = two_split (Qar i) (λ ρ a b. refl) (λ j a b. refl) (λ a b d e h. (cc, cc))
+qar_split i = two_split (Qar i) (λ ρ a b. refl) (λ j a b. refl) (λ a b d e h. (cc, cc)) (λ a b. refl) (λ a b. refl)

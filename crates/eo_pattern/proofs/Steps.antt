@@ -13,6 +13,7 @@ use Rattle.std.specs.Prelude.{◌≢◌, IfSome, IfNone}
 use Rattle.eo_term.specs.Memo.{told, TellsOnly}
 use Rattle.eo_pattern.specs.Matching.{Assignment, empty, assign, value_or_par, put, put_all, Matches}
 use Rattle.eo_pattern.specs.Slots.{Slots, SlotBelow, AreBelow, Holds, Leads, Keeps, held, IsPut, IsAssigned}
+use Rattle.eo_pattern.specs.Pairs.{Remembered}
 use Rattle.eo_pattern.specs.Matched.{IsKept, AreMatched}
 use Rattle.eo_pattern.specs.Steps.{IsMade, IsNext}
 use Rattle.eo_term.specs.Arguments.{count_of, argument_at}
@@ -130,7 +131,7 @@ par_new σ i t n = record { extends = more; names = named; equal = ap (λ u. u �
 
 -- several, one after another
 
-more_put : (σ τ : Assignment) (ps : List Tree) → ((i : ℕ) (t : Tree) → σ i ≡ Some t → τ i ≡ Some t) → ((i : ℕ) → occurs_in i ps ≡ true → is_some (σ i) ≡ true) → map (put τ) ps ≡ map (put σ) ps
+pub more_put : (σ τ : Assignment) (ps : List Tree) → ((i : ℕ) (t : Tree) → σ i ≡ Some t → τ i ≡ Some t) → ((i : ℕ) → occurs_in i ps ≡ true → is_some (σ i) ≡ true) → map (put τ) ps ≡ map (put σ) ps
 more_put σ τ ps e n = put_list_agree τ σ ps (λ j o. by (σ j) refl (n j o))
   where
     by : {j : ℕ} (o : Option Tree) → σ j ≡ o → is_some (σ j) ≡ true → τ j ≡ σ j
@@ -219,13 +220,13 @@ matches_again σ τ p t m = record { extends = λ i u e. e; names = λ i. by i (
     by i true e = let own : is_some (τ i) ≡ true = m.names i ∙ or_second (is_some (σ i)) (occurs i p || false) e in own ∙ sym (or_second (is_some (τ i)) true refl)
     by i false e = sym (or-false (is_some (τ i)))
 
-pub still_matched : (ts : List Tree) (σ τ : Assignment) (m : List (Option (ℕ × ℕ))) → ((i : ℕ) (u : Tree) → σ i ≡ Some u → τ i ≡ Some u) → AreMatched ts σ m → AreMatched ts τ m
+pub still_matched : (ts : List Tree) (σ τ : Assignment) (m : Remembered) → ((i : ℕ) (u : Tree) → σ i ≡ Some u → τ i ≡ Some u) → AreMatched ts σ m → AreMatched ts τ m
 still_matched ts σ τ m more h = record { each = λ p t k. matches_later σ τ (tree_at ts p) (tree_at ts t) more (h.each p t k) }
 
-pub none_matched : (ts : List Tree) (σ : Assignment) (m : List (Option (ℕ × ℕ))) → ((p t : ℕ) → IsKept m p t → ⊥) → AreMatched ts σ m
+pub none_matched : (ts : List Tree) (σ : Assignment) (m : Remembered) → ((p t : ℕ) → IsKept m p t → ⊥) → AreMatched ts σ m
 none_matched ts σ m n = record { each = λ p t k. absurd (n p t k) }
 
-pub more_matched : (ts : List Tree) (σ : Assignment) (m n : List (Option (ℕ × ℕ))) (p t : ℕ) → ((q u : ℕ) → IsKept n q u → ((q ≡ p) × (u ≡ t)) ⊎ IsKept m q u) → AreMatched ts σ m → Matches σ (tree_at ts p ∷ []) (tree_at ts t ∷ []) σ → AreMatched ts σ n
+pub more_matched : (ts : List Tree) (σ : Assignment) (m n : Remembered) (p t : ℕ) → ((q u : ℕ) → IsKept n q u → ((q ≡ p) × (u ≡ t)) ⊎ IsKept m q u) → AreMatched ts σ m → Matches σ (tree_at ts p ∷ []) (tree_at ts t ∷ []) σ → AreMatched ts σ n
 more_matched ts σ m n p t f h own = record {
   each = λ q u k. elim (f q u k) [
     | inl e ↦ subst (λ (x : ℕ). Matches σ (tree_at ts x ∷ []) (tree_at ts u ∷ []) σ) (sym e.0) (subst (λ (y : ℕ). Matches σ (tree_at ts p ∷ []) (tree_at ts y ∷ []) σ) (sym e.1) own)

@@ -1,11 +1,12 @@
 -- What a search for a match is given, what it answers, and the pairs that were matched before.
-use Rattle.std.specs.Prelude.{◌≡◌, ℕ, ◌<◌, true, List, [], ◌∷◌, length, All, Option, Some, slice_get}
+use Rattle.std.specs.Prelude.{◌≡◌, ℕ, ◌<◌, true, List, [], ◌∷◌, length, All, Some, slice_get}
 use Rattle.eo_term.specs.Tree.{Tree, occurs_in, to_list}
 use Rattle.eo_term.specs.Terms.{Terms, tree_at}
 use Rattle.eo_term.specs.Growth.{tree_in, trees_in}
 use Rattle.eo_term.specs.Arguments.{arguments_of, count_of}
 use Rattle.eo_pattern.specs.Matching.{Assignment, Matches}
 use Rattle.eo_pattern.specs.Slots.{Slots, HasPars, held}
+use Rattle.eo_pattern.specs.Pairs.{Remembered}
 
 -- the arguments of an operator of a table
 abbrev pub args_in : Terms → ℕ → List Tree
@@ -46,10 +47,11 @@ Matched t old patterns terms new = MatchedTrees t old (trees_in t patterns) (tre
 abbrev pub Unmatched : Terms → Slots → List ℕ → List ℕ → Type 0
 Unmatched t s patterns terms = UnmatchedTrees t s (trees_in t patterns) (trees_in t terms)
 
--- the pattern p and the term t are among the pairs
-abbrev pub IsKept : List (Option (ℕ × ℕ)) → ℕ → ℕ → Type 0
-IsKept pairs p t = (k : ℕ) × (slice_get pairs k ≡ Some (Some (p, t)))
+-- the pattern p is kept with the term t
+pub record IsKept (pairs : Remembered) (p t : ℕ) : Type 0 where
+  pub used : pairs.used ≡ true
+  pub entry : slice_get pairs.entries p ≡ Some (record { round = pairs.round; term = t })
 
 -- each pattern that is kept becomes its term as σ stands
-pub record AreMatched (ts : List Tree) (σ : Assignment) (pairs : List (Option (ℕ × ℕ))) : Type 0 where
+pub record AreMatched (ts : List Tree) (σ : Assignment) (pairs : Remembered) : Type 0 where
   pub each : (p t : ℕ) → IsKept pairs p t → Matches σ (tree_at ts p ∷ []) (tree_at ts t ∷ []) σ

@@ -5,8 +5,10 @@
 mod laws;
 mod matched;
 mod matching;
+mod slots;
 mod subst;
 mod substitution;
+mod tasks;
 
 pub use laws::{matching_law, putting_law};
 pub use matching::match_terms;

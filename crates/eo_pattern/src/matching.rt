@@ -1,14 +1,18 @@
 //! Matching of patterns with terms.
-ghost use Rattle.std.specs.Prelude.{◌<◌, [], ◌∷◌, length, IsTrue, IsFalse, All};
-ghost use Rattle.eo_term.specs.Tree.{Par};
+ghost use Rattle.std.specs.Prelude.{◌≡◌, ◌<◌, ◌≤◌, ◌+◌, ◌*◌, [], ◌∷◌, length, IsTrue, IsFalse, All};
+ghost use Rattle.eo_term.specs.Tree.{Par, height};
 ghost use Rattle.eo_term.specs.Growth.{tree_in};
 ghost use Rattle.eo_pattern.specs.Slots.{held, AreBelow, AreEmpty, HasRoom, Keeps};
 ghost use Rattle.eo_pattern.specs.Matched.{ArePaired, IsPair, ArePairs, Matched, Unmatched, MatchedTrees};
-ghost use Rattle.eo_pattern.specs.Matched.{UnmatchedTrees, args_in, AreMatched};
+ghost use Rattle.eo_pattern.specs.Matched.{UnmatchedTrees, AreMatched};
 ghost use Rattle.eo_pattern.specs.Split.{IsSplit};
+ghost use Rattle.eo_pattern.specs.Tasks.{takes, ClosesOne, IsLive, Becomes, IsRefused};
+ghost use Rattle.eo_pattern.specs.declared.tasks.Task.TheVariants as task;
 
 use crate::Subst;
-use crate::matched::{PAIRS, is_matched, keep};
+use crate::matched::{Pairs, is_large};
+use crate::slots::Held;
+use crate::tasks::{Task, Tasks};
 use eo_term::{Id, Node, Table, arguments_law, codes_law};
 
 /// Whether some assignment that extends the present one, by just the patterns' parameters, makes
@@ -26,8 +30,37 @@ pub fn match_terms(table: &Table, patterns: &[Id], terms: &[Id], subst: &mut Sub
     ensures empty { IsFalse result → AreEmpty subst.new }
     ensures kept { Keeps (length table.now.trees) subst.old subst.new }
 {
+    match_all(
+        table,
+        patterns,
+        terms,
+        &mut subst.slots,
+        &mut subst.tasks,
+        &mut subst.pairs,
+    )
+}
+
+// The same by what is held, with room for so many tasks.
+fn match_all(
+    table: &Table,
+    patterns: &[Id],
+    terms: &[Id],
+    subst: &mut Held,
+    tasks: &mut Tasks,
+    pairs: &mut Pairs,
+) -> bool
+    requires paired { ArePaired table.now patterns.now terms.now }
+    requires room { All (λ i. HasRoom subst.old (tree_in table.now i)) patterns.now }
+    requires below { AreBelow (length table.now.trees) subst.old }
+    requires tasks { 2 * subst.old.height ≤ tasks.old.room }
+    ensures yes { IsTrue result → Matched table.now subst.old patterns.now terms.now subst.new }
+    ensures no { IsFalse result → Unmatched table.now subst.old patterns.now terms.now }
+    ensures empty { IsFalse result → AreEmpty subst.new }
+    ensures kept { Keeps (length table.now.trees) subst.old subst.new }
+    ensures tasks { tasks.new.room ≡ tasks.old.room }
+{
     for i in 0..patterns.len() {
-        if !match_pattern(table, patterns[i], terms[i], subst) {
+        if !match_pattern(table, patterns[i], terms[i], subst, tasks, pairs) {
             subst.clear();
             return false;
         }
@@ -35,168 +68,198 @@ pub fn match_terms(table: &Table, patterns: &[Id], terms: &[Id], subst: &mut Sub
     true
 }
 
-// The same for one pattern and one term, but that after `false` anything may be held.
-fn match_pattern(table: &Table, pattern: Id, term: Id, subst: &mut Subst) -> bool
-    requires pair { IsPair table.now subst.old pattern term }
-    requires below { AreBelow (length table.now.trees) subst.old }
-    ensures yes { IsTrue result → Matched table.now subst.old (pattern ∷ []) (term ∷ []) subst.new }
-    ensures no { IsFalse result → Unmatched table.now subst.old (pattern ∷ []) (term ∷ []) }
-    ensures kept { Keeps (length table.now.trees) subst.old subst.new }
-{
-    let height = table.height(pattern);
-    if height < 3 || height < 8 && table.is_plain(pattern) {
-        // Few parts, and applications alone: nothing is kept.
-        return match_one(table, pattern, term, subst, &mut []);
-    }
-    match_large(table, pattern, term, subst)
-}
-
-// The same for a pattern with many parts, whose pairs are kept.
-fn match_large(table: &Table, pattern: Id, term: Id, subst: &mut Subst) -> bool
-    requires pair { IsPair table.now subst.old pattern term }
-    requires below { AreBelow (length table.now.trees) subst.old }
-    ensures yes { IsTrue result → Matched table.now subst.old (pattern ∷ []) (term ∷ []) subst.new }
-    ensures no { IsFalse result → Unmatched table.now subst.old (pattern ∷ []) (term ∷ []) }
-    ensures kept { Keeps (length table.now.trees) subst.old subst.new }
-{
-    let mut matched = [None; PAIRS];
-    match_one(table, pattern, term, subst, &mut matched)
-}
-
-// The same, where these pairs were matched.
-#[cycle(walk)]
-fn match_one(
+// The same for one pattern and one term, but that after `false` anything may be held. For a pattern
+// with few parts no pairs are kept.
+fn match_pattern(
     table: &Table,
     pattern: Id,
     term: Id,
-    subst: &mut Subst,
-    matched: &mut [Option<(Id, Id)>],
+    subst: &mut Held,
+    tasks: &mut Tasks,
+    pairs: &mut Pairs,
 ) -> bool
     requires pair { IsPair table.now subst.old pattern term }
     requires below { AreBelow (length table.now.trees) subst.old }
-    requires matched { AreMatched table.now.trees (held table.now.trees subst.old) matched.old }
+    requires tasks { 2 * height (tree_in table.now pattern) ≤ tasks.old.room }
     ensures yes { IsTrue result → Matched table.now subst.old (pattern ∷ []) (term ∷ []) subst.new }
     ensures no { IsFalse result → Unmatched table.now subst.old (pattern ∷ []) (term ∷ []) }
-    ensures matched { IsTrue result → AreMatched table.now.trees (held table.now.trees subst.new) matched.new }
     ensures kept { Keeps (length table.now.trees) subst.old subst.new }
+    ensures tasks { tasks.new.room ≡ tasks.old.room }
 {
-    if table.is_closed(pattern) || table.height(pattern) < 3 {
-        return match_roots(table, pattern, term, subst, matched);
-    }
-    match_tall(table, pattern, term, subst, matched)
+    pairs.begin(is_large(table, pattern));
+    match_walk(table, pattern, term, subst, tasks, pairs)
 }
 
-// The same for a pattern that may have been matched before.
-#[cycle(walk)]
-fn match_tall(
+// The same, where these pairs are kept: one task after another, until none is left.
+fn match_walk(
     table: &Table,
     pattern: Id,
     term: Id,
-    subst: &mut Subst,
-    matched: &mut [Option<(Id, Id)>],
+    subst: &mut Held,
+    tasks: &mut Tasks,
+    pairs: &mut Pairs,
 ) -> bool
     requires pair { IsPair table.now subst.old pattern term }
     requires below { AreBelow (length table.now.trees) subst.old }
-    requires matched { AreMatched table.now.trees (held table.now.trees subst.old) matched.old }
+    requires tasks { 2 * height (tree_in table.now pattern) ≤ tasks.old.room }
+    requires matched { AreMatched table.now.trees (held table.now.trees subst.old) pairs.old }
     ensures yes { IsTrue result → Matched table.now subst.old (pattern ∷ []) (term ∷ []) subst.new }
     ensures no { IsFalse result → Unmatched table.now subst.old (pattern ∷ []) (term ∷ []) }
-    ensures matched { IsTrue result → AreMatched table.now.trees (held table.now.trees subst.new) matched.new }
     ensures kept { Keeps (length table.now.trees) subst.old subst.new }
+    ensures tasks { tasks.new.room ≡ tasks.old.room }
 {
-    if is_matched(matched, pattern, term) {
+    tasks.begin(Task::Pair(pattern, term));
+    loop {
+        let Some(task) = tasks.pop() else {
+            return true;
+        };
+        if !match_next(table, &task, subst, tasks, pairs) {
+            return false;
+        }
+    }
+}
+
+// Does a task, which may leave others in its place. On `false` no assignment does it.
+fn match_next(
+    table: &Table,
+    next: &Task,
+    subst: &mut Held,
+    tasks: &mut Tasks,
+    pairs: &mut Pairs,
+) -> bool
+    requires live { IsLive table.now subst.old next.now }
+    requires below { AreBelow (length table.now.trees) subst.old }
+    requires room { length tasks.old.tasks + takes table.now.trees next.now ≤ tasks.old.room + 2 }
+    requires closes { ClosesOne table.now.trees (held table.now.trees subst.old) [] [] next.now }
+    requires matched { AreMatched table.now.trees (held table.now.trees subst.old) pairs.old }
+    ensures yes { IsTrue result → Becomes 0 table.now subst.old next.now tasks.old subst.new tasks.new }
+    ensures no { IsFalse result → IsRefused table.now subst.old next.now }
+    ensures matched { IsTrue result → AreMatched table.now.trees (held table.now.trees subst.new) pairs.new }
+    ensures kept { Keeps (length table.now.trees) subst.old subst.new }
+    ensures tasks { tasks.new.room ≡ tasks.old.room }
+{
+    match *next {
+        Task::Pair(pattern, term) => match_pair(table, pattern, term, subst, tasks, pairs),
+        Task::Args {
+            pattern,
+            term,
+            next: i,
+            count,
+        } => {
+            next_argument(table, pattern, term, i, count, subst, tasks);
+            true
+        }
+        Task::Done(pattern, term) => {
+            pairs.keep(pattern, term);
+            true
+        }
+    }
+}
+
+// The same for a pattern and a term.
+fn match_pair(
+    table: &Table,
+    pattern: Id,
+    term: Id,
+    subst: &mut Held,
+    tasks: &mut Tasks,
+    pairs: &mut Pairs,
+) -> bool
+    requires pair { IsPair table.now subst.old pattern term }
+    requires below { AreBelow (length table.now.trees) subst.old }
+    requires room { length tasks.old.tasks + 2 * height (tree_in table.now pattern) ≤ tasks.old.room + 1 }
+    requires matched { AreMatched table.now.trees (held table.now.trees subst.old) pairs.old }
+    ensures yes { IsTrue result → Becomes 0 table.now subst.old (task.Pair pattern term) tasks.old subst.new tasks.new }
+    ensures no { IsFalse result → Unmatched table.now subst.old (pattern ∷ []) (term ∷ []) }
+    ensures matched { IsTrue result → AreMatched table.now.trees (held table.now.trees subst.new) pairs.new }
+    ensures kept { Keeps (length table.now.trees) subst.old subst.new }
+    ensures tasks { tasks.new.room ≡ tasks.old.room }
+{
+    if !pairs.is_used() || table.is_closed(pattern) || table.height(pattern) < 3 {
+        return match_roots(table, pattern, term, subst, tasks);
+    }
+    if pairs.is_kept(pattern, term) {
         return true;
     }
-    if !match_roots(table, pattern, term, subst, matched) {
-        return false;
-    }
-    keep(matched, pattern, term);
-    true
+    match_tall(table, pattern, term, subst, tasks)
 }
 
-// The same, by the roots.
-#[cycle(walk)]
-fn match_roots(
-    table: &Table,
-    pattern: Id,
-    term: Id,
-    subst: &mut Subst,
-    matched: &mut [Option<(Id, Id)>],
-) -> bool
+// The same for a pattern that is kept with its term when it is matched.
+fn match_tall(table: &Table, pattern: Id, term: Id, subst: &mut Held, tasks: &mut Tasks) -> bool
     requires pair { IsPair table.now subst.old pattern term }
     requires below { AreBelow (length table.now.trees) subst.old }
-    requires matched { AreMatched table.now.trees (held table.now.trees subst.old) matched.old }
-    ensures yes { IsTrue result → Matched table.now subst.old (pattern ∷ []) (term ∷ []) subst.new }
+    requires room { length tasks.old.tasks + 2 * height (tree_in table.now pattern) ≤ tasks.old.room + 1 }
+    ensures yes { IsTrue result → Becomes 0 table.now subst.old (task.Pair pattern term) tasks.old subst.new tasks.new }
     ensures no { IsFalse result → Unmatched table.now subst.old (pattern ∷ []) (term ∷ []) }
-    ensures matched { IsTrue result → AreMatched table.now.trees (held table.now.trees subst.new) matched.new }
     ensures kept { Keeps (length table.now.trees) subst.old subst.new }
+    ensures tasks { tasks.new.room ≡ tasks.old.room }
+{
+    tasks.push(Task::Done(pattern, term));
+    match_roots(table, pattern, term, subst, tasks)
+}
+
+// The same by the roots.
+fn match_roots(table: &Table, pattern: Id, term: Id, subst: &mut Held, tasks: &mut Tasks) -> bool
+    requires pair { IsPair table.now subst.old pattern term }
+    requires below { AreBelow (length table.now.trees) subst.old }
+    requires room { length tasks.old.tasks + 2 * height (tree_in table.now pattern) ≤ tasks.old.room + 2 }
+    ensures yes { IsTrue result → Becomes 1 table.now subst.old (task.Pair pattern term) tasks.old subst.new tasks.new }
+    ensures no { IsFalse result → Unmatched table.now subst.old (pattern ∷ []) (term ∷ []) }
+    ensures kept { Keeps (length table.now.trees) subst.old subst.new }
+    ensures tasks { tasks.new.room ≡ tasks.old.room }
 {
     match split_roots(table, pattern, term) {
         Split::Differ => false,
         Split::Equal => true,
         Split::Par(i) => match_par(table, i, term, subst),
-        Split::One(p, t) => match_one(table, p, t, subst, matched),
-        Split::Two(p, q, t, u) => match_two(table, p, q, t, u, subst, matched),
-        Split::Args(n) => match_args(table, pattern, term, n as usize, subst, matched),
+        Split::One(p, t) => {
+            tasks.push(Task::Pair(p, t));
+            true
+        }
+        Split::Two(p, q, t, u) => {
+            tasks.push(Task::Pair(q, u));
+            tasks.push(Task::Pair(p, t));
+            true
+        }
+        Split::Args(count) => {
+            tasks.push(Task::Args {
+                pattern,
+                term,
+                next: 0,
+                count,
+            });
+            true
+        }
     }
 }
 
-// The same for two patterns and two terms.
-#[cycle(walk)]
-fn match_two(
-    table: &Table,
-    p: Id,
-    q: Id,
-    t: Id,
-    u: Id,
-    subst: &mut Subst,
-    matched: &mut [Option<(Id, Id)>],
-) -> bool
-    requires first { IsPair table.now subst.old p t }
-    requires second { IsPair table.now subst.old q u }
-    requires below { AreBelow (length table.now.trees) subst.old }
-    requires matched { AreMatched table.now.trees (held table.now.trees subst.old) matched.old }
-    ensures yes { IsTrue result → Matched table.now subst.old (p ∷ q ∷ []) (t ∷ u ∷ []) subst.new }
-    ensures no { IsFalse result → Unmatched table.now subst.old (p ∷ q ∷ []) (t ∷ u ∷ []) }
-    ensures matched { IsTrue result → AreMatched table.now.trees (held table.now.trees subst.new) matched.new }
-    ensures kept { Keeps (length table.now.trees) subst.old subst.new }
-{
-    if !match_one(table, p, t, subst, matched) {
-        return false;
-    }
-    match_one(table, q, u, subst, matched)
-}
-
-// The same for the arguments of two operators.
-#[cycle(walk)]
-fn match_args(
+// The argument of an operator at `next` is to be matched first, then those behind it.
+fn next_argument(
     table: &Table,
     pattern: Id,
     term: Id,
-    count: usize,
-    subst: &mut Subst,
-    matched: &mut [Option<(Id, Id)>],
-) -> bool
-    requires pairs { ArePairs table.now subst.old pattern term count }
-    requires below { AreBelow (length table.now.trees) subst.old }
-    requires matched { AreMatched table.now.trees (held table.now.trees subst.old) matched.old }
-    ensures yes { IsTrue result → MatchedTrees table.now subst.old (args_in table.now pattern) (args_in table.now term) subst.new }
-    ensures no { IsFalse result → UnmatchedTrees table.now subst.old (args_in table.now pattern) (args_in table.now term) }
-    ensures matched { IsTrue result → AreMatched table.now.trees (held table.now.trees subst.new) matched.new }
-    ensures kept { Keeps (length table.now.trees) subst.old subst.new }
+    next: u8,
+    count: u8,
+    subst: &Held,
+    tasks: &mut Tasks,
+)
+    requires live { ArePairs table.now subst.now pattern term count }
+    requires room { length tasks.old.tasks + 2 * height (tree_in table.now pattern) ≤ tasks.old.room + 2 }
+    ensures { Becomes 0 table.now subst.now (task.Args pattern term next count) tasks.old subst.now tasks.new }
 {
     arguments_law();
-    for i in 0..count {
-        if !match_one(
-            table,
-            table.arg(pattern, i),
-            table.arg(term, i),
-            subst,
-            matched,
-        ) {
-            return false;
-        }
+    if next >= count {
+        return;
     }
-    true
+    tasks.push(Task::Args {
+        pattern,
+        term,
+        next: next + 1,
+        count,
+    });
+    let p = table.arg(pattern, next as usize);
+    let t = table.arg(term, next as usize);
+    tasks.push(Task::Pair(p, t));
 }
 
 // What is left to match of a pattern and a term, by their roots.
@@ -282,7 +345,7 @@ fn split_roots(table: &Table, pattern: Id, term: Id) -> Split
 }
 
 // The same for a pattern that is a parameter.
-fn match_par(table: &Table, i: u8, term: Id, subst: &mut Subst) -> bool
+fn match_par(table: &Table, i: u8, term: Id, subst: &mut Held) -> bool
     requires term { term < length table.now.trees }
     requires room { i < length subst.old.values }
     requires below { AreBelow (length table.now.trees) subst.old }

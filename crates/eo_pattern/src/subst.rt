@@ -1,30 +1,40 @@
 //! Assignments of terms to parameters.
-ghost use Rattle.std.specs.Prelude.{◌≡◌, ℕ, ◌<◌, ◌≤◌, List, length, None, Some, OnOk, OnErr, take, slice_set, slice_get};
+ghost use Rattle.std.specs.Prelude.{◌≡◌, ℕ, ◌<◌, ◌≤◌, List, length, OnOk, OnErr, slice_get};
 ghost use Rattle.std.specs.Option.{option_flatten};
 ghost use Rattle.eo_term.specs.Tree.{Tree};
 ghost use Rattle.eo_term.specs.Terms.{tree_at};
+ghost use Rattle.eo_term.specs.Growth.{tree_in};
 ghost use Rattle.eo_pattern.specs.Matching.{assign, empty};
-ghost use Rattle.eo_pattern.specs.Slots.{held, AreBelow, AreEmpty, IsAssigned};
+ghost use Rattle.eo_pattern.specs.Slots.{held, AreBelow, AreEmpty, HasRoom, IsAssigned};
 
-use eo_term::{Id, ParamSet};
+use crate::matched::{Pairs, is_large};
+use crate::slots::Held;
+use crate::tasks::Tasks;
+use eo_term::{Id, ParamSet, Table};
 use std::alloc::{AllocError, Global};
 use std::marker::Model;
 
 /// What stands for each parameter: a term, or nothing. It has room for the parameters below a
 /// number and for patterns up to a height; no call lessens it.
+///
+/// For a pattern of a height, a search for a match takes a list of at most twice as many tasks.
 #[derive(Drop)]
 pub struct Subst {
     pub(crate) alloc: Global,
-    values: Vec<Option<Id>>,
-    height: usize,
+    pub(crate) slots: Held,
+    pub(crate) tasks: Tasks,
+    pub(crate) pairs: Pairs,
 }
 
 impl Model for Subst {
+    ghost use Rattle.std.specs.Prelude.{◌*◌, ◌≤◌};
     ghost use Rattle.eo_pattern.specs.Slots.{Slots};
 
     ghost Value = { Slots };
 
-    ghost view = { λ a. record { values = a.values.items; height = a.height } };
+    ghost view = { λ a. a.slots };
+
+    ghost invariant = { λ a. 2 * a.slots.height ≤ a.tasks.room };
 }
 
 impl Subst {
@@ -35,8 +45,9 @@ impl Subst {
     {
         Subst {
             alloc,
-            values: Vec::new(alloc),
-            height: 0,
+            slots: Held::new(alloc),
+            tasks: Tasks::new(alloc),
+            pairs: Pairs::new(alloc),
         }
     }
 
@@ -52,10 +63,28 @@ impl Subst {
         ensures more_height { self.old.height ≤ self.new.height }
         ensures err { OnErr result (self.new ≡ self.old) }
     {
-        if self.values.len() < pars {
-            self.values.resize(pars, None)?;
+        let Some(tasks) = height.checked_mul(2) else {
+            return Err(AllocError);
+        };
+        self.tasks.reserve(tasks)?;
+        self.slots.reserve(pars, height)
+    }
+
+    /// Makes room for a pattern: for its parameters and its height, and, where it has many parts, a
+    /// place for each of them, so that it is matched in the time of its different parts. What is held
+    /// stays, and so does room that is there already.
+    pub fn reserve_for(&mut self, table: &Table, pattern: Id) -> Result<(), AllocError>
+        requires { pattern < length table.now.trees }
+        ensures room { OnOk result (HasRoom self.new (tree_in table.now pattern)) }
+        ensures more { (p : Tree) → HasRoom self.old p → HasRoom self.new p }
+        ensures held { (ts : List Tree) → held ts self.new ≡ held ts self.old }
+        ensures below { (n : ℕ) → AreBelow n self.old → AreBelow n self.new }
+    {
+        let room = table.parameters(pattern).bound();
+        self.reserve(room, table.height(pattern) as usize)?;
+        if is_large(table, pattern) {
+            self.pairs.reserve(pattern.place() + 1)?;
         }
-        self.height = self.height.max(height);
         Ok(())
     }
 
@@ -63,27 +92,21 @@ impl Subst {
     pub fn get(&self, i: usize) -> Option<Id>
         ensures value { result ≡ option_flatten (slice_get self.now.values i) }
     {
-        self.values.get(i).copied().flatten()
+        self.slots.get(i)
     }
 
     /// What stands for each parameter that there is room for, by its number.
     pub fn slots(&self) -> &[Option<Id>]
         ensures { result.now ≡ self.now.values }
     {
-        self.values.as_slice()
+        self.slots.slots()
     }
 
     /// The parameters below 64 for which something stands.
     pub(crate) fn assigned(&self) -> ParamSet
         ensures { IsAssigned result self.now }
     {
-        let mut set = ParamSet::new();
-        for i in 0..self.values.len().min(64) {
-            if self.values[i].is_some() {
-                set.add_all(ParamSet::of(i as u8));
-            }
-        }
-        set
+        self.slots.assigned()
     }
 
     /// Drops what is held. The room stays.
@@ -94,7 +117,7 @@ impl Subst {
         ensures room { length self.new.values ≡ length self.old.values }
         ensures height { self.new.height ≡ self.old.height }
     {
-        self.values.as_mut_slice().fill(None);
+        self.slots.clear();
     }
 
     /// Lets a term stand for the parameter.
@@ -105,6 +128,6 @@ impl Subst {
         ensures room { length self.new.values ≡ length self.old.values }
         ensures height { self.new.height ≡ self.old.height }
     {
-        self.values[i as usize] = Some(id);
+        self.slots.put(i, id);
     }
 }

@@ -31,6 +31,9 @@ pub fn substitute(table: &mut Table, subst: &Subst, id: Id) -> Result<Id, TermRe
     ensures holds { Holds subst.now table.old.trees table.new.trees }
     ensures grows { Grows table.old table.new }
 {
+    if table.is_closed(id) {
+        return Ok(id);
+    }
     let mark = table.mark();
     let made = put_from(table, subst, id);
     if made.is_err() {

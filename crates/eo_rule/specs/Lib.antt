@@ -1,4 +1,5 @@
 pub mod Answers
+pub mod ByRules
 pub mod Derivability
 pub mod Instance
 pub mod Reading

@@ -1,5 +1,5 @@
 //! Laws of uses of rules. A call costs nothing: it tells a proof what its clauses say.
-ghost use Rattle.std.specs.Prelude.{◌≡◌, ◌<◌, ℕ, List, ◌++◌, length, Ok, Some, Contains};
+ghost use Rattle.std.specs.Prelude.{◌≡◌, ◌<◌, ℕ, Bool, List, ◌++◌, length, Ok, Some, Contains};
 ghost use Rattle.eo_term.specs.Tree.{Tree};
 ghost use Rattle.eo_term.specs.Terms.{Terms, Since};
 ghost use Rattle.eo_sig.specs.declared.records.RuleDecl.{RuleDecl};
@@ -7,6 +7,7 @@ ghost use Rattle.eo_sig.specs.Reading.{RuleBelow};
 ghost use Rattle.eo_sig.specs.Signature.{Signature};
 ghost use Rattle.eo_sig.specs.Usable.{IsUsable};
 ghost use Rattle.eo_pattern.specs.Slots.{Slots, AreBelow, Holds};
+ghost use Rattle.eo_rule.specs.ByRules.{DerivesBy};
 ghost use Rattle.eo_rule.specs.Derivability.{Derives};
 ghost use Rattle.eo_rule.specs.Reading.{RuleStays, UseBelow, UseStays};
 ghost use Rattle.eo_rule.specs.declared.RuleUse.{RuleUse};
@@ -23,11 +24,17 @@ pub fn conclusion_law()
         Concludes S number given formula → conclusion S number given ≡ Ok formula }
 {}
 
-/// A law: what is derivable from formulas stays so from more of them, and where more is declared.
+/// A law: what is derivable from formulas stays so from more of them, and where more is declared. So
+/// does what is derivable by some of the rules alone, which is derivable.
 pub fn derivability_law()
     ensures formulas { (S : Signature) (Γ Δ : List Tree) (t : Tree) → ((x : Tree) → Contains Γ x → Contains Δ x) →
         Derives S Γ t → Derives S Δ t }
     ensures signature { (S later : Signature) (Γ : List Tree) (t : Tree) → Derives S Γ t → Derives (S ++ later) Γ t }
+    ensures allowed_formulas { (allowed : List ℕ → Bool) (S : Signature) (Γ Δ : List Tree) (t : Tree) →
+        ((x : Tree) → Contains Γ x → Contains Δ x) → DerivesBy allowed S Γ t → DerivesBy allowed S Δ t }
+    ensures allowed_signature { (allowed : List ℕ → Bool) (S later : Signature) (Γ : List Tree) (t : Tree) →
+        DerivesBy allowed S Γ t → DerivesBy allowed (S ++ later) Γ t }
+    ensures derives { (allowed : List ℕ → Bool) (S : Signature) (Γ : List Tree) (t : Tree) → DerivesBy allowed S Γ t → Derives S Γ t }
 {}
 
 /// A law: where the table grows, what is held, a rule and a use of one stay what they are.

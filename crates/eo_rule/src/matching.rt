@@ -1,14 +1,13 @@
 //! What stands for the parameters of a rule: its patterns matched with what is given.
-ghost use Rattle.std.specs.Prelude.{◌≡◌, ◌<◌, ℕ, List, length, option_map, option_to_list, All};
+ghost use Rattle.std.specs.Prelude.{◌≡◌, ◌<◌, length, option_map, option_to_list, All};
 ghost use Rattle.std.specs.Prelude.{None, Some, IfOk, OnOk, IsTrue, IsFalse};
 ghost use Rattle.eo_base.specs.Checks.{value_or};
-ghost use Rattle.eo_pattern.specs.Matching.{empty, matching};
+ghost use Rattle.eo_pattern.specs.Matching.{matching};
 ghost use Rattle.eo_pattern.specs.Slots.{held, AreBelow, HasRoom};
 ghost use Rattle.eo_sig.specs.Growth.{GrowsUnder};
 ghost use Rattle.eo_sig.specs.Reading.{IsBelow, RuleBelow, SomeBelow, read_premises, read_rule, signature};
 ghost use Rattle.eo_sig.specs.Signature.{premise_patterns};
 ghost use Rattle.eo_term.specs.Growth.{tree_in, trees_in};
-ghost use Rattle.eo_term.specs.Tree.{Tree};
 ghost use Rattle.eo_rule.specs.Answers.{GivesAssignment, GivesTerm};
 ghost use Rattle.eo_rule.specs.Reading.{UseBelow, read_use};
 ghost use Rattle.eo_rule.specs.Uses as spec;
@@ -178,20 +177,7 @@ fn make_room(table: &Table, subst: &mut Subst, patterns: &[Id]) -> Result<(), Al
     ensures below { OnOk result (AreBelow (length table.now.trees) subst.new) }
 {
     for pattern in patterns {
-        make_room_for(table, subst, *pattern)?;
+        subst.reserve_for(table, *pattern)?;
     }
-    Ok(())
-}
-
-// Makes room for what a pattern may hold. The room that is there stays.
-fn make_room_for(table: &Table, subst: &mut Subst, pattern: Id) -> Result<(), AllocError>
-    requires { pattern < length table.now.trees }
-    ensures room { OnOk result (HasRoom subst.new (tree_in table.now pattern)) }
-    ensures more { (p : Tree) → HasRoom subst.old p → HasRoom subst.new p }
-    ensures held { (ts : List Tree) → held ts subst.new ≡ held ts subst.old }
-    ensures below { (n : ℕ) → AreBelow n subst.old → AreBelow n subst.new }
-{
-    let room = table.parameters(pattern).bound();
-    subst.reserve(room, table.height(pattern) as usize)?;
     Ok(())
 }

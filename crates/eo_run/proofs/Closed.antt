@@ -4,7 +4,7 @@ use Rattle.std.proofs.Common.{◌∙◌, subst}
 use Rattle.eo_base.proofs.ChecksLemmas.{ok_injective, err_is_not_ok}
 use Rattle.eo_base.specs.declared.FaultName.TheVariants.{SecondReference}
 use Rattle.eo_io.specs.Library.{Files}
-use Rattle.eo_run.proofs.Runs.{Keeping, run_bind, signature_keeps, job_reference_keeps, proof_keeps, given_keeps}
+use Rattle.eo_run.proofs.Runs.{Keeping, any_commands, run_bind, signature_keeps, job_reference_keeps, proof_keeps, given_keeps}
 use Rattle.eo_session.specs.Origin.{Origin}
 use Rattle.eo_session.specs.Origin as origin
 use Rattle.eo_run.specs.Refutation.{ClosedKeepsRules}
@@ -29,6 +29,10 @@ record Stays (ps : List Program) (rs : List Rule) (st : State) : Type 0 where
 abbrev Allowed : Origin → Type 0
 Allowed from = from ≢ origin.Signature
 
+-- any command
+abbrev Each : Sexp → Type 0
+Each s = Unit {0}
+
 proof-other : origin.Proof ≢ origin.Signature
 proof-other e = cc e
 
@@ -49,8 +53,8 @@ module _ (quiet : (st : State) (from : Origin) (s : Sexp) (r : State × Next) �
       by true k = absurd (err_is_not_ok SecondReference new k)
       by false k = subst (Stays ps rs) (ok_injective (record st { has_reference = true }) new k) (record { closed = h.closed; programs_are = h.programs_are; rules_are = h.rules_are })
 
-  keeping : Keeping (Stays ps rs) Allowed
-  keeping = record { steps = step_stays; begins = begin_stays; reference = reference-other }
+  keeping : Keeping (Stays ps rs) Allowed Each
+  keeping = record { read = λ proof bytes. any_commands Each (λ s. tt) _; steps = λ st from s r other read h e. step_stays st from s r other h e; begins = begin_stays; reference = reference-other }
 
 -- ---- whether the check is closed
 
@@ -69,8 +73,8 @@ begin_closed st new h e = by st.has_reference e
     by false k = subst IsClosed (ok_injective (record st { has_reference = true }) new k) h
 
 module _ (keeps : (st : State) (from : Origin) (s : Sexp) (r : State × Next) → step st from s ≡ Ok r → r.0.closed ≡ st.closed) where
-  closing : Keeping IsClosed Any
-  closing = record { steps = λ st from s r al h e. keeps st from s r e ∙ h; begins = begin_closed; reference = tt }
+  closing : Keeping IsClosed Any Each
+  closing = record { read = λ proof bytes. any_commands Each (λ s. tt) _; steps = λ st from s r al read h e. keeps st from s r e ∙ h; begins = begin_closed; reference = tt }
 
   module _ (files : Files) (job : CheckJob) (closed : job.closed ≡ true) where
     first_closed : IsClosed (first_state job.closed)
@@ -79,15 +83,15 @@ module _ (keeps : (st : State) (from : Origin) (s : Sexp) (r : State × Next) �
 
     include_closed : (p : Progress) → if_given (run_signature files) job.include (first_progress job) ≡ Ok p → IsClosed p.state
     include_closed p e =
-        given_keeps IsClosed Any closing files (run_signature files) job.include (first_progress job) p
-        (λ name k. signature_keeps IsClosed Any closing files tt name (first_progress job) p first_closed k) first_closed e
+        given_keeps IsClosed Any Each closing files (run_signature files) job.include (first_progress job) p
+        (λ name k. signature_keeps IsClosed Any Each closing files tt name (first_progress job) p first_closed k) first_closed e
 
     before_closed : (p : Progress) → before_proof files job ≡ Ok p → IsClosed p.state
     unfolding before_proof
     before_closed p e =
         let included = run_bind _ _ p e in
-        given_keeps IsClosed Any closing files (run_job_reference files) job.reference included.0 p
-        (λ name k. job_reference_keeps IsClosed Any closing files name included.0 p (include_closed included.0 included.1) k)
+        given_keeps IsClosed Any Each closing files (run_job_reference files) job.reference included.0 p
+        (λ name k. job_reference_keeps IsClosed Any Each closing files name included.0 p (include_closed included.0 included.1) k)
         (include_closed included.0 included.1) included.2
 
   -- The proof of a closed check declares no program and no rule, nor does a file that it includes.
@@ -98,5 +102,5 @@ module _ (keeps : (st : State) (from : Origin) (s : Sexp) (r : State × Next) �
         let before = run_bind _ _ final e in
         let ps = programs before.0.state.signature in
         let rs = rules before.0.state.signature in
-        let kept = proof_keeps (Stays ps rs) Allowed (keeping quiet ps rs) files proof-other job.proof before.0 final (record { closed = before_closed files job closed before.0 before.1; programs_are = refl; rules_are = refl }) before.2 in
+        let kept = proof_keeps (Stays ps rs) Allowed Each (keeping quiet ps rs) files proof-other job.proof before.0 final (record { closed = before_closed files job closed before.0 before.1; programs_are = refl; rules_are = refl }) before.2 in
         record { before = before.0; begins = before.1; programs_stay = kept.programs_are; rules_stay = kept.rules_are }

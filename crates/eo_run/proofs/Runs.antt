@@ -9,10 +9,11 @@ use Rattle.eo_base.specs.Checks.{Checked}
 use Rattle.eo_io.specs.Library.{Files}
 use Rattle.eo_sexp.specs.Spot.{Spot}
 use Rattle.eo_sexp.specs.Sexp.{Sexp}
+use Rattle.eo_sexp.specs.ReadNames.{AllCommands}
 use Rattle.eo_sexp.specs.Texts.{Reads, Then, Ends, Fails}
 use Rattle.eo_session.specs.State.{State, begin_reference}
 use Rattle.eo_session.specs.Commands.{step}
-use Rattle.eo_run.specs.Run.{Progress, Ran, Opener, Runner, with_included, ◌>>=◌, placed, or_fault, refusal_at, is_exit, run_commands, open_nothing, run_reference, include_file, refer_to_file, open_file, run_file, included_runner, include_limit, run_signature, run_proof, run_job_reference, if_given}
+use Rattle.eo_run.specs.Run.{Progress, Ran, Opener, Runner, with_included, ◌>>=◌, placed, or_fault, refusal_at, is_exit, run_commands, open_nothing, run_reference, include_file, refer_to_file, open_file, run_file, included_runner, include_limit, commands_of, run_signature, run_proof, run_job_reference, if_given}
 use Rattle.eo_run.specs.Verdict.{Refusal}
 use Rattle.eo_session.specs.Origin.{Origin}
 use Rattle.eo_session.specs.Origin as origin
@@ -42,13 +43,20 @@ unfolding or_fault
 or_fault_ok path at name (Some y) x e = ap Some (run_ok y x e)
 or_fault_ok path at name None x e = absurd (run_err (refusal_at path at name) x e)
 
--- P is kept by commands of the origins that are allowed, and by the beginning of a reference file
-pub record Keeping (P : State → Type 0) (Allowed : Origin → Type 0) : Type 0 where
-  pub steps : (st : State) (from : Origin) (s : Sexp) (r : State × Next) → Allowed from → P st → step st from s ≡ Ok r → P r.0
+-- what holds of each s-expression holds of each command
+pub any_commands : (R : Sexp → Type 0) → ((s : Sexp) → R s) → (reads : Reads) → AllCommands R reads
+any_commands R all (Then first others) = (all first.sexp, any_commands R all others)
+any_commands R all (Ends at) = tt
+any_commands R all (Fails name at) = tt
+
+-- P is kept by commands of the origins that are allowed, of which R holds as they were read, and by the beginning of a reference file
+pub record Keeping (P : State → Type 0) (Allowed : Origin → Type 0) (R : Sexp → Type 0) : Type 0 where
+  pub read : (proof : Bool) (bytes : List ℕ) → AllCommands R (commands_of proof bytes)
+  pub steps : (st : State) (from : Origin) (s : Sexp) (r : State × Next) → Allowed from → R s → P st → step st from s ≡ Ok r → P r.0
   pub begins : (st new : State) → P st → begin_reference st ≡ Ok new → P new
   pub reference : Allowed origin.Reference
 
-module _ (P : State → Type 0) (Allowed : Origin → Type 0) (keeping : Keeping P Allowed) where
+module _ (P : State → Type 0) (Allowed : Origin → Type 0) (R : Sexp → Type 0) (keeping : Keeping P Allowed R) where
   abbrev Opens : Opener → Type 0
   Opens opener = (path : List ℕ) (from : Origin) (at : Spot) (what : Next) (p q : Progress) → Allowed from → P p.state → opener path from at what p ≡ Ok q → P q.state
 
@@ -62,21 +70,21 @@ module _ (P : State → Type 0) (Allowed : Origin → Type 0) (keeping : Keeping
   unless true p q others h onward e = same_keeps p q h e
   unless false p q others h onward e = onward e
 
-  commands_keep : (opener : Opener) → Opens opener → (path : List ℕ) (from : Origin) (reads : Reads) (p q : Progress) → Allowed from → P p.state → run_commands opener path from reads p ≡ Ok q → P q.state
+  commands_keep : (opener : Opener) → Opens opener → (path : List ℕ) (from : Origin) (reads : Reads) (p q : Progress) → AllCommands R reads → Allowed from → P p.state → run_commands opener path from reads p ≡ Ok q → P q.state
   unfolding run_commands
-  commands_keep opener opens path from (Ends at) p q al h e = same_keeps p q h e
-  commands_keep opener opens path from (Fails name at) p q al h e = absurd (run_err (refusal_at path at name) q e)
-  commands_keep opener opens path from (Then c others) p q al h e =
+  commands_keep opener opens path from (Ends at) p q read al h e = same_keeps p q h e
+  commands_keep opener opens path from (Fails name at) p q read al h e = absurd (run_err (refusal_at path at name) q e)
+  commands_keep opener opens path from (Then c others) p q read al h e =
       let r = run_bind _ _ q e in
       let mid = run_bind _ _ q r.2 in
-      let stepped = keeping.steps p.state from c.sexp r.0 al h (placed_ok path c.start (step p.state from c.sexp) r.0 r.1) in
+      let stepped = keeping.steps p.state from c.sexp r.0 al read.0 h (placed_ok path c.start (step p.state from c.sexp) r.0 r.1) in
       let here = opens path from c.start r.0.1 (record p { state = r.0.0 }) mid.0 al stepped mid.1 in
-      unless (is_exit r.0.1) mid.0 q _ here (λ k. commands_keep opener opens path from others mid.0 q al here k) mid.2
+      unless (is_exit r.0.1) mid.0 q _ here (λ k. commands_keep opener opens path from others mid.0 q read.1 al here k) mid.2
 
   reference_keeps : (path bytes : List ℕ) (p q : Progress) → P p.state → run_reference path bytes p ≡ Ok q → P q.state
   unfolding run_reference
   reference_keeps path bytes p q h e =
-      commands_keep open_nothing (λ path from at what p q al h k. same_keeps p q h k) path origin.Reference _ p q keeping.reference h e
+      commands_keep open_nothing (λ path from at what p q al h k. same_keeps p q h k) path origin.Reference _ p q (keeping.read false bytes) keeping.reference h e
 
   module _ (files : Files) where
     abbrev Deeper : Option Runner → Type 0
@@ -106,7 +114,7 @@ module _ (P : State → Type 0) (Allowed : Origin → Type 0) (keeping : Keeping
 
     file_keeps : (deeper : Option Runner) → Deeper deeper → (proof : Bool) → Runs (run_file files deeper proof)
     unfolding run_file
-    file_keeps deeper runs proof path from bytes p q al h e = commands_keep (open_file files deeper) (open_keeps deeper runs) path from _ p q al h e
+    file_keeps deeper runs proof path from bytes p q al h e = commands_keep (open_file files deeper) (open_keeps deeper runs) path from _ p q (keeping.read proof bytes) al h e
 
     included_keeps : (left : ℕ) → Deeper (included_runner files left)
     unfolding included_runner

@@ -5,7 +5,7 @@ use Rattle.eo_io.specs.Library.{Files}
 use Rattle.eo_rule.specs.Derivability.{Derives}
 use Rattle.eo_run.specs.Check.{checked, ended, verdict}
 use Rattle.eo_run.specs.Refutation.{Refutes}
-use Rattle.eo_run.proofs.Runs.{Keeping, run_bind, signature_keeps, job_reference_keeps, proof_keeps, given_keeps}
+use Rattle.eo_run.proofs.Runs.{Keeping, any_commands, run_bind, signature_keeps, job_reference_keeps, proof_keeps, given_keeps}
 use Rattle.eo_run.specs.Run.{Progress, Ran, if_given, first_progress, run_signature, run_job_reference, before_proof, run_check}
 use Rattle.eo_sound.specs.Soundness.{IsSound}
 use Rattle.eo_session.specs.State.{State, first_state, begin_reference, end_fault}
@@ -22,26 +22,29 @@ use Rattle.eo_term.specs.Tree.{truth}
 Any : Origin → Type 0
 Any from = Unit {0}
 
+Each : Sexp → Type 0
+Each s = Unit {0}
+
 module _ (first : (closed : Bool) → IsSound (first_state closed)) (begin : (st new : State) → IsSound st → begin_reference st ≡ Ok new → IsSound new) (command : (st : State) (from : Origin) (s : Sexp) (r : State × Next) → IsSound st → step st from s ≡ Ok r → IsSound r.0) where
-  keeping : Keeping IsSound Any
-  unfolding Any
-  keeping = record { steps = λ st from s r al h e. command st from s r h e; begins = begin; reference = tt }
+  keeping : Keeping IsSound Any Each
+  unfolding Any Each
+  keeping = record { read = λ proof bytes. any_commands Each (λ s. tt) _; steps = λ st from s r al read h e. command st from s r h e; begins = begin; reference = tt }
 
   check_sound : (files : Files) (job : CheckJob) (q : Progress) → run_check files job ≡ Ok q → IsSound q.state
   unfolding run_check before_proof Any
   check_sound files job q e =
       let before = run_bind _ _ q e in
       let included = run_bind _ _ before.0 before.1 in
-      proof_keeps IsSound Any keeping files tt job.proof before.0 q
-      (given_keeps IsSound Any keeping files (run_job_reference files) job.reference included.0 before.0
-      (λ name k. job_reference_keeps IsSound Any keeping files name included.0 before.0 (include_sound included.0 included.1) k)
+      proof_keeps IsSound Any Each keeping files tt job.proof before.0 q
+      (given_keeps IsSound Any Each keeping files (run_job_reference files) job.reference included.0 before.0
+      (λ name k. job_reference_keeps IsSound Any Each keeping files name included.0 before.0 (include_sound included.0 included.1) k)
       (include_sound included.0 included.1) included.2)
       before.2
     where
       include_sound : (p : Progress) → if_given (run_signature files) job.include (first_progress job) ≡ Ok p → IsSound p.state
       include_sound p k =
-          given_keeps IsSound Any keeping files (run_signature files) job.include (first_progress job) p
-          (λ name m. signature_keeps IsSound Any keeping files tt name (first_progress job) p (first job.closed) m)
+          given_keeps IsSound Any Each keeping files (run_signature files) job.include (first_progress job) p
+          (λ name m. signature_keeps IsSound Any Each keeping files tt name (first_progress job) p (first job.closed) m)
           (first job.closed) k
 
 -- ---- the end

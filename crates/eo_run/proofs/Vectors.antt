@@ -1,5 +1,5 @@
 -- Whole checks, and the line that is printed of each.
-use Rattle.std.specs.Prelude.{◌≡◌, refl, ℕ, false, List, [], ◌∷◌, ◌++◌, None, Some, codes, replicate}
+use Rattle.std.specs.Prelude.{◌≡◌, refl, ℕ, false, List, [], ◌∷◌, ◌++◌, None, Some, codes}
 use Rattle.eo_io.specs.Library.{Files}
 use Rattle.eo_run.proofs.Computed.{computed}
 use Rattle.eo_run.specs.Check.{verdict}
@@ -63,16 +63,6 @@ unsat_alone = refl
 unsat_twice : Prints (line (codes "(assert true)")) (codes "unsat unsat") (codes "refused F11 BadCommand p.eo:1:6")
 unfolding computed
 unsat_twice = refl
-
--- 513 times `(`, the first being the outer pair
-open_lists : Prints (line (codes "(assert true)")) (replicate 513 40) (codes "refused F02 Unclosed p.eo:1:513")
-unfolding computed
-open_lists = refl
-
--- 514 times `(`
-deep_lists : Prints (line (codes "(assert true)")) (replicate 514 40) (codes "refused F07 Nesting p.eo:1:513")
-unfolding computed
-deep_lists = refl
 
 -- both wrappings, and quoted symbols
 wrapped : Prints (line (codes "(assert false)")) (line (codes "unsat") ++ line (codes "(") ++ line (codes "(assume |@p1| |false|)") ++ line (codes ")")) (codes "correct")
@@ -198,10 +188,6 @@ stuck_call_tested = refl
 stuck_call : Refuses (line (codes "(program $g ((x Bool)) :signature (Bool) Bool ((($g false) true)))") ++ codes "(assume @p1 ($g true))") (codes "refused F16 Stuck p.eo:2:67")
 unfolding computed
 stuck_call = refl
-
-endless_call : Refuses (line (codes "(program $h ((x Bool)) :signature (Bool) Bool ((($h x) ($h x))))") ++ codes "(assume @p1 ($h true))") (codes "refused F19 EvalDepth p.eo:2:65")
-unfolding computed
-endless_call = refl
 
 -- a term is not asserted where another one is
 other_formula : Refuses (codes "(declare-const p Bool)(assume a p)") (codes "refused F28 NotAsserted p.eo:1:22")

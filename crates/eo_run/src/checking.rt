@@ -65,7 +65,8 @@ pub(crate) struct Named<'a> {
 /// - `OutOfMemory`: there was no memory left.
 ///
 /// No file of the library is open, before or after. The file of a refusal is one of the paths. In a
-/// closed check the programs and rules are those that were declared before the proof.
+/// closed check the programs and rules are those that were declared before the proof: `closed` is a
+/// law, which follows from the definitions, whatever the verdict.
 pub fn check_files<L: Library>(
     alloc: Global,
     job: &CheckJob,

@@ -8,13 +8,14 @@ use Rattle.eo_base.specs.declared.FaultName.{FaultName}
 use Rattle.eo_base.specs.declared.FaultName.TheVariants.{Redeclared, ProofDeclares}
 use Rattle.eo_base.specs.Answers.{Tells}
 use Rattle.eo_base.specs.Checks.{Checked, Passed, ◌>>=◌, require, no_fault}
+use Rattle.eo_base.proofs.Tests.{both}
 use Rattle.eo_base.proofs.ChecksLemmas.{ok_injective, bind_ok, bind_step, bind_fails, require_then}
 use Rattle.eo_sig.specs.declared.records.Entry.{Entry}
 use Rattle.eo_sig.specs.declared.refused.SigRefused.{SigRefused}
 use Rattle.eo_sig.specs.declared.refused.SigRefused.TheVariants as sig
 use Rattle.eo_sig.specs.Refused.{Tells as SigTells}
 use Rattle.eo_sig.specs.Reading.{signature, macros, read_named}
-use Rattle.eo_sig.specs.Signature.{Constant, Macro, Named, NamesConstant, NamesMacro, IsConstant, Attribute, Plain, lookup, constant_at, is_reserved, may_type, may_fold, argument_types, implicit_occur, first_wrong, constant_may_hold, constant_fault}
+use Rattle.eo_sig.specs.Signature.{Signature, Constant, Macro, Named, NamesConstant, NamesMacro, IsConstant, Attribute, Plain, lookup, constant_at, is_free, is_reserved, may_type, may_fold, argument_types, implicit_occur, first_wrong, constant_may_hold, constant_fault}
 use Rattle.eo_term.specs.Tree.{Tree, Con, Num, Bits, Str, Par, Var, App, Arr, Qar, Op, tree_eq, is_value, may_be_type}
 use Rattle.eo_names.specs.declared.refused.ElabRefused.{ElabRefused}
 use Rattle.eo_names.specs.Refused.{told as elab_told}
@@ -76,6 +77,14 @@ module _ (st : State) (name : List ℕ) where
       second : (a b : Bool) → ((a && false) || b) ≡ true → b ≡ true
       second true b h = h
       second false b h = h
+
+-- a name that is free stands for nothing
+pub free-none : (S : Signature) (ms : List Macro) (name : List ℕ) → is_free S ms name ≡ true → lookup S ms name ≡ None
+free-none S ms name e = by (lookup S ms name) (both e).1
+  where
+    by : (o : Option Named) → is_none o ≡ true → o ≡ None
+    by None q = refl
+    by (Some n) q = absurd (true≢false (sym q))
 
 -- what is found by its name
 module _ (h : Held) (name bytes : List ℕ) (same : bytes ≡ name) (o : Option Entry) (told : (ts : List Tree) → option_map read_named o ≡ lookup (signature ts h.signature) (macros ts h.signature) bytes) where

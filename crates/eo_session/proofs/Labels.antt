@@ -48,7 +48,7 @@ no_position name ms m h e =
     last true = refl
     last false = refl
 
-free_macro : (S : Signature) (ms : List Macro) (m : Macro) (name : List ℕ) → is_free S ms name ≡ true → bytes_eq name m.name ≡ false → is_free S (ms ++ m ∷ []) name ≡ true
+pub free_macro : (S : Signature) (ms : List Macro) (m : Macro) (name : List ℕ) → is_free S ms name ≡ true → bytes_eq name m.name ≡ false → is_free S (ms ++ m ∷ []) name ≡ true
 free_macro S ms m name h e =
     by (is_reserved name) (constant_named S name) (macro_named ms name) (macro_named (ms ++ m ∷ []) name) (program_named S name) (λ q. no_position name ms m q e) h
   where

@@ -1,7 +1,8 @@
 //! Commands that declare.
 ghost use Rattle.std.specs.Prelude.{◌≡◌, ◌<◌, Some, Ok, List, [], ◌∷◌, length, true, false, not, ◌&&◌, Contains, OnOk};
 ghost use Rattle.eo_sig.specs.Reading.{read_attribute, read_constant, read_macro, read_program, read_named};
-ghost use Rattle.eo_sig.specs.Reading.{ConstBelow, MacroBelow, ProgramBelow, IsFree, IsWithin};
+ghost use Rattle.eo_sig.specs.Reading.{ConstBelow, MacroBelow, ProgramBelow, IsFree, IsWithin, signature, macros};
+ghost use Rattle.eo_sig.specs.Signature.{is_free};
 ghost use Rattle.eo_shape.specs.Reading.{read_attribute as shape_of, read_program as program_of};
 ghost use Rattle.eo_term.specs.Tree.{Tree};
 ghost use Rattle.eo_term.specs.Growth.{tree_in};
@@ -22,7 +23,8 @@ use crate::{Origin, Refused};
 use eo_base::FaultName;
 use eo_declare::{
     declared_const, declared_fun, declared_literals, declared_parameterized, declared_program,
-    declared_sort, defined, defined_fun, defined_sort, ordering_law, reference_law,
+    declared_sort, defined, defined_allowed, defined_fun, defined_sort, ordering_law,
+    reference_law,
 };
 use eo_elab::Setting;
 use eo_sexp::{Children, Sexp};
@@ -159,6 +161,9 @@ impl Held {
         ensures whole { OnOk result (IsWhole self.new) }
         ensures does { Does result (step.define (state_of self.old) name.now params.now body.now) self.new }
     {
+        if self.signature.is_free(name) {
+            return self.define_free(name, params, body);
+        }
         ordering_law();
         let d = defined(
             self.alloc,
@@ -169,6 +174,30 @@ impl Held {
             &mut self.table,
         )?;
         self.add_macro(d)
+    }
+
+    // The same for a name that is free, which is not asked again.
+    fn define_free(
+        &mut self,
+        name: &[u8],
+        params: &ParameterShapes<'_>,
+        body: &Sexp<'_>,
+    ) -> Result<(), Refused>
+        requires whole { IsWhole self.old }
+        requires free { (ts : List Tree) → is_free (signature ts self.old.signature) (macros ts self.old.signature) name.now ≡ true }
+        ensures whole { OnOk result (IsWhole self.new) }
+        ensures does { Does result (step.define (state_of self.old) name.now params.now body.now) self.new }
+    {
+        ordering_law();
+        let d = defined_allowed(
+            self.alloc,
+            name,
+            params,
+            body,
+            &self.signature,
+            &mut self.table,
+        )?;
+        self.add_new_macro(d)
     }
 
     /// Defines a macro of the reference file, whose body has a type that says nothing. It may repeat

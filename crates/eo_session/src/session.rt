@@ -191,8 +191,8 @@ impl Session {
     /// which says how it ends ([`eo_eval::Evaluator::evaluate`]):
     ///
     /// - `Stuck`: it has no value.
-    /// - `EvalDepth`: more than 1000 calls of programs are open at once.
-    /// - `EvalCalls`: more than 1,000,000 different calls are begun.
+    /// - `EvalDepth`: more than 1,000,000 calls of programs are open at once.
+    /// - `EvalCalls`: more than 2,000,000 different calls are begun.
     /// - `NumberRange`: a number is out of range.
     /// - `TermHeight`: a term is too tall.
     ///

@@ -13,7 +13,7 @@ use Rattle.eo_sexp.specs.declared.lent.Node.TheVariants as node
 use Rattle.eo_sexp.specs.declared.buffer.Open.{Open}
 use Rattle.eo_sexp.specs.declared.count.Count.{Count}
 use Rattle.eo_sexp.specs.Counts.{count_of}
-use Rattle.eo_sexp.specs.Nodes.{trees, token_text, AreLinked, HasText, Holds, first_of}
+use Rattle.eo_sexp.specs.Nodes.{trees, token_text, Delimits, AreLinked, HasText, Holds, first_of}
 use Rattle.eo_sexp.specs.Built.{OpenList, Built, with_child, closed, parts_in, parts_of}
 use Rattle.eo_sexp.specs.Buffers.{open_lists, outside, built, AreOpen, counted}
 use Rattle.eo_sexp.specs.Sizes.{size_of_all}
@@ -153,7 +153,7 @@ text-append bytes more false from to h = slice-append bytes more from to h.0 h.1
 pub trees-bytes : (bytes more : List ℕ) (ns : List Node) → AreLinked bytes ns → trees (bytes ++ more) ns ≡ trees bytes ns
 trees-bytes bytes more [] h = refl
 trees-bytes bytes more (node.Atom k d from to ∷ ns) h =
-    ap (λ t. Atom (kind_meant k) t (record { from = from; to = to }) ∷ trees (bytes ++ more) ns) (text-append bytes more d from to h.0)
+    ap (λ t. Atom (kind_meant k) t (record { from = from; to = to }) ∷ trees (bytes ++ more) ns) (text-append bytes more d from to h.0.0)
     ∙ ap (λ ss. Atom (kind_meant k) (token_text bytes d from to) (record { from = from; to = to }) ∷ ss) (trees-bytes bytes more ns h.1)
 trees-bytes bytes more (node.List c i from to ∷ ns) h = ap (λ ss. Listed (sexps_of (take (count_of c) ss)) (record { from = from; to = to }) ∷ drop (count_of c) ss) (trees-bytes bytes more ns h.1)
 
@@ -163,7 +163,7 @@ text-within bytes more false from to h = (h.0, omega (arith, h.1, length-append 
 
 pub linked-bytes : (bytes more : List ℕ) (ns : List Node) → AreLinked bytes ns → AreLinked (bytes ++ more) ns
 linked-bytes bytes more [] h = tt
-linked-bytes bytes more (node.Atom k d from to ∷ ns) h = (text-within bytes more d from to h.0, linked-bytes bytes more ns h.1)
+linked-bytes bytes more (node.Atom k d from to ∷ ns) h = ((text-within bytes more d from to h.0.0, h.0.1), linked-bytes bytes more ns h.1)
 linked-bytes bytes more (node.List c i from to ∷ ns) h =
     let same = trees-bytes bytes more ns h.1 in (
       record {
@@ -245,9 +245,9 @@ whole-first bytes ns (o ∷ os) h e s = cc
 
 -- ---- one atom alone
 
-pub alone-open : (bytes : List ℕ) (ns : List Node) (os : List Open) (k : AtomKind) (d : Bool) (from to : ℕ) → open_lists bytes ns os ≡ [] → HasText bytes d from to → AreOpen bytes (node.Atom k d from to ∷ []) os
-alone-open bytes ns [] k d from to e h = (h, tt)
-alone-open bytes ns (o ∷ os) k d from to e h = cc
+pub alone-open : (bytes : List ℕ) (ns : List Node) (os : List Open) (k : AtomKind) (d : Bool) (from to : ℕ) → open_lists bytes ns os ≡ [] → HasText bytes d from to → Delimits (kind_meant k) d → AreOpen bytes (node.Atom k d from to ∷ []) os
+alone-open bytes ns [] k d from to e h g = ((h, g), tt)
+alone-open bytes ns (o ∷ os) k d from to e h g = cc
 
 pub alone-built : (bytes : List ℕ) (ns : List Node) (os : List Open) (k : AtomKind) (d : Bool) (from to : ℕ) → open_lists bytes ns os ≡ [] → outside bytes ns os ≡ [] →
     built bytes (node.Atom k d from to ∷ []) os ≡ with_child (built bytes ns os) (Atom (kind_meant k) (token_text bytes d from to) (record { from = from; to = to }))

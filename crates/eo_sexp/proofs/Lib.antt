@@ -37,6 +37,7 @@ pub mod TokenPositions
 pub mod Sizes
 pub mod RunSteps
 pub mod FedRuns
+pub mod ByteTests
 pub mod PlainTables
 pub mod TokenRuns
 pub mod CommentRuns
@@ -46,3 +47,8 @@ mod QuotedRuns
 mod PartsOf
 mod BlankRuns
 mod AtomPlaces
+pub mod PrintedAtoms
+pub mod PrintedBack
+pub mod PrintedLines
+pub mod ReadSymbols
+mod ReadCommands

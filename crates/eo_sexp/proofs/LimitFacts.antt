@@ -14,7 +14,7 @@ pub some_command : 1 ≤ limits.command
 unfolding limits
 some_command = omega arith
 
-pub nesting_is : limits.nesting ≡ 512
+pub nesting_is : limits.nesting ≡ 100_000
 unfolding limits
 nesting_is = refl
 

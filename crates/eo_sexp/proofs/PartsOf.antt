@@ -28,7 +28,7 @@ later-parts bytes (suc n) (s ∷ ss) h = later-parts bytes n ss h.1
 all-parts : (bytes : List ℕ) (ns : List Node) → AreLinked bytes ns → AllParts bytes (trees bytes ns)
 unfolding AllParts
 all-parts bytes [] h = tt
-all-parts bytes (node.Atom k delimited from to ∷ ns) h = ((delimited, h.0, refl), all-parts bytes ns h.1)
+all-parts bytes (node.Atom k delimited from to ∷ ns) h = ((delimited, h.0.1, h.0.0, refl), all-parts bytes ns h.1)
 all-parts bytes (node.List children inside from to ∷ ns) h =
     let later = all-parts bytes ns h.1 in
     (first-parts bytes (count_of children) (trees bytes ns) later, later-parts bytes (count_of children) (trees bytes ns) later)

@@ -1,31 +1,13 @@
 -- Each table of bytes is held against the definition at each of the 256 bytes, by computing.
-use Rattle.std.proofs.Common.{◌≡◌, ◌≢◌, ◌≤◌, ℕ, zero, suc, ◌<◌, Bool, true, false, not, ◌&&◌, nat_eq, get_or, List, length, refl, sym, ap, ◌∙◌, arith, inl, inr}
-use Rattle.std.specs.Bool.{beq}
-use Rattle.std.proofs.lemmas.Bool.{cases_eq, cases_lt, eqb-true}
+use Rattle.std.proofs.Common.{◌≡◌, ◌≢◌, ◌≤◌, ℕ, ◌<◌, Bool, true, false, not, nat_eq, get_or, List, length, refl, sym, ap, ◌∙◌, arith, inl, inr}
+use Rattle.std.proofs.lemmas.Bool.{cases_lt, eqb-true}
 use Rattle.std.proofs.lemmas.List.{get_or_past}
 use Rattle.eo_sexp.specs.Lexicon.{Class, Word, class, is_space, is_text, is_quotable, is_word, is_line_end}
 use Rattle.eo_sexp.specs.declared.token.Token.TheVariants as token
 use Rattle.eo_sexp.specs.declared.classes.TheConstants.{WORD}
 use Rattle.eo_sexp.specs.declared.plain.TheConstants.{TEXT, QUOTED, COMMENT}
 use Rattle.eo_sexp.specs.Token.{is_plain}
-
--- the two tests agree below n
-agree_below : (ℕ → Bool) → (ℕ → Bool) → ℕ → Bool
-agree_below f g zero = true
-agree_below f g (suc n) = beq (f n) (g n) && agree_below f g n
-
-both_of : (x y rest : Bool) → (beq x y && rest) ≡ true → (x ≡ y) × (rest ≡ true)
-both_of true true rest h = (refl, h)
-both_of true false rest h = cc
-both_of false true rest h = cc
-both_of false false rest h = (refl, h)
-
-agree_at : (f g : ℕ → Bool) (n : ℕ) → agree_below f g n ≡ true → (b : ℕ) → b < n → f b ≡ g b
-unfolding agree_below
-agree_at f g zero h b lt = absurd (omega arith)
-agree_at f g (suc n) h b lt =
-    let both = both_of (f n) (g n) (agree_below f g n) h in
-    elim (cases_eq b n) [ inl same ↦ rw same both.0 | inr other ↦ agree_at f g n both.1 b (omega arith) ]
+use Rattle.eo_sexp.proofs.ByteTests.{agree_below, agree_at}
 
 from_table : (table : List ℕ) (plain : ℕ → Bool) → length table ≡ 256 → agree_below (λ k. nat_eq (get_or table k 0) 49) plain 256 ≡ true → (b : ℕ) → get_or table b 0 ≡ 49 → plain b ≡ true
 from_table table plain long h b e = elim (cases_lt b 256) [ inl below ↦ sym (agree_at _ _ 256 h b below) ∙ ap (λ n. nat_eq n 49) e | inr beyond ↦ absurd (none beyond) ]

@@ -20,3 +20,6 @@ pub mod Built
 pub mod Buffers
 pub mod Pairs
 pub mod Parts
+pub mod Printing
+pub mod ReadNames
+pub mod ReadBack

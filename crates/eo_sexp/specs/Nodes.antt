@@ -7,6 +7,7 @@ use Rattle.eo_sexp.specs.declared.token.AtomKind.{AtomKind}
 use Rattle.eo_sexp.specs.declared.lent.Node.{Node}
 use Rattle.eo_sexp.specs.declared.lent.Node.TheVariants as node
 use Rattle.eo_sexp.specs.declared.lent.Parts.{Parts}
+use Rattle.eo_sexp.specs.AtomKind as kind
 use Rattle.eo_sexp.specs.Counts.{count_of}
 use Rattle.eo_sexp.specs.Token.{kind_meant}
 
@@ -31,6 +32,13 @@ abbrev pub first_of : List Sexp → Sexp
 first_of [] = Listed NoSexp (record { from = 0; to = 0 })
 first_of (s ∷ ss) = s
 
+-- The delimiters that an atom of this kind may have at its ends: a string has its quotes, a symbol its bars or none, any other atom none.
+abbrev pub Delimits : kind.AtomKind → (delimited : Bool) → Type 0
+Delimits kind.Symbol delimited = Unit {0}
+Delimits kind.Keyword delimited = delimited ≡ false
+Delimits kind.Literal delimited = delimited ≡ false
+Delimits kind.String delimited = delimited ≡ true
+
 -- the text of a token lies in the bytes
 abbrev pub HasText : List ℕ → (delimited : Bool) → (from to : ℕ) → Type 0
 HasText bytes true from to = (from + 2 ≤ to) × (to ≤ length bytes + 1)
@@ -44,7 +52,7 @@ pub record Holds (bytes : List ℕ) (children inside : ℕ) (ns : List Node) : T
 
 -- a node fits those behind it
 abbrev pub Fits : List ℕ → Node → List Node → Type 0
-Fits bytes (node.Atom k delimited from to) ns = HasText bytes delimited from to
+Fits bytes (node.Atom k delimited from to) ns = HasText bytes delimited from to × Delimits (kind_meant k) delimited
 Fits bytes (node.List children inside from to) ns = Holds bytes (count_of children) inside ns
 
 abbrev pub AreLinked : List ℕ → List Node → Type 0

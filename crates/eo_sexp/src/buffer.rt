@@ -1,9 +1,10 @@
 //! The bytes of a command that is begun, and its parts.
 ghost use Rattle.std.specs.Prelude.{◌≡◌, ◌<◌, ◌≤◌, ◌+◌, ◌^◌, ℕ, ◌∷◌, [], ◌++◌, length, take, reverse};
 ghost use Rattle.std.specs.Prelude.{OnOk, IfOk};
-ghost use Rattle.eo_sexp.specs.Nodes.{token_atom, HasText, first_of};
+ghost use Rattle.eo_sexp.specs.Nodes.{token_atom, Delimits, HasText, first_of};
 ghost use Rattle.eo_sexp.specs.Parts.{IsPart};
 ghost use Rattle.eo_sexp.specs.Built.{nothing, with_child, closed, opened, width_of, parts_of};
+ghost use Rattle.eo_sexp.specs.Token.{kind_meant};
 
 use crate::count::Count;
 use crate::lent::{Node, Parts, Sexp, first};
@@ -126,6 +127,7 @@ impl Buffer {
         to: usize,
     ) -> Result<(), AllocError>
         requires text { HasText self.old.bytes delimited from to }
+        requires delimits { Delimits (kind_meant kind) delimited }
         requires short { to ≤ 2 ^ 31 }
         requires own { parts_of self.old ≤ from }
         ensures { OnOk result (self.new ≡ with_child self.old (token_atom self.old.bytes kind delimited from to)) }
@@ -143,6 +145,7 @@ impl Buffer {
     /// Adds an atom that is the whole command. It takes no memory.
     pub(crate) fn be_atom(&mut self, kind: AtomKind, delimited: bool, from: usize, to: usize)
         requires text { HasText self.old.bytes delimited from to }
+        requires delimits { Delimits (kind_meant kind) delimited }
         requires short { to ≤ 2 ^ 31 }
         requires none { self.old.done ≡ [] }
         requires outside { self.old.open_lists ≡ [] }

@@ -4,6 +4,7 @@
 ghost use Rattle.eo_base.specs.Limits.{limits};
 ghost use Rattle.eo_sexp.specs.Answering.{AnswersAlone};
 ghost use Rattle.eo_sexp.specs.Cutting.{ReadsInPieces};
+ghost use Rattle.eo_sexp.specs.ReadBack.{CommandsReadBack, LinesReadBack, SymbolsPrintAgain};
 
 mod buffer;
 mod classes;
@@ -77,4 +78,13 @@ pub fn pieces_law()
 /// A law: what the answers of a collector tell by themselves.
 pub fn answers_law()
     ensures { AnswersAlone limits }
+{}
+
+/// A law: what is printed reads back as it is. A printed s-expression is read as that command,
+/// whatever comes after the byte that ends it, and lines of them are the commands of a file. The
+/// symbols of each command that is read can be printed again.
+pub fn printed_law()
+    ensures command { CommandsReadBack limits }
+    ensures lines { LinesReadBack limits }
+    ensures symbols { SymbolsPrintAgain limits }
 {}

@@ -2,7 +2,7 @@
 ghost use Rattle.std.specs.Prelude.{◌≡◌, ℕ, ◌+◌, ◌<◌, ◌≤◌, ◌^◌, [], length, get_or, IfOk};
 ghost use Rattle.std.specs.Prelude.{IsTrue, OnOk, suc, true, false, if◌then◌else◌, ◌==◌};
 ghost use Rattle.eo_base.specs.Limits.{limits};
-ghost use Rattle.eo_sexp.specs.Nodes.{token_atom, HasText};
+ghost use Rattle.eo_sexp.specs.Nodes.{token_atom, Delimits, HasText};
 ghost use Rattle.eo_sexp.specs.Built.{Built, nothing, with_byte, with_child, parts_of};
 ghost use Rattle.eo_sexp.specs.Token.{class_of, atom_kind, is_plain, kind_meant};
 ghost use Rattle.eo_sexp.specs.Reader.{held, IsAtom, AddsChild, ClosesList, is_full, IsReader};
@@ -68,6 +68,7 @@ fn add_atom(
     to: usize,
 ) -> Result<bool, AllocError>
     requires text { HasText buffer.old.bytes delimited from to }
+    requires delimits { Delimits (kind_meant kind) delimited }
     requires short { to ≤ 2 ^ 31 }
     requires own { parts_of buffer.old ≤ from }
     ensures bytes { OnOk result (buffer.new.bytes ≡ buffer.old.bytes) }
@@ -728,7 +729,8 @@ impl Reader {
     #[inline(always)]
     fn kind(&self, bytes: &[u8], token: Token) -> AtomKind
         requires { self.now.from ≤ length bytes.now }
-        ensures { kind_meant result ≡ atom_kind token (text_at (Position.Token token) self.now.from bytes.now) }
+        ensures kind { kind_meant result ≡ atom_kind token (text_at (Position.Token token) self.now.from bytes.now) }
+        ensures delimits { Delimits (kind_meant result) (is_delimited token) }
     {
         match token {
             Token::Word => kind_of(&bytes[self.from..]),

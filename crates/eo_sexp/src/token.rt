@@ -1,7 +1,8 @@
 //! Tokens of more than one byte, a byte at a time.
-ghost use Rattle.std.specs.Prelude.{◌≡◌};
+ghost use Rattle.std.specs.Prelude.{◌≡◌, false};
 ghost use Rattle.eo_base.specs.Limits.{limits};
 ghost use Rattle.eo_sexp.specs.Lexicon.{kind_of};
+ghost use Rattle.eo_sexp.specs.Nodes.{Delimits};
 ghost use Rattle.eo_sexp.specs.Kinds.{kind_told};
 ghost use Rattle.eo_sexp.specs.Token.{go_on, close, token_turn, may_end, kind_meant};
 
@@ -117,7 +118,8 @@ pub(crate) fn may_end(token: Token) -> bool
 #[tactic(auto, unfolding(crate::specs::Lexicon::kind_of, crate::specs::Lexicon::begins_digit))]
 #[inline(always)]
 pub(crate) fn kind_of(word: &[u8]) -> AtomKind
-    ensures { kind_meant result ≡ kind_of word.now }
+    ensures kind { kind_meant result ≡ kind_of word.now }
+    ensures plain { Delimits (kind_meant result) false }
 {
     match word {
         [b':', ..] => AtomKind::Keyword,

@@ -6,6 +6,7 @@
 #![tactic(auto)]
 
 mod laws;
+mod ordering;
 mod patterns;
 mod records;
 mod refused;
@@ -16,6 +17,7 @@ mod view;
 
 pub use eo_lit::LiteralClass;
 pub use laws::{growth_law, longer_law};
+pub use ordering::are_ordered;
 pub use records::{
     Attribute, Case, Cases, ConstDecl, Declaration, Declared, Entry, IdPairs, MacroDecl, Param,
     Params, PremiseShape, ProgramDecl, RuleDecl,

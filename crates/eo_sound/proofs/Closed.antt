@@ -149,7 +149,7 @@ module _ (st : State) (closed : st.closed ≡ true) where
 -- ---- commands
 
 counted_quiet : (st new : State) → IsQuiet st new → IsQuiet st (with_command new)
-counted_quiet st new q = record { closed = q.closed; programs_stay = q.programs_stay; rules_stay = q.rules_stay }
+counted_quiet st new q = record { closed = q.closed; programs_stay = q.programs_stay; rules_stay = q.rules_stay; grows = q.grows }
 
 pub step_quiet : (st : State) (from : Origin) (s : Sexp) (r : State × Next) → st.closed ≡ true → from ≢ origin.Signature → step st from s ≡ Ok r → IsQuiet st r.0
 unfolding step uncounted placed_command scoped_command

@@ -4,9 +4,9 @@ use Rattle.std.proofs.Common.{subst, ap, append_assoc, arith}
 use Rattle.std.proofs.lemmas.List.Elements.{All-nil, All-cons, All-append, All-push, All-weaker, All-head, All-tail, Contains-append_left, Contains-append_right}
 use Rattle.std.proofs.lemmas.Option.{none-some, same_Some}
 use Rattle.eo_proof.specs.Scopes.{Fact, Scope, Scopes, fact, opened_facts, formula_named, fact_named, live_facts, in_innermost, hypotheses}
-use Rattle.eo_rule.specs.Derivability.{Derives, by_assumption}
 use Rattle.eo_sig.specs.Signature.{Signature}
 use Rattle.eo_term.specs.Tree.{Tree}
+use Rattle.eo_rule.specs.ByRules.{DerivesBy, by_assumption}
 use Rattle.eo_sound.specs.Layers.{Layers}
 use Rattle.eo_sound.specs.Soundness.{AllDerive, in_force, FactsDerive}
 
@@ -40,11 +40,6 @@ pub outside_holds : (P : Tree → Type 0) (ss : List Scope) → All P (map (λ (
 outside_holds P [] all = all
 outside_holds P (s ∷ ss) all = All-tail P s.hypothesis (map (λ (s : Scope). s.hypothesis) ss) all
 
--- without the innermost scope
-pub outside_derives : (S : Signature) (assertions : List Tree) (out : List Fact) (ss : List Scope) → FactsDerive S assertions out ss → FactsDerive S assertions out (drop 1 ss)
-outside_derives S assertions out [] d = d
-outside_derives S assertions out (s ∷ ss) d = d.1
-
 -- ---- one more
 
 -- a fact more keeps the assumptions
@@ -52,52 +47,58 @@ pub fact_holds : (P : Tree → Type 0) (out : List Fact) (ss : List Scope) (f : 
 fact_holds P out [] f all = all
 fact_holds P out (s ∷ ss) f all = all
 
--- a fact more, which is derivable from what is in force
-pub fact_derives : (S : Signature) (assertions : List Tree) (out : List Fact) (ss : List Scope) (f : Fact) → FactsDerive S assertions out ss → Derives S (in_force assertions ss) f.formula → FactsDerive S assertions (in_innermost out ss f).outermost (in_innermost out ss f).opened
-fact_derives S assertions out [] f d own = All-push (OfFormula (Derives S assertions)) out f d own
-fact_derives S assertions out (s ∷ ss) f d own =
-    (All-push (OfFormula (Derives S (in_force assertions (s ∷ ss)))) s.facts f d.0 own, d.1)
-
--- a scope more, whose only fact is its assumption
-pub scope_derives : (S : Signature) (assertions : List Tree) (out : List Fact) (ss : List Scope) (name : List ℕ) (t : Tree) → FactsDerive S assertions out ss → FactsDerive S assertions out (record { hypothesis = t; facts = fact name t ∷ [] } ∷ ss)
-scope_derives S assertions out ss name t d =
-    (All-cons P (fact name t) [] (by_assumption (Contains-append_left (t ∷ []) (in_force assertions ss) t (0, omega arith, refl))) (All-nil P), d)
-  where
-    P : Fact → Type 0
-    P = OfFormula (Derives S (t ∷ in_force assertions ss))
-
 -- ---- what the layers below say of more assumptions and declarations
-
-module _ (laws : Layers) where
-  more_force : (S : Signature) (Γ : List Tree) (t : Tree) (fs : List Fact) → AllDerive S Γ fs → AllDerive S (t ∷ Γ) fs
-  more_force S Γ t fs d =
-      All-weaker (OfFormula (Derives S Γ)) (OfFormula (Derives S (t ∷ Γ))) (λ f own. laws.weakens S Γ (t ∷ Γ) f.formula (λ x c. Contains-append_right (t ∷ []) Γ x c) own) fs d
-
-  -- the facts of all scopes are derivable from what is in force
-  live_derive : (S : Signature) (assertions : List Tree) (out : List Fact) (ss : List Scope) → FactsDerive S assertions out ss → AllDerive S (in_force assertions ss) (out ++ opened_facts ss)
-  live_derive S assertions out [] d = All-append (OfFormula (Derives S assertions)) out [] d (All-nil (OfFormula (Derives S assertions)))
-  live_derive S assertions out (s ∷ ss) d =
-      subst (AllDerive S (in_force assertions (s ∷ ss))) (append_assoc out (opened_facts ss) s.facts)
-      (All-append (OfFormula (Derives S (in_force assertions (s ∷ ss)))) (out ++ opened_facts ss) s.facts
-      (more_force S (in_force assertions ss) s.hypothesis (out ++ opened_facts ss) (live_derive S assertions out ss d.1)) d.0)
-
-  -- and so is the one of a name
-  pub named_derives : (S : Signature) (assertions : List Tree) (f : Scopes) (name : List ℕ) (t : Tree) → FactsDerive S assertions f.outermost f.opened → fact_named f name ≡ Some t → Derives S (in_force assertions f.opened) t
-  named_derives S assertions f name t d e =
-      named_holds (Derives S (in_force assertions f.opened)) (live_facts f) name t (live_derive S assertions f.outermost f.opened d) e
-
-  -- ---- no scope is open
-
-  pub declared_derives : (S later : Signature) (assertions : List Tree) (out : List Fact) (ss : List Scope) → ss ≡ [] → FactsDerive S assertions out ss → FactsDerive (S ++ later) assertions out ss
-  declared_derives S later assertions out [] e d =
-      All-weaker (OfFormula (Derives S assertions)) (OfFormula (Derives (S ++ later) assertions)) (λ f own. laws.lasts S later assertions f.formula own) out d
-  declared_derives S later assertions out (s ∷ ss) e d = absurd (cc e)
-
-  pub asserted_derives : (S : Signature) (assertions more : List Tree) (out : List Fact) (ss : List Scope) → ss ≡ [] → FactsDerive S assertions out ss → FactsDerive S (assertions ++ more) out ss
-  asserted_derives S assertions more out [] e d =
-      All-weaker (OfFormula (Derives S assertions)) (OfFormula (Derives S (assertions ++ more))) (λ f own. laws.weakens S assertions (assertions ++ more) f.formula (λ x c. Contains-append_left assertions more x c) own) out d
-  asserted_derives S assertions more out (s ∷ ss) e d = absurd (cc e)
 
 pub none_assumed : (P : Tree → Type 0) (ss : List Scope) → ss ≡ [] → All P (map (λ (s : Scope). s.hypothesis) ss)
 none_assumed P [] e = All-nil P
 none_assumed P (s ∷ ss) e = absurd (cc e)
+
+module _ (allowed : List ℕ → Bool) where
+  -- without the innermost scope
+  pub outside_derives : (S : Signature) (assertions : List Tree) (out : List Fact) (ss : List Scope) → FactsDerive allowed S assertions out ss → FactsDerive allowed S assertions out (drop 1 ss)
+  outside_derives S assertions out [] d = d
+  outside_derives S assertions out (s ∷ ss) d = d.1
+
+  -- a fact more, which is derivable from what is in force
+  pub fact_derives : (S : Signature) (assertions : List Tree) (out : List Fact) (ss : List Scope) (f : Fact) → FactsDerive allowed S assertions out ss → DerivesBy allowed S (in_force assertions ss) f.formula → FactsDerive allowed S assertions (in_innermost out ss f).outermost (in_innermost out ss f).opened
+  fact_derives S assertions out [] f d own = All-push (OfFormula (DerivesBy allowed S assertions)) out f d own
+  fact_derives S assertions out (s ∷ ss) f d own =
+      (All-push (OfFormula (DerivesBy allowed S (in_force assertions (s ∷ ss)))) s.facts f d.0 own, d.1)
+
+  -- a scope more, whose only fact is its assumption
+  pub scope_derives : (S : Signature) (assertions : List Tree) (out : List Fact) (ss : List Scope) (name : List ℕ) (t : Tree) → FactsDerive allowed S assertions out ss → FactsDerive allowed S assertions out (record { hypothesis = t; facts = fact name t ∷ [] } ∷ ss)
+  scope_derives S assertions out ss name t d =
+      (All-cons P (fact name t) [] (by_assumption (Contains-append_left (t ∷ []) (in_force assertions ss) t (0, omega arith, refl))) (All-nil P), d)
+    where
+      P : Fact → Type 0
+      P = OfFormula (DerivesBy allowed S (t ∷ in_force assertions ss))
+
+  module _ (laws : Layers) where
+    more_force : (S : Signature) (Γ : List Tree) (t : Tree) (fs : List Fact) → AllDerive allowed S Γ fs → AllDerive allowed S (t ∷ Γ) fs
+    more_force S Γ t fs d =
+        All-weaker (OfFormula (DerivesBy allowed S Γ)) (OfFormula (DerivesBy allowed S (t ∷ Γ))) (λ f own. laws.weakens allowed S Γ (t ∷ Γ) f.formula (λ x c. Contains-append_right (t ∷ []) Γ x c) own) fs d
+
+    -- the facts of all scopes are derivable from what is in force
+    live_derive : (S : Signature) (assertions : List Tree) (out : List Fact) (ss : List Scope) → FactsDerive allowed S assertions out ss → AllDerive allowed S (in_force assertions ss) (out ++ opened_facts ss)
+    live_derive S assertions out [] d = All-append (OfFormula (DerivesBy allowed S assertions)) out [] d (All-nil (OfFormula (DerivesBy allowed S assertions)))
+    live_derive S assertions out (s ∷ ss) d =
+        subst (AllDerive allowed S (in_force assertions (s ∷ ss))) (append_assoc out (opened_facts ss) s.facts)
+        (All-append (OfFormula (DerivesBy allowed S (in_force assertions (s ∷ ss)))) (out ++ opened_facts ss) s.facts
+        (more_force S (in_force assertions ss) s.hypothesis (out ++ opened_facts ss) (live_derive S assertions out ss d.1)) d.0)
+
+    -- and so is the one of a name
+    pub named_derives : (S : Signature) (assertions : List Tree) (f : Scopes) (name : List ℕ) (t : Tree) → FactsDerive allowed S assertions f.outermost f.opened → fact_named f name ≡ Some t → DerivesBy allowed S (in_force assertions f.opened) t
+    named_derives S assertions f name t d e =
+        named_holds (DerivesBy allowed S (in_force assertions f.opened)) (live_facts f) name t (live_derive S assertions f.outermost f.opened d) e
+
+    -- ---- no scope is open
+
+    pub declared_derives : (S later : Signature) (assertions : List Tree) (out : List Fact) (ss : List Scope) → ss ≡ [] → FactsDerive allowed S assertions out ss → FactsDerive allowed (S ++ later) assertions out ss
+    declared_derives S later assertions out [] e d =
+        All-weaker (OfFormula (DerivesBy allowed S assertions)) (OfFormula (DerivesBy allowed (S ++ later) assertions)) (λ f own. laws.lasts allowed S later assertions f.formula own) out d
+    declared_derives S later assertions out (s ∷ ss) e d = absurd (cc e)
+
+    pub asserted_derives : (S : Signature) (assertions more : List Tree) (out : List Fact) (ss : List Scope) → ss ≡ [] → FactsDerive allowed S assertions out ss → FactsDerive allowed S (assertions ++ more) out ss
+    asserted_derives S assertions more out [] e d =
+        All-weaker (OfFormula (DerivesBy allowed S assertions)) (OfFormula (DerivesBy allowed S (assertions ++ more))) (λ f own. laws.weakens allowed S assertions (assertions ++ more) f.formula (λ x c. Contains-append_left assertions more x c) own) out d
+    asserted_derives S assertions more out (s ∷ ss) e d = absurd (cc e)

@@ -1,6 +1,6 @@
 -- Commands that declare no program and no rule.
 use Rattle.std.specs.Prelude.{◌≡◌, ℕ, Bool, true, false, if◌then◌else◌, List, [], ◌∷◌, ◌++◌, Some, None, Ok, refl}
-use Rattle.std.proofs.Common.{◌∙◌, subst, true≢false}
+use Rattle.std.proofs.Common.{◌∙◌, sym, subst, true≢false}
 use Rattle.std.proofs.lemmas.List.{append-nil}
 use Rattle.std.proofs.lemmas.List.Elements.{filter_map-append}
 use Rattle.eo_base.proofs.ChecksLemmas.{ok_injective, bind_ok, require_then}
@@ -25,8 +25,11 @@ use Rattle.eo_term.specs.Tree.{Tree}
 quiet_then : (st mid new : State) → IsQuiet st mid → ◌≡◌ {A = Checked State} (Ok mid) (Ok new) → IsQuiet st new
 quiet_then st mid new q e = subst (IsQuiet st) (ok_injective mid new e) q
 
+not_grown : (S : Signature) → (later : Signature) × (S ≡ S ++ later)
+not_grown S = ([], sym (append-nil S))
+
 quiet_self : (st : State) → IsQuiet st st
-quiet_self st = record { closed = refl; programs_stay = refl; rules_stay = refl }
+quiet_self st = record { closed = refl; programs_stay = refl; rules_stay = refl; grows = not_grown st.signature }
 
 abbrev declares : SignatureEntry → Bool
 declares (IsConstant d) = false
@@ -53,7 +56,7 @@ by_test st new false x y f g e = g e
 module _ (st new : State) where
   entry_quiet : (e : SignatureEntry) → declares e ≡ false → ◌≡◌ {A = Checked State} (Ok (with_entry st e)) (Ok new) → IsQuiet st new
   entry_quiet e h k =
-      quiet_then st (with_entry st e) new (record { closed = refl; programs_stay = programs_more st.signature e h; rules_stay = rules_more st.signature e h }) k
+      quiet_then st (with_entry st e) new (record { closed = refl; programs_stay = programs_more st.signature e h; rules_stay = rules_more st.signature e h; grows = (e ∷ [], refl) }) k
 
   constant_quiet : (d : Constant) → added_constant st d ≡ Ok new → IsQuiet st new
   unfolding added_constant
@@ -82,7 +85,7 @@ module _ (st new : State) where
   macro_quiet m e =
       by_test st new (is_reference_name (context st) m.name) _ _
       (λ k. quiet_then st st new (quiet_self st) (require_then _ _ _ new k).1)
-      (λ k. quiet_then st (with_macro st m) new (record { closed = refl; programs_stay = refl; rules_stay = refl }) k) e
+      (λ k. quiet_then st (with_macro st m) new (record { closed = refl; programs_stay = refl; rules_stay = refl; grows = not_grown st.signature }) k) e
 
   define_quiet : (name : List ℕ) (params : List ParameterShape) (body : Sexp) → define st name params body ≡ Ok new → IsQuiet st new
   define_quiet name params body e = let m = bind_ok (defined (context st) name params body) _ new e in macro_quiet m.0 m.2
@@ -101,7 +104,7 @@ module _ (st new : State) where
       let v = bind_ok (formula st s) _ new free.1 in
       let reference = require_then _ _ _ new v.2 in
       let member = require_then _ _ _ new reference.1 in
-      quiet_then st (with_fact st name v.0) new (record { closed = refl; programs_stay = refl; rules_stay = refl }) member.1
+      quiet_then st (with_fact st name v.0) new (record { closed = refl; programs_stay = refl; rules_stay = refl; grows = not_grown st.signature }) member.1
 
   push_quiet : (name : List ℕ) (s : Sexp) → assume_push st name s ≡ Ok new → IsQuiet st new
   unfolding assume_push
@@ -109,14 +112,14 @@ module _ (st new : State) where
       let room = require_then _ _ _ new e in
       let free = require_then _ _ _ new room.1 in
       let v = bind_ok (formula st s) _ new free.1 in
-      quiet_then st (with_scope st name v.0) new (record { closed = refl; programs_stay = refl; rules_stay = refl }) v.2
+      quiet_then st (with_scope st name v.0) new (record { closed = refl; programs_stay = refl; rules_stay = refl; grows = not_grown st.signature }) v.2
 
   plain_quiet : (s : StepShape) → step_plain st s ≡ Ok new → IsQuiet st new
   unfolding step_plain
   plain_quiet s e =
       let free = require_then _ _ _ new e in
       let k = bind_ok (concluded st None s) _ new free.1 in
-      quiet_then st (with_conclusion st s.name k.0) new (record { closed = refl; programs_stay = refl; rules_stay = refl }) k.2
+      quiet_then st (with_conclusion st s.name k.0) new (record { closed = refl; programs_stay = refl; rules_stay = refl; grows = not_grown st.signature }) k.2
 
   pop_quiet : (s : StepShape) → step_pop st s ≡ Ok new → IsQuiet st new
   unfolding step_pop
@@ -124,14 +127,14 @@ module _ (st new : State) where
       let a = bind_ok _ _ new e in
       let free = require_then _ _ _ new a.2 in
       let k = bind_ok (concluded st (Some a.0) s) _ new free.1 in
-      quiet_then st (with_conclusion (without_scope st) s.name k.0) new (record { closed = refl; programs_stay = refl; rules_stay = refl }) k.2
+      quiet_then st (with_conclusion (without_scope st) s.name k.0) new (record { closed = refl; programs_stay = refl; rules_stay = refl; grows = not_grown st.signature }) k.2
 
   assertion_quiet : (t : Tree) (b : Bool) → IsQuiet st (if b then st else record st { assertions = st.assertions ++ t ∷ [] })
   assertion_quiet t true = quiet_self st
-  assertion_quiet t false = record { closed = refl; programs_stay = refl; rules_stay = refl }
+  assertion_quiet t false = record { closed = refl; programs_stay = refl; rules_stay = refl; grows = not_grown st.signature }
 
   labels_quiet : (mid : State) (labels : List Label) → IsQuiet st mid → IsQuiet st (with_labels mid labels)
-  labels_quiet mid labels q = record { closed = q.closed; programs_stay = q.programs_stay; rules_stay = q.rules_stay }
+  labels_quiet mid labels q = record { closed = q.closed; programs_stay = q.programs_stay; rules_stay = q.rules_stay; grows = q.grows }
 
   assert_quiet : (s : Sexp) → assert st s ≡ Ok new → IsQuiet st new
   unfolding assert

@@ -19,7 +19,7 @@ use Rattle.eo_names.specs.Readers.{Label}
 use Rattle.eo_sound.proofs.Deriving.{declared_derives, asserted_derives, none_assumed}
 use Rattle.eo_session.proofs.Fitting.{MayFold, slice_get_more, fits_entry, fits_macro, fits_macros}
 use Rattle.eo_sound.specs.Layers.{Layers}
-use Rattle.eo_sound.specs.Soundness.{IsSound}
+use Rattle.eo_sound.specs.Soundness.{IsSoundBy}
 use Rattle.eo_session.specs.State.{State, context, context_in, with_entry, with_macro, with_assertion, is_asserted}
 use Rattle.eo_session.specs.Step.{added_constant, type_value, typed_constant, checked_constant, checked_literals, added_macro, define, define_fun, define_sort, define_program, declare_rule, formula_of, label_macro, with_labels, assert}
 use Rattle.eo_session.specs.Origin.{Origin}
@@ -110,137 +110,138 @@ usable_signature S folds ordered = record { terminators = λ f n e. by f n (cons
 
 -- ---- what is declared
 
-pub sound_after : (new st' : State) → IsSound new → ◌≡◌ {A = Checked State} (Ok new) (Ok st') → IsSound st'
-sound_after new st' h e = subst IsSound (ok_injective new st' e) h
-
-by_test : (st' : State) (b : Bool) (x y : Checked State) → (x ≡ Ok st' → IsSound st') → (y ≡ Ok st' → IsSound st') → (if b then x else y) ≡ Ok st' → IsSound st'
-by_test st' true x y f g e = f e
-by_test st' false x y f g e = g e
-
 -- names of terms without parameters are macros
 labels_bound : (labels : List Label) → list_all label_is_closed labels ≡ true → list_all macro_is_bound (map label_macro labels) ≡ true
 labels_bound [] h = refl
 labels_bound (l ∷ ls) h = let p = and_parts (label_is_closed l) (list_all label_is_closed ls) h in (λ i. p.0 i && labels_bound ls p.1 i)
 
-labels_sound : (st : State) → IsSound st → (labels : List Label) → list_all label_is_closed labels ≡ true → IsSound (with_labels st labels)
-labels_sound st h labels closed = record {
-  usable = h.usable;
-  terms = fits_macros st.signature st.signature st.macros (st.macros ++ map label_macro labels) h.terms refl (map label_macro labels) refl (labels_bound labels closed);
-  values = h.values;
-  formulas = h.formulas;
-  facts = h.facts;
-}
+module _ (allowed : List ℕ → Bool) where
+  pub sound_after : (new st' : State) → IsSoundBy allowed new → ◌≡◌ {A = Checked State} (Ok new) (Ok st') → IsSoundBy allowed st'
+  sound_after new st' h e = subst (IsSoundBy allowed) (ok_injective new st' e) h
 
-module _ (laws : Layers) (st : State) (h : IsSound st) where
-  -- a macro more
-  macro_sound : (m : Macro) → macro_is_bound m ≡ true → IsSound (with_macro st m)
-  macro_sound m bound = record {
+  by_test : (st' : State) (b : Bool) (x y : Checked State) → (x ≡ Ok st' → IsSoundBy allowed st') → (y ≡ Ok st' → IsSoundBy allowed st') → (if b then x else y) ≡ Ok st' → IsSoundBy allowed st'
+  by_test st' true x y f g e = f e
+  by_test st' false x y f g e = g e
+
+  labels_sound : (st : State) → IsSoundBy allowed st → (labels : List Label) → list_all label_is_closed labels ≡ true → IsSoundBy allowed (with_labels st labels)
+  labels_sound st h labels closed = record {
     usable = h.usable;
-    terms = fits_macro st.signature st.signature st.macros (st.macros ++ m ∷ []) h.terms refl m refl bound;
+    terms = fits_macros st.signature st.signature st.macros (st.macros ++ map label_macro labels) h.terms refl (map label_macro labels) refl (labels_bound labels closed);
     values = h.values;
     formulas = h.formulas;
     facts = h.facts;
   }
 
-  added_macro_sound : (m : Macro) (st' : State) → macro_is_bound m ≡ true → added_macro st m ≡ Ok st' → IsSound st'
-  unfolding added_macro
-  added_macro_sound m st' bound e =
-      by_test st' (is_reference_name (context st) m.name) _ _
-      (λ k. sound_after st st' h (require_then _ _ _ st' k).1)
-      (λ k. sound_after (with_macro st m) st' (macro_sound m bound) k) e
-
-  -- in a file of any kind terms are read of the same macros and constants
-  fits_in : (setting : Setting) → FitsTerms (context_in st setting)
-  fits_in setting = record { folds = h.terms.folds; macros = h.terms.macros }
-
-  pub define_fun_sound : (name : List ℕ) (shapes : List ParameterShape) (output body : Sexp) (st' : State) → define_fun st name shapes output body ≡ Ok st' → IsSound st'
-  define_fun_sound name shapes output body st' e =
-      let m = bind_ok (defined_fun (context_in st InReference) name shapes output body) _ st' e in
-      added_macro_sound m.0 st' (laws.functions (context_in st InReference) name shapes output body m.0 (fits_in InReference) m.1) m.2
-
-  pub define_sort_sound : (name : List ℕ) (names : List (List ℕ)) (type : Sexp) (st' : State) → define_sort st name names type ≡ Ok st' → IsSound st'
-  define_sort_sound name names type st' e =
-      let m = bind_ok (defined_sort (context_in st InReference) name names type) _ st' e in
-      added_macro_sound m.0 st' (laws.sorts (context_in st InReference) name names type m.0 (fits_in InReference) m.1) m.2
-
-  pub define_sound : (name : List ℕ) (shapes : List ParameterShape) (body : Sexp) (st' : State) → define st name shapes body ≡ Ok st' → IsSound st'
-  define_sound name shapes body st' e =
-      let m = bind_ok (defined (context st) name shapes body) _ st' e in
-      added_macro_sound m.0 st' (laws.macros (context st) name shapes body m.0 h.terms m.1) m.2
-
-  -- where no scope is open, more may be declared and asserted
-  module _ (top : st.scopes.opened ≡ []) where
-    entry_sound : (e : SignatureEntry) → EntryFits e → IsSound (with_entry st e)
-    entry_sound e fits =
-        let terms = fits_entry st.signature (st.signature ++ e ∷ []) st.macros st.macros h.terms e refl refl (fits_fold e fits) in
-        record {
-          usable = usable_signature (st.signature ++ e ∷ []) terms.folds (ordered_more st.signature h.usable.rules_ordered e fits);
-          terms = terms;
-          values = h.values;
-          formulas = none_assumed (λ (t : Tree). type_of (st.signature ++ e ∷ []) t ≡ Typed bool_tree) st.scopes.opened top;
-          facts = λ s. declared_derives laws st.signature (e ∷ []) st.assertions st.scopes.outermost st.scopes.opened top (h.facts s);
-        }
-
-    added_constant_sound : (d : Constant) (st' : State) → may_fold d.attribute ≡ true → added_constant st d ≡ Ok st' → IsSound st'
-    unfolding added_constant
-    added_constant_sound d st' folds e =
-        by_test st' (is_reference_name (context st) d.name) _ _
-        (λ k. sound_after st st' h (require_then _ _ _ st' k).1)
-        (λ k. sound_after (with_entry st (IsConstant d)) st' (entry_sound (IsConstant d) folds) k) e
-
-    -- a constant whose declared type is evaluated
-    pub typed_sound : (m : Checked Constant) (st' : State) → ((d : Constant) → m ≡ Ok d → may_fold d.attribute ≡ true) → (m >>= typed_constant st) ≡ Ok st' → IsSound st'
-    unfolding typed_constant
-    typed_sound m st' folds e =
-        let d = bind_ok m _ st' e in
-        let v = bind_ok (type_value st d.0.type) _ st' d.2 in
-        added_constant_sound (record d.0 { type = v.0 }) st' (folds d.0 d.1) v.2
-
-    -- a constant with parameters
-    pub checked_sound : (m : Checked Constant) (st' : State) → (m >>= checked_constant st) ≡ Ok st' → IsSound st'
-    checked_sound m st' e =
-        let d = bind_ok m _ st' e in
-        let k = no_fault_then (constant_fault d.0) _ st' d.2 in
-        sound_after (with_entry st (IsConstant d.0)) st' (entry_sound (IsConstant d.0) (fold_of d.0 k.0)) k.1
-
-    pub literals_sound : (class : LiteralClass) (m : Checked Tree) (st' : State) → (m >>= checked_literals st class) ≡ Ok st' → IsSound st'
-    literals_sound class m st' e =
-        let t = bind_ok m _ st' e in
-        let k = no_fault_then (literal_type_fault st.signature class t.0) _ st' t.2 in
-        sound_after (with_entry st (IsLiteralType class t.0)) st' (entry_sound (IsLiteralType class t.0) tt) k.1
-
-    pub program_sound : (from : Origin) (shape : ProgramShape) (st' : State) → define_program st from shape ≡ Ok st' → IsSound st'
-    unfolding define_program
-    program_sound from shape st' e =
-        let may = require_then _ _ _ st' e in
-        let p = bind_ok (declared_program (context st) shape) _ st' may.1 in
-        let k = no_fault_then (program_fault p.0) _ st' p.2 in
-        sound_after (with_entry st (IsProgram p.0)) st' (entry_sound (IsProgram p.0) tt) k.1
-
-    pub rule_sound : (from : Origin) (shape : RuleShape) (st' : State) → declare_rule st from shape ≡ Ok st' → IsSound st'
-    unfolding declare_rule
-    rule_sound from shape st' e =
-        let may = require_then _ _ _ st' e in
-        let r = bind_ok (declared_rule (context st) shape) _ st' may.1 in
-        let k = no_fault_then (rule_fault st.signature r.0) _ st' r.2 in
-        sound_after (with_entry st (IsRule r.0)) st' (entry_sound (IsRule r.0) (laws.rules (context st) shape r.0 h.terms r.1)) k.1
-
-    -- an assertion more
-    assertion_sound : (t : Tree) (b : Bool) → IsSound (if b then st else record st { assertions = st.assertions ++ t ∷ [] })
-    assertion_sound t true = h
-    assertion_sound t false = record {
+  module _ (laws : Layers) (st : State) (h : (IsSoundBy allowed) st) where
+    -- a macro more
+    macro_sound : (m : Macro) → macro_is_bound m ≡ true → IsSoundBy allowed (with_macro st m)
+    macro_sound m bound = record {
       usable = h.usable;
-      terms = h.terms;
+      terms = fits_macro st.signature st.signature st.macros (st.macros ++ m ∷ []) h.terms refl m refl bound;
       values = h.values;
       formulas = h.formulas;
-      facts = λ s. asserted_derives laws st.signature st.assertions (t ∷ []) st.scopes.outermost st.scopes.opened top (h.facts s);
+      facts = h.facts;
     }
 
-    pub assert_sound : (s : Sexp) (st' : State) → assert st s ≡ Ok st' → IsSound st'
-    unfolding assert
-    assert_sound s st' e =
-        let r = bind_ok (means (context_in st InAssert) [] s []) _ st' e in
-        let v = bind_ok (formula_of st r.0.0) _ st' r.2 in
-        let closed = laws.labels (context_in st InAssert) s r.0.0 r.0.1 (fits_in InAssert) r.1 in
-        sound_after (with_labels (with_assertion st v.0) r.0.1) st'
-        (labels_sound (with_assertion st v.0) (assertion_sound v.0 (is_asserted st v.0)) r.0.1 closed) v.2
+    added_macro_sound : (m : Macro) (st' : State) → macro_is_bound m ≡ true → added_macro st m ≡ Ok st' → IsSoundBy allowed st'
+    unfolding added_macro
+    added_macro_sound m st' bound e =
+        by_test st' (is_reference_name (context st) m.name) _ _
+        (λ k. sound_after st st' h (require_then _ _ _ st' k).1)
+        (λ k. sound_after (with_macro st m) st' (macro_sound m bound) k) e
+
+    -- in a file of any kind terms are read of the same macros and constants
+    fits_in : (setting : Setting) → FitsTerms (context_in st setting)
+    fits_in setting = record { folds = h.terms.folds; macros = h.terms.macros }
+
+    pub define_fun_sound : (name : List ℕ) (shapes : List ParameterShape) (output body : Sexp) (st' : State) → define_fun st name shapes output body ≡ Ok st' → IsSoundBy allowed st'
+    define_fun_sound name shapes output body st' e =
+        let m = bind_ok (defined_fun (context_in st InReference) name shapes output body) _ st' e in
+        added_macro_sound m.0 st' (laws.functions (context_in st InReference) name shapes output body m.0 (fits_in InReference) m.1) m.2
+
+    pub define_sort_sound : (name : List ℕ) (names : List (List ℕ)) (type : Sexp) (st' : State) → define_sort st name names type ≡ Ok st' → IsSoundBy allowed st'
+    define_sort_sound name names type st' e =
+        let m = bind_ok (defined_sort (context_in st InReference) name names type) _ st' e in
+        added_macro_sound m.0 st' (laws.sorts (context_in st InReference) name names type m.0 (fits_in InReference) m.1) m.2
+
+    pub define_sound : (name : List ℕ) (shapes : List ParameterShape) (body : Sexp) (st' : State) → define st name shapes body ≡ Ok st' → IsSoundBy allowed st'
+    define_sound name shapes body st' e =
+        let m = bind_ok (defined (context st) name shapes body) _ st' e in
+        added_macro_sound m.0 st' (laws.macros (context st) name shapes body m.0 h.terms m.1) m.2
+
+    -- where no scope is open, more may be declared and asserted
+    module _ (top : st.scopes.opened ≡ []) where
+      entry_sound : (e : SignatureEntry) → EntryFits e → IsSoundBy allowed (with_entry st e)
+      entry_sound e fits =
+          let terms = fits_entry st.signature (st.signature ++ e ∷ []) st.macros st.macros h.terms e refl refl (fits_fold e fits) in
+          record {
+            usable = usable_signature (st.signature ++ e ∷ []) terms.folds (ordered_more st.signature h.usable.rules_ordered e fits);
+            terms = terms;
+            values = h.values;
+            formulas = none_assumed (λ (t : Tree). type_of (st.signature ++ e ∷ []) t ≡ Typed bool_tree) st.scopes.opened top;
+            facts = λ s. declared_derives allowed laws st.signature (e ∷ []) st.assertions st.scopes.outermost st.scopes.opened top (h.facts s);
+          }
+
+      added_constant_sound : (d : Constant) (st' : State) → may_fold d.attribute ≡ true → added_constant st d ≡ Ok st' → IsSoundBy allowed st'
+      unfolding added_constant
+      added_constant_sound d st' folds e =
+          by_test st' (is_reference_name (context st) d.name) _ _
+          (λ k. sound_after st st' h (require_then _ _ _ st' k).1)
+          (λ k. sound_after (with_entry st (IsConstant d)) st' (entry_sound (IsConstant d) folds) k) e
+
+      -- a constant whose declared type is evaluated
+      pub typed_sound : (m : Checked Constant) (st' : State) → ((d : Constant) → m ≡ Ok d → may_fold d.attribute ≡ true) → (m >>= typed_constant st) ≡ Ok st' → IsSoundBy allowed st'
+      unfolding typed_constant
+      typed_sound m st' folds e =
+          let d = bind_ok m _ st' e in
+          let v = bind_ok (type_value st d.0.type) _ st' d.2 in
+          added_constant_sound (record d.0 { type = v.0 }) st' (folds d.0 d.1) v.2
+
+      -- a constant with parameters
+      pub checked_sound : (m : Checked Constant) (st' : State) → (m >>= checked_constant st) ≡ Ok st' → IsSoundBy allowed st'
+      checked_sound m st' e =
+          let d = bind_ok m _ st' e in
+          let k = no_fault_then (constant_fault d.0) _ st' d.2 in
+          sound_after (with_entry st (IsConstant d.0)) st' (entry_sound (IsConstant d.0) (fold_of d.0 k.0)) k.1
+
+      pub literals_sound : (class : LiteralClass) (m : Checked Tree) (st' : State) → (m >>= checked_literals st class) ≡ Ok st' → IsSoundBy allowed st'
+      literals_sound class m st' e =
+          let t = bind_ok m _ st' e in
+          let k = no_fault_then (literal_type_fault st.signature class t.0) _ st' t.2 in
+          sound_after (with_entry st (IsLiteralType class t.0)) st' (entry_sound (IsLiteralType class t.0) tt) k.1
+
+      pub program_sound : (from : Origin) (shape : ProgramShape) (st' : State) → define_program st from shape ≡ Ok st' → IsSoundBy allowed st'
+      unfolding define_program
+      program_sound from shape st' e =
+          let may = require_then _ _ _ st' e in
+          let p = bind_ok (declared_program (context st) shape) _ st' may.1 in
+          let k = no_fault_then (program_fault p.0) _ st' p.2 in
+          sound_after (with_entry st (IsProgram p.0)) st' (entry_sound (IsProgram p.0) tt) k.1
+
+      pub rule_sound : (from : Origin) (shape : RuleShape) (st' : State) → declare_rule st from shape ≡ Ok st' → IsSoundBy allowed st'
+      unfolding declare_rule
+      rule_sound from shape st' e =
+          let may = require_then _ _ _ st' e in
+          let r = bind_ok (declared_rule (context st) shape) _ st' may.1 in
+          let k = no_fault_then (rule_fault st.signature r.0) _ st' r.2 in
+          sound_after (with_entry st (IsRule r.0)) st' (entry_sound (IsRule r.0) (laws.rules (context st) shape r.0 h.terms r.1)) k.1
+
+      -- an assertion more
+      assertion_sound : (t : Tree) (b : Bool) → IsSoundBy allowed (if b then st else record st { assertions = st.assertions ++ t ∷ [] })
+      assertion_sound t true = h
+      assertion_sound t false = record {
+        usable = h.usable;
+        terms = h.terms;
+        values = h.values;
+        formulas = h.formulas;
+        facts = λ s. asserted_derives allowed laws st.signature st.assertions (t ∷ []) st.scopes.outermost st.scopes.opened top (h.facts s);
+      }
+
+      pub assert_sound : (s : Sexp) (st' : State) → assert st s ≡ Ok st' → IsSoundBy allowed st'
+      unfolding assert
+      assert_sound s st' e =
+          let r = bind_ok (means (context_in st InAssert) [] s []) _ st' e in
+          let v = bind_ok (formula_of st r.0.0) _ st' r.2 in
+          let closed = laws.labels (context_in st InAssert) s r.0.0 r.0.1 (fits_in InAssert) r.1 in
+          sound_after (with_labels (with_assertion st v.0) r.0.1) st'
+          (labels_sound (with_assertion st v.0) (assertion_sound v.0 (is_asserted st v.0)) r.0.1 closed) v.2

@@ -1,5 +1,5 @@
 -- What the layers below say of equality, of declarations, of evaluation, of the uses of rules and of derivability.
-use Rattle.std.specs.Prelude.{◌≡◌, ℕ, true, List, [], ◌++◌, Ok, Contains, Decides}
+use Rattle.std.specs.Prelude.{◌≡◌, ℕ, Bool, true, List, [], ◌++◌, Ok, Contains, Decides}
 use Rattle.std.specs.List.{list_all}
 use Rattle.eo_declare.specs.Declarations.{declared_rule, defined, defined_fun, defined_sort}
 use Rattle.eo_elab.specs.Fitting.{FitsTerms, macro_is_bound, label_is_closed}
@@ -7,7 +7,7 @@ use Rattle.eo_elab.specs.Meaning.{means}
 use Rattle.eo_stack.specs.Evaluation.{Value, eval0}
 use Rattle.eo_names.specs.Contexts.{Context}
 use Rattle.eo_names.specs.Readers.{Label}
-use Rattle.eo_rule.specs.Derivability.{Derives}
+use Rattle.eo_rule.specs.ByRules.{DerivesBy}
 use Rattle.eo_rule.specs.Uses.{Use, AreGiven, Concludes, conclusion}
 use Rattle.eo_sexp.specs.Sexp.{Sexp}
 use Rattle.eo_shape.specs.Shapes.{ParameterShape, RuleShape}
@@ -24,5 +24,5 @@ pub record Layers : Type 0 where
   pub labels : (c : Context) (s : Sexp) (t : Tree) (labels : List Label) → FitsTerms c → means c [] s [] ≡ Ok (t, labels) → list_all label_is_closed labels ≡ true
   pub values : (S : Signature) (t v : Tree) → IsUsable S → eval0 S t ≡ Value v → is_value v ≡ true
   pub concludes : (S : Signature) (number : ℕ) (given : Use) (formula : Tree) → IsUsable S → AreGiven given → conclusion S number given ≡ Ok formula → Concludes S number given formula
-  pub weakens : (S : Signature) (Γ Δ : List Tree) (t : Tree) → ((x : Tree) → Contains Γ x → Contains Δ x) → Derives S Γ t → Derives S Δ t
-  pub lasts : (S later : Signature) (Γ : List Tree) (t : Tree) → Derives S Γ t → Derives (S ++ later) Γ t
+  pub weakens : (allowed : List ℕ → Bool) (S : Signature) (Γ Δ : List Tree) (t : Tree) → ((x : Tree) → Contains Γ x → Contains Δ x) → DerivesBy allowed S Γ t → DerivesBy allowed S Δ t
+  pub lasts : (allowed : List ℕ → Bool) (S later : Signature) (Γ : List Tree) (t : Tree) → DerivesBy allowed S Γ t → DerivesBy allowed (S ++ later) Γ t

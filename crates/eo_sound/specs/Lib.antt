@@ -1,3 +1,4 @@
 pub mod Layers
 pub mod Quiet
+pub mod RulesUsed
 pub mod Soundness

@@ -4,4 +4,4 @@
 
 mod laws;
 
-pub use laws::commands_law;
+pub use laws::{allowed_law, commands_law};

@@ -23,5 +23,5 @@ pub light_more : (ts : List Tree) (g h : ℕ) (o : Option ℕ) → g ≤ h → I
 light_more ts g h None m l = tt
 light_more ts g h (Some i) m l = (l.0, omega (arith, m, l.1))
 
-pub not_tall : (t : Tree) → height t ≤ 2000 → is_tall t ≡ false
+pub not_tall : (t : Tree) → height t ≤ 1_000_000 → is_tall t ≡ false
 not_tall t h = grind (arith, nat_tests)

@@ -1,7 +1,7 @@
 //! Bodies of calls.
-ghost use Rattle.std.specs.Prelude.{◌≡◌, ◌<◌, ◌≤◌, ℕ, List, length, map, All, None, Some, false};
+ghost use Rattle.std.specs.Prelude.{◌≡◌, ◌<◌, ◌≤◌, length, map, All, None, Some, false};
 ghost use Rattle.std.specs.Prelude.{IfOk, IfSome, OnOk, IsTrue, IsFalse};
-ghost use Rattle.eo_term.specs.Tree.{Tree, is_tall};
+ghost use Rattle.eo_term.specs.Tree.{is_tall};
 ghost use Rattle.eo_term.specs.Growth.{tree_in, trees_in};
 ghost use Rattle.eo_sig.specs.Reading.{CaseBelow, IsBelow, read_case, signature};
 ghost use Rattle.eo_pattern.specs.Matching.{empty, matching};
@@ -140,20 +140,7 @@ fn make_room(table: &Table, subst: &mut Subst, patterns: &[Id]) -> Result<(), Al
     ensures below { OnOk result (AreBelow (length table.now.trees) subst.new) }
 {
     for pattern in patterns {
-        make_room_for(table, subst, *pattern)?;
+        subst.reserve_for(table, *pattern)?;
     }
-    Ok(())
-}
-
-// Makes room for what a pattern may hold. The room that is there stays.
-fn make_room_for(table: &Table, subst: &mut Subst, pattern: Id) -> Result<(), AllocError>
-    requires { pattern < length table.now.trees }
-    ensures room { OnOk result (HasRoom subst.new (tree_in table.now pattern)) }
-    ensures more { (p : Tree) → HasRoom subst.old p → HasRoom subst.new p }
-    ensures held { (ts : List Tree) → held ts subst.new ≡ held ts subst.old }
-    ensures below { (n : ℕ) → AreBelow n subst.old → AreBelow n subst.new }
-{
-    let room = table.parameters(pattern).bound();
-    subst.reserve(room, table.height(pattern) as usize)?;
     Ok(())
 }

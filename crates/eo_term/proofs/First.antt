@@ -8,6 +8,7 @@ use Rattle.eo_term.specs.declared.node.Info.{Info}
 use Rattle.eo_term.specs.ParamSet.{has}
 use Rattle.eo_term.specs.Tree.{Tree, Con}
 use Rattle.eo_base.specs.Characters.{AreCharacters}
+use Rattle.eo_term.specs.Ranges.{HasRange}
 use Rattle.eo_term.specs.Terms.{tree_at, tree_of, trees_at, PartsBelow, TextsBelow, HasArguments, IsProper, AreApart, first_trees}
 use Rattle.eo_term.specs.Held.{tree_of_root, trees_after, trees_of, Tells, IsEntry, Holds, IsSound}
 
@@ -37,6 +38,7 @@ entry_of_constant xs i n k leaf l p e = record {
     args = subst (All (λ j. j < i)) (sym p.args) (All-nil (λ j. j < i));
     count = subst (λ d. HasArguments d k.args) (sym p.node) p.args;
     proper = subst IsProper (sym p.node) tt;
+    range = subst HasRange (sym p.node) tt;
   };
   tree = e ∙ sym (tree_of_constant first_trees xs n k p);
   tells = subst (λ t. Tells t leaf) (sym e)

@@ -106,7 +106,7 @@ module _ (es : List (Root × Info)) (xs : List (List ℕ)) (m : ℕ × ℕ) (h :
   cut_entry i e p =
       let q = slice_get_take m.0 es i e p in
       let at = h.entries i e q.1 in
-      let over : IsOver i m.1 e.0 = record { parts = at.over.parts; texts = below i e q.1 q.0; args = at.over.args; count = at.over.count; proper = at.over.proper } in
+      let over : IsOver i m.1 e.0 = record { parts = at.over.parts; texts = below i e q.1 q.0; args = at.over.args; count = at.over.count; proper = at.over.proper; range = at.over.range } in
       entry_kept m.0 m.1 (record { at = λ j l. get_or-take m.0 ts j (Con 0) l }) (record { at = λ j l. get_or-take m.1 xs j [] l }) (omega (arith, length-take-le m.1 xs k.texts)) i e.0 e.1 q.0 over at
 
   apart_take : {X : Type 0} (ys : List X) (n : ℕ) → n ≤ length ys → AreApart ys → AreApart (take n ys)

@@ -55,6 +55,7 @@ IsOver-weaker n m n' m' h g k o = record {
   args = All-weaker (λ j. j < n) (λ j. j < n') (λ x p. omega arith) k.args o.args;
   count = o.count;
   proper = o.proper;
+  range = o.range;
 }
 
 Tells-same : (s : Info) (t u : Tree) → t ≡ u → Tells t s → Tells u s

@@ -1,6 +1,7 @@
 -- What calls say of a table that they take and of the term that they answer.
 use Rattle.std.specs.Prelude.{◌≡◌, ℕ, ◌<◌, nat_eq, List, length, map, take, Result, Ok, Err}
 use Rattle.eo_term.specs.Tree.{Tree, tree_eq}
+use Rattle.eo_term.specs.Ranges.{AreInRange}
 use Rattle.eo_term.specs.Terms.{Terms, Since, AreApart, AreLow, HaveOlderParts, first_trees, tree_at}
 
 -- the tree of a term of a table
@@ -11,13 +12,14 @@ tree_in t i = tree_at t.trees i
 abbrev pub trees_in : Terms → List ℕ → List Tree
 trees_in t is = map (tree_at t.trees) is
 
--- What holds of every table: terms are equal exactly where their numbers are, parts are older terms, no term is too tall, and the constants 0 to 3 come first.
+-- What holds of every table: terms are equal exactly where their numbers are, parts are older terms, no term is too tall, numbers, bit strings and characters are within range, and the constants 0 to 3 come first.
 pub record IsTable (t : Terms) : Type 0 where
   pub apart : AreApart t.trees
   pub same : (i j : ℕ) → i < length t.trees → j < length t.trees → tree_at t.trees i ≡ tree_at t.trees j → i ≡ j
   pub equals : (i j : ℕ) → i < length t.trees → j < length t.trees → tree_eq (tree_at t.trees i) (tree_at t.trees j) ≡ nat_eq i j
   pub older : HaveOlderParts t.trees
   pub low : AreLow t.trees
+  pub in_range : AreInRange t.trees
   pub first : take 4 t.trees ≡ first_trees
 
 -- The table has grown. Whatever it had grown from before, it has grown from now: so the growth of calls in a row is found without a lemma.

@@ -7,6 +7,7 @@ use Rattle.eo_term.specs.ParamSet.{has}
 use Rattle.eo_term.specs.Tree.{Tree, height, is_value, is_closed, is_plain, may_be_type, occurs, occurs_openly}
 use Rattle.eo_base.specs.Characters.{AreCharacters}
 use Rattle.eo_term.specs.Terms.{Terms, tree_at, tree_of, trees_at, PartsBelow, TextsBelow, HasArguments, IsProper, AreApart, first_trees}
+use Rattle.eo_term.specs.Ranges.{HasRange}
 use Rattle.eo_term.specs.Keys.{Root}
 
 -- the tree of a root over trees and texts
@@ -38,6 +39,7 @@ pub record IsOver (n m : ℕ) (k : Root) : Type 0 where
   pub args : All (λ j. j < n) k.args
   pub count : HasArguments k.node k.args
   pub proper : IsProper k.node
+  pub range : HasRange k.node
 
 -- the entry at i, among those trees and texts
 pub record IsEntry (ts : List Tree) (xs : List (List ℕ)) (i : ℕ) (k : Root) (s : Info) : Type 0 where

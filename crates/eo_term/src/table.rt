@@ -27,7 +27,7 @@ mod low;
 mod release;
 
 /// The greatest height of a term.
-pub const HEIGHT_LIMIT: u32 = 2000;
+pub const HEIGHT_LIMIT: u32 = 1_000_000;
 
 /// Why a term was not made.
 #[derive(Debug, Drop)]

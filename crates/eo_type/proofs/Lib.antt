@@ -1,3 +1,4 @@
+mod Plain
 mod Vectors
 pub mod SettleLemmas
 pub mod Longer
@@ -11,3 +12,4 @@ pub mod Greatest
 pub mod Keeping
 mod TypingSteps
 mod LiteralSteps
+mod TypeWalk

@@ -5,3 +5,4 @@ pub mod Greatest
 pub mod Parts
 pub mod Steps
 pub mod Undoing
+pub mod TypeSteps

@@ -1,6 +1,7 @@
 //! Types of applications: an argument's type is matched, and what is found is put in.
-ghost use Rattle.std.specs.Prelude.{◌≡◌, ℕ, ◌<◌, [], ◌∷◌, length, true, None, Some, IsTrue, IsFalse, IfOk, IfErr, OnOk};
+ghost use Rattle.std.specs.Prelude.{◌≡◌, ◌<◌, length, None, Some, IsTrue, IsFalse, IfOk, IfSome, OnOk};
 ghost use Rattle.eo_term.specs.Growth.{tree_in, Grows};
+ghost use Rattle.eo_term.specs.Tree.{Tree};
 ghost use Rattle.eo_pattern.specs.Matching.{assign, put};
 ghost use Rattle.eo_pattern.specs.Slots.{held, AreBelow, AreEmpty};
 ghost use Rattle.eo_type.specs.Types.{settled, application_type};
@@ -13,10 +14,12 @@ use eo_pattern::{Subst, match_terms, matching_law, substitute};
 use eo_term::{Id, Node, Table};
 use std::alloc::{AllocError, Global};
 
-/// The type of a function of the type `fun` applied to `arg`, whose type is `ty`.
+/// The type of a function of the type `fun` applied to `arg`, whose type is `ty`. The assignment gives
+/// room alone.
 pub(crate) fn application_type(
     alloc: Global,
     table: &mut Table,
+    subst: &mut Subst,
     fun: Id,
     ty: Id,
     arg: Id,
@@ -27,8 +30,30 @@ pub(crate) fn application_type(
     ensures gives { Gives table.new result (application_type (tree_in table.old fun) (tree_in table.old ty) (tree_in table.old arg)) }
     ensures grows { Grows table.old table.new }
 {
-    let mut subst = Subst::new(alloc);
-    application_with(alloc, table, &mut subst, fun, ty, arg)
+    if let Some(answer) = plain_application(table, fun, ty) {
+        return answer;
+    }
+    subst.clear();
+    application_with(alloc, table, subst, fun, ty, arg)
+}
+
+// The same for a function type without parameters and operators, which is taken as it stands; `None`
+// for any other.
+fn plain_application(table: &Table, fun: Id, ty: Id) -> Option<Result<Id, Stop>>
+    requires fun { fun < length table.now.trees }
+    requires ty { ty < length table.now.trees }
+    ensures { IfSome result (λ r. (x : Tree) → Gives table.now r (application_type (tree_in table.now fun) (tree_in table.now ty) x)) }
+{
+    if !table.is_closed(fun) || !table.is_plain(fun) {
+        return None;
+    }
+    let Node::Arr { from, to } = table.node(fun) else {
+        return None;
+    };
+    if !table.is_same(from, ty) {
+        return Some(Err(Stop::Untyped));
+    }
+    Some(Ok(to))
 }
 
 // The same, with an assignment that holds nothing.
@@ -106,7 +131,6 @@ fn meets(table: &Table, subst: &mut Subst, pattern: Id, ty: Id) -> Result<bool, 
     ensures below { OnOk result (AreBelow (length table.now.trees) subst.new) }
 {
     matching_law();
-    let room = table.parameters(pattern).bound();
-    subst.reserve(room, table.height(pattern) as usize)?;
+    subst.reserve_for(table, pattern)?;
     Ok(match_terms(table, &[pattern], &[ty], subst))
 }

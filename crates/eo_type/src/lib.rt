@@ -8,6 +8,7 @@ mod laws;
 mod leaves;
 mod literals;
 mod operators;
+mod partwise;
 mod refused;
 mod settling;
 mod types;

@@ -1,25 +1,28 @@
 //! Types of terms, and the types that are kept.
-ghost use Rattle.std.specs.Prelude.{◌≡◌, ℕ, ◌+◌, ◌<◌, List, [], length, filter, max, Ok, Some, None, IfOk, OnErr};
-ghost use Rattle.eo_term.specs.Tree.{Tree, App, Arr};
+ghost use Rattle.std.specs.Prelude.{◌≡◌, ℕ, ◌+◌, ◌<◌, List, [], length, filter, Ok, Some, None, OnErr};
+ghost use Rattle.eo_term.specs.Tree.{Tree};
+ghost use Rattle.eo_term.specs.Terms.{Terms};
+ghost use Rattle.eo_term.specs.Memo.{told};
 ghost use Rattle.eo_term.specs.Growth.{tree_in, Grows};
 ghost use Rattle.eo_pattern.specs.Slots.{AreBelow, AreEmpty};
 ghost use Rattle.eo_sig.specs.Signature as spec;
-ghost use Rattle.eo_sig.specs.Reading.{signature, IsBelow};
-ghost use Rattle.eo_type.specs.Types.{declared, literal_type_at};
-ghost use Rattle.eo_type.specs.Outcomes.{Answers, Gives, GivesBoth};
-ghost use Rattle.eo_type.specs.Parts.{variable_type};
+ghost use Rattle.eo_sig.specs.Reading.{Kept, signature, IsBelow};
+ghost use Rattle.eo_type.specs.Types.{TypeOutcome, declared, literal_type_at};
+ghost use Rattle.eo_type.specs.Outcomes.{Answers, Gives};
+ghost use Rattle.eo_type.specs.TypeSteps.{GivesTypeStep};
 ghost use Rattle.eo_sig.specs.Growth.{GrowsUnder};
-ghost use Rattle.eo_type.specs.Known.{Fits, Fit, Lasts, Finds, Remembers, Keeps, FindsBelow, FitsCut, kept_type, is_before};
-ghost use Rattle.eo_type.specs.Known.{class_type, type_at, type_in};
+ghost use Rattle.eo_type.specs.Known.{Fits, Fit, Lasts, Finds, Remembers, FindsBelow, FitsCut, kept_type, is_before};
+ghost use Rattle.eo_type.specs.Known.{class_type, type_at};
 
 use crate::TypeRefused;
-use crate::application::{application_type, assign, settled};
+use crate::application::{assign, settled};
 use crate::known::Known;
-use crate::leaves::{if_value, is_constant};
+use crate::leaves::if_value;
+use crate::partwise::{application_step, function_step, variable_step};
 use crate::refused::{Stop, answer};
 use eo_pattern::Subst;
 use eo_sig::{LiteralClass, Signature, growth_law, longer_law};
-use eo_term::{Id, Mark, Node, Table};
+use eo_term::{Id, Mark, Node, Step, Table, Walk, walk_law};
 use std::alloc::Global;
 use std::marker::Model;
 
@@ -33,6 +36,8 @@ use std::marker::Model;
 pub struct Types {
     alloc: Global,
     known: Known,
+    // Room for what parameters of types stand for. What it holds counts for nothing.
+    subst: Subst,
 }
 
 impl Model for Types {
@@ -52,6 +57,7 @@ impl Types {
         Types {
             alloc,
             known: Known::new(alloc),
+            subst: Subst::new(alloc),
         }
     }
 
@@ -133,28 +139,8 @@ impl Types {
         }
     }
 
-    // The type of a term.
-    #[cycle(typing)]
-    fn find(&mut self, sig: &Signature, table: &mut Table, id: Id) -> Result<Id, Stop>
-        requires live { id < length table.old.trees }
-        requires fits { Fit sig.now table.old self.old }
-        ensures gives { Gives table.new result (type_at sig.now table.old id) }
-        ensures keeps { Keeps self.old self.new }
-        ensures older { FindsBelow (id + 1) self.old self.new }
-        ensures fits { Fit sig.now table.new self.new }
-        ensures grows { GrowsUnder sig.now table.old table.new }
-    {
-        match self.known.get(id) {
-            Some(ty) => Ok(ty),
-            None => self.find_new(sig, table, id),
-        }
-    }
-
     // The type of a term of which none is kept. What is found is kept before it is answered, and the
-    // first failure ends the walk, so no term is derived twice in a call. It goes down from a term to
-    // its parts alone, so its calls nest no deeper than a small multiple of the term's height, which
-    // `HEIGHT_LIMIT` bounds.
-    #[cycle(typing)]
+    // first failure ends the walk, so no term is derived twice in a call.
     fn find_new(&mut self, sig: &Signature, table: &mut Table, id: Id) -> Result<Id, Stop>
         requires live { id < length table.old.trees }
         requires fits { Fit sig.now table.old self.old }
@@ -165,136 +151,108 @@ impl Types {
         ensures fits { Fit sig.now table.new self.new }
         ensures grows { GrowsUnder sig.now table.old table.new }
     {
-        let ty = self.derive(sig, table, id)?;
-        self.known.keep(id, ty)?;
-        Ok(ty)
-    }
-
-    // The type of a term, by the types of its parts.
-    #[cycle(typing)]
-    fn derive(&mut self, sig: &Signature, table: &mut Table, id: Id) -> Result<Id, Stop>
-        requires live { id < length table.old.trees }
-        requires fits { Fit sig.now table.old self.old }
-        ensures gives { Gives table.new result (type_at sig.now table.old id) }
-        ensures keeps { Keeps self.old self.new }
-        ensures older { FindsBelow id self.old self.new }
-        ensures fits { Fit sig.now table.new self.new }
-        ensures grows { GrowsUnder sig.now table.old table.new }
-    {
-        match table.node(id) {
-            Node::Con(k) => declared(sig, table, k),
-            Node::Num(_) => self.literal(sig, table, LiteralClass::Numeral, id),
-            Node::Bits { .. } => self.literal(sig, table, LiteralClass::Binary, id),
-            Node::Str(_) => self.literal(sig, table, LiteralClass::String, id),
-            Node::Var { ty, .. } => self.variable(sig, table, ty),
-            Node::App { fun, arg } => self.application(sig, table, fun, arg),
-            Node::Arr { from, to } => self.function(sig, table, from, to),
-            Node::Par(_) => Err(Stop::Untyped),
-            Node::Qar { .. } => Err(Stop::Untyped),
-            Node::Op { .. } => Err(Stop::Untyped),
-        }
-    }
-
-    // The type of a variable: the type that it names, if that is a type.
-    #[cycle(typing)]
-    fn variable(&mut self, sig: &Signature, table: &mut Table, ty: Id) -> Result<Id, Stop>
-        requires live { ty < length table.old.trees }
-        requires fits { Fit sig.now table.old self.old }
-        ensures gives { Gives table.new result (variable_type (signature table.old.trees sig.now) (tree_in table.old ty)) }
-        ensures keeps { Keeps self.old self.new }
-        ensures older { FindsBelow (ty + 1) self.old self.new }
-        ensures fits { Fit sig.now table.new self.new }
-        ensures grows { GrowsUnder sig.now table.old table.new }
-    {
-        let kind = self.find(sig, table, ty)?;
-        if !is_constant(table, kind, 0) {
-            return Err(Stop::Untyped);
-        }
-        Ok(ty)
-    }
-
-    // The type of an application.
-    #[cycle(typing)]
-    fn application(
-        &mut self,
-        sig: &Signature,
-        table: &mut Table,
-        fun: Id,
-        arg: Id,
-    ) -> Result<Id, Stop>
-        requires fun { fun < length table.old.trees }
-        requires arg { arg < length table.old.trees }
-        requires fits { Fit sig.now table.old self.old }
-        ensures gives { Gives table.new result (type_in sig.now table.old (App (tree_in table.old fun) (tree_in table.old arg))) }
-        ensures keeps { Keeps self.old self.new }
-        ensures older { FindsBelow (max fun arg + 1) self.old self.new }
-        ensures fits { Fit sig.now table.new self.new }
-        ensures grows { GrowsUnder sig.now table.old table.new }
-    {
-        sig.laws();
         let alloc = self.alloc;
-        let (ty, kind) = self.both(sig, table, fun, arg)?;
-        if !table.is_value(kind) {
-            return Err(Stop::Untyped);
-        }
-        application_type(alloc, table, ty, kind, arg)
+        let mut walk = Walk::new(alloc, id);
+        find_walk(
+            alloc,
+            sig,
+            table,
+            &mut self.subst,
+            &mut self.known,
+            &mut walk,
+        )
     }
+}
 
-    // The type of a function type: `Type`, if both parts are types.
-    #[cycle(typing)]
-    fn function(&mut self, sig: &Signature, table: &mut Table, from: Id, to: Id) -> Result<Id, Stop>
-        requires from { from < length table.old.trees }
-        requires to { to < length table.old.trees }
-        requires fits { Fit sig.now table.old self.old }
-        ensures gives { Gives table.new result (type_in sig.now table.old (Arr (tree_in table.old from) (tree_in table.old to))) }
-        ensures keeps { Keeps self.old self.new }
-        ensures older { FindsBelow (max from to + 1) self.old self.new }
-        ensures fits { Fit sig.now table.new self.new }
-        ensures grows { GrowsUnder sig.now table.old table.new }
-    {
-        let (first, second) = self.both(sig, table, from, to)?;
-        if !is_constant(table, first, 0) || !is_constant(table, second, 0) {
-            return Err(Stop::Untyped);
+// The same, as a walk over its parts.
+fn find_walk(
+    alloc: Global,
+    sig: &Signature,
+    table: &mut Table,
+    subst: &mut Subst,
+    known: &mut Known,
+    walk: &mut Walk,
+) -> Result<Id, Stop>
+    requires live { walk.old.top < length table.old.trees }
+    requires fits { Fit sig.now table.old known.old }
+    requires new { kept_type known.old walk.old.top ≡ None }
+    requires told { (k : ℕ) → told walk.old.memo k ≡ None }
+    requires waiting { walk.old.waiting ≡ [] }
+    ensures gives { Gives table.new result (type_at sig.now table.old walk.old.top) }
+    ensures kept { Finds known.old walk.old.top result known.new }
+    ensures older { FindsBelow (walk.old.top + 1) known.old known.new }
+    ensures fits { Fit sig.now table.new known.new }
+    ensures grows { GrowsUnder sig.now table.old table.new }
+{
+    walk_law();
+    sig.laws();
+    loop {
+        match derive(alloc, sig, table, subst, &*known, walk.top())? {
+            Step::Made(ty) => {
+                known.keep(walk.top(), ty)?;
+                if !walk.finish(ty)? {
+                    return Ok(ty);
+                }
+            }
+            Step::Part(part) => walk.begin(part)?,
         }
-        Ok(first)
     }
+}
 
-    // The types of both terms, the first one first.
-    #[cycle(typing)]
-    fn both(&mut self, sig: &Signature, table: &mut Table, a: Id, b: Id) -> Result<(Id, Id), Stop>
-        requires a { a < length table.old.trees }
-        requires b { b < length table.old.trees }
-        requires fits { Fit sig.now table.old self.old }
-        ensures gives { GivesBoth table.new result (type_at sig.now table.old a) (type_at sig.now table.old b) }
-        ensures keeps { Keeps self.old self.new }
-        ensures older { FindsBelow (max a b + 1) self.old self.new }
-        ensures fits { Fit sig.now table.new self.new }
-        ensures grows { GrowsUnder sig.now table.old table.new }
-    {
-        let first = self.find(sig, table, a)?;
-        let second = self.find(sig, table, b)?;
-        Ok((first, second))
+// The type of a term, by the types that are kept of its parts, or the first part of which none is.
+fn derive(
+    alloc: Global,
+    sig: &Signature,
+    table: &mut Table,
+    subst: &mut Subst,
+    known: &Known,
+    id: Id,
+) -> Result<Step, Stop>
+    requires live { id < length table.old.trees }
+    requires fits { Fit sig.now table.old known.now }
+    ensures gives { GivesTypeStep sig.now table.old known.now id (type_at sig.now table.old id) table.new result }
+    ensures grows { Grows table.old table.new }
+{
+    match table.node(id) {
+        Node::Con(k) => made(declared(sig, &*table, k)),
+        Node::Num(_) => made(literal(alloc, sig, table, LiteralClass::Numeral, id)),
+        Node::Bits { .. } => made(literal(alloc, sig, table, LiteralClass::Binary, id)),
+        Node::Str(_) => made(literal(alloc, sig, table, LiteralClass::String, id)),
+        Node::Var { ty, .. } => variable_step(sig, &*table, known, ty),
+        Node::App { fun, arg } => application_step(alloc, sig, table, subst, known, fun, arg),
+        Node::Arr { from, to } => function_step(sig, &*table, known, from, to),
+        Node::Par(_) => Err(Stop::Untyped),
+        Node::Qar { .. } => Err(Stop::Untyped),
+        Node::Op { .. } => Err(Stop::Untyped),
     }
+}
 
-    // The type of a literal, by that of its class.
-    fn literal(
-        &self,
-        sig: &Signature,
-        table: &mut Table,
-        class: LiteralClass,
-        id: Id,
-    ) -> Result<Id, Stop>
-        requires live { id < length table.old.trees }
-        requires fits { Fit sig.now table.old self.now }
-        ensures gives { Gives table.new result (literal_type_at (class_type sig.now table.old class) (tree_in table.old id)) }
-        ensures fits { Fit sig.now table.new self.now }
-        ensures grows { GrowsUnder sig.now table.old table.new }
-    {
-        sig.laws();
-        match sig.literal_type(class) {
-            None => Err(Stop::Untyped),
-            Some(ty) => literal_in(self.alloc, table, ty, id),
-        }
+// A type that is found ends a term's part of a walk.
+fn made(found: Result<Id, Stop>) -> Result<Step, Stop>
+    ensures { (k : Kept) (old new : Terms) (known : List (ℕ × ℕ)) (below : ℕ) (o : TypeOutcome Tree) → Gives new found o → GivesTypeStep k old known below o new result }
+{
+    match found {
+        Ok(ty) => Ok(Step::Made(ty)),
+        Err(e) => Err(e),
+    }
+}
+
+// The type of a literal, by that of its class.
+fn literal(
+    alloc: Global,
+    sig: &Signature,
+    table: &mut Table,
+    class: LiteralClass,
+    id: Id,
+) -> Result<Id, Stop>
+    requires live { id < length table.old.trees }
+    requires below { IsBelow (length table.old.trees) sig.now }
+    ensures gives { Gives table.new result (literal_type_at (class_type sig.now table.old class) (tree_in table.old id)) }
+    ensures grows { Grows table.old table.new }
+{
+    match sig.literal_type(class) {
+        None => Err(Stop::Untyped),
+        Some(ty) => literal_in(alloc, table, ty, id),
     }
 }
 

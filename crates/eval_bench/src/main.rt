@@ -2,7 +2,7 @@
 //!
 //! The program `c` on a and b is `true` where b is a + 1, and else calls itself on a and the middle
 //! and on the middle and b; `w` on n is `c` on 0 and n. So `w` on n begins 2n different calls. With
-//! no argument n is 500. With one it is that number, and the time is printed too: at 500,000 there
+//! no argument n is 500. With one it is that number, and the time is printed too: at 1,000,000 there
 //! are as many different calls as there may be, and the third term, which adds one, is refused.
 #![tactic(auto)]
 

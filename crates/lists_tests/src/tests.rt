@@ -223,7 +223,7 @@ fn a_terminator_may_be_an_application(rt: HostRuntime) -> Result<(), Fail> {
     Ok(())
 }
 
-// The list of 1,998 items, which is as tall as a term may be, and its parts.
+// The list of 999,998 items, which is as tall as a term may be, and its parts.
 #[derive(Clone, Copy)]
 struct LongLists {
     or: Id,
@@ -237,16 +237,16 @@ fn long_lists(w: &mut World) -> Result<LongLists, Fail> {
     Ok(LongLists {
         or: w.term(Con(b'o'))?,
         item: w.term(Con(b'p'))?,
-        whole: w.long(1_998)?,
-        less: w.long(1_997)?,
-        half: w.long(999)?,
+        whole: w.long(999_998)?,
+        less: w.long(999_997)?,
+        half: w.long(499_999)?,
     })
 }
 
 // Whether the tallest list is read.
 fn reads_tallest(w: &mut World) -> Result<bool, Fail> {
     let t = long_lists(w)?;
-    let counted = w.gives(OpName::ListLen, &[t.or, t.whole], Number(1_998))?;
+    let counted = w.gives(OpName::ListLen, &[t.or, t.whole], Number(999_998))?;
     let is_set = w.gives(OpName::ListSetof, &[t.or, t.whole], Or("pf"))?;
     Ok(counted & is_set)
 }

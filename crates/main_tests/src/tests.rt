@@ -162,8 +162,8 @@ fn opens_print(alloc: Global, count: u32, line: &[u8]) -> Result<bool, AllocErro
 
 #[test]
 fn nested_lists(rt: HostRuntime) {
-    let unclosed = opens_print(rt.alloc(), 513, b"refused F02 Unclosed p.eo:1:513\n");
+    let unclosed = opens_print(rt.alloc(), 100_001, b"refused F02 Unclosed p.eo:1:100001\n");
     assert_right(&rt, unclosed);
-    let too_deep = opens_print(rt.alloc(), 514, b"refused F07 Nesting p.eo:1:513\n");
+    let too_deep = opens_print(rt.alloc(), 100_002, b"refused F07 Nesting p.eo:1:100001\n");
     assert_right(&rt, too_deep);
 }

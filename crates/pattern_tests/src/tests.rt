@@ -112,3 +112,42 @@ fn towers(world: &mut World) -> Result<bool, Fail> {
 fn shared_parts_are_looked_at_once(rt: HostRuntime) -> Result<(), Fail> {
     holds(&rt, rt.alloc(), towers)
 }
+
+// Terms of which each is the one before it applied to the one 64 before it: as a tree the last of
+// 1,500 has more than 10^31 leaves.
+fn ladder(world: &mut World, leaf: Id, levels: usize) -> Result<Id, Fail> {
+    let mut last = [leaf; 64];
+    let mut id = leaf;
+    for level in 0..levels {
+        id = world.app(id, last[level % 64])?;
+        last[level % 64] = id;
+    }
+    Ok(id)
+}
+
+// Whether such a term over a parameter becomes the one over a constant that it matches.
+fn ladders(world: &mut World) -> Result<bool, Fail> {
+    let par = world.par(0)?;
+    let pattern = ladder(world, par, 1500)?;
+    let term = ladder(world, TRUE, 1500)?;
+    Ok(world.match_and_put(pattern, term)? == Some(term))
+}
+
+#[test]
+fn parts_that_are_shared_far_apart_are_looked_at_once(rt: HostRuntime) -> Result<(), Fail> {
+    holds(&rt, rt.alloc(), ladders)
+}
+
+// Whether it matches no term that differs from that one at one leaf, and then stands for nothing.
+fn ladders_differ(world: &mut World) -> Result<bool, Fail> {
+    let par = world.par(0)?;
+    let pattern = ladder(world, par, 1500)?;
+    let other = ladder(world, FALSE, 1499)?;
+    let term = world.app(other, TRUE)?;
+    Ok(world.match_and_put(pattern, term)?.is_none())
+}
+
+#[test]
+fn parts_that_become_two_terms_match_nothing(rt: HostRuntime) -> Result<(), Fail> {
+    holds(&rt, rt.alloc(), ladders_differ)
+}

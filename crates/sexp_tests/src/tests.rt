@@ -289,10 +289,10 @@ fn every_byte_of_a_string(rt: HostRuntime) -> Result<(), Fail> {
 type LongRow<'a> = (bool, &'a [u8], u8, usize, &'a [u8], &'a str);
 
 const LIMITS: &[LongRow<'static>] = &[
-    (false, b"", b'(', 512, b"", "Unclosed 1:512 "),
-    (false, b"", b'(', 513, b"", "Nesting 1:512 "),
-    (true, b"", b'(', 513, b"", "Unclosed 1:513 "),
-    (true, b"", b'(', 514, b"", "Nesting 1:513 "),
+    (false, b"", b'(', 100_000, b"", "Unclosed 1:100000 "),
+    (false, b"", b'(', 100_001, b"", "Nesting 1:100000 "),
+    (true, b"", b'(', 100_001, b"", "Unclosed 1:100001 "),
+    (true, b"", b'(', 100_002, b"", "Nesting 1:100001 "),
     (false, b"", b'a', 1_048_577, b"", "TokenLong 1:1048576 "),
     (false, b"\"", b'a', 1_048_575, b"\"", "TokenLong 1:1048576 "),
     (false, b"(|", b'a', 1_048_575, b"|)", "TokenLong 1:1048577 "),

@@ -53,7 +53,7 @@ fn one_tree_has_one_id(rt: HostRuntime) -> Result<(), Fail> {
 // A term of the greatest height.
 fn chain(world: &mut World) -> Result<Id, Fail> {
     let mut id = TYPE;
-    for _ in 1..2000u32 {
+    for _ in 1..HEIGHT_LIMIT {
         id = world.make(Node::App { fun: id, arg: TRUE })?;
     }
     Ok(id)
@@ -62,7 +62,7 @@ fn chain(world: &mut World) -> Result<Id, Fail> {
 // That term is as tall as it was made, and has a new term for each step.
 fn limit_is_reached(world: &mut World) -> Result<bool, Fail> {
     let id = chain(world)?;
-    Ok((world.told(id)? == (2000, true, true)) & (world.len() == 2003))
+    Ok((world.told(id)? == (HEIGHT_LIMIT, true, true)) & (world.len() == 1_000_003))
 }
 
 // An application of that term, and an operator over it, are too tall, and no terms.
@@ -70,7 +70,7 @@ fn more_is_refused(world: &mut World) -> Result<bool, Fail> {
     let id = chain(world)?;
     let applied = world.is_too_tall(Node::App { fun: id, arg: TRUE })?;
     let over = world.is_op_too_tall(OpCode::Prog(0), &[id])?;
-    Ok(applied & over & (world.len() == 2003))
+    Ok(applied & over & (world.len() == 1_000_003))
 }
 
 #[test]

@@ -131,6 +131,7 @@ const NAMES: &[Pair<'static>] = &[
     ("(let ((x p) (y q)) (=> y x))", "(_ => q p)"),
     ("(let ((p q) (q p)) (=> p q))", "(_ => q p)"),
     ("(let ((x p)) (let ((x q) (y x)) (=> x y)))", "(_ => q p)"),
+    ("(let ((x p)) (=> (let ((x q)) x) x))", "(_ => q p)"),
     ("(let ((f and)) (f p q))", "(_ and p (_ and q true))"),
     ("(let ((x (p q))) (x x))", "(_ (_ p q) (_ p q))"),
     ("(implied p q)", "(_ => q p)"),
@@ -251,21 +252,12 @@ fn push_implications(text: &mut String, count: usize, word: &str, ends: usize) -
     push_times(text, ends, ")")
 }
 
-// `=>` on 512 `p` and a `q`: with a list for each `p`, or in one list. 512 lists, one in another,
-// are the most that are read.
+// `=>` on 512 `p` and a `q`: with a list for each `p`, or in one list.
 fn nested_as_flat(world: &mut World) -> Result<bool, Fail> {
     prepare(world, SIGNATURE)?;
     let nested = implied(world, 511, "(=> p", 512)?;
     let flat = implied(world, 511, "p", 1)?;
     Ok((nested == flat) & matches!(flat, Told::Means(_)))
-}
-
-// On n `p` and a `q` the term's height is n + 2.
-fn tall_is_refused(world: &mut World) -> Result<bool, Fail> {
-    prepare(world, SIGNATURE)?;
-    let tallest = implied(world, 1997, "p", 1)?;
-    let too_tall = implied(world, 1998, "p", 1)?;
-    Ok(matches!(tallest, Told::Means(_)) & (too_tall == Told::Refused(Answer::Tall)))
 }
 
 // A signature, and then what is compared over it. The first row that is not as it should be.
@@ -316,7 +308,6 @@ fn the_first_fault_of_a_term_is_given(rt: HostRuntime) -> Result<(), Fail> {
 }
 
 #[test]
-fn terms_are_as_tall_as_the_limit(rt: HostRuntime) -> Result<(), Fail> {
-    holds(&rt, rt.alloc(), nested_as_flat)?;
-    holds(&rt, rt.alloc(), tall_is_refused)
+fn lists_are_nested(rt: HostRuntime) -> Result<(), Fail> {
+    holds(&rt, rt.alloc(), nested_as_flat)
 }

@@ -1,6 +1,7 @@
 //! Texts, and what they mean over a signature.
 ghost use Rattle.std.specs.Prelude.{◌≡◌, ◌<◌, ◌≤◌, [], true, length, IsTrue, IfOk, OnOk};
 ghost use Rattle.eo_sig.specs.Reading.{IsBelow, ConstBelow, MacroBelow, ProgramBelow, RuleBelow};
+ghost use Rattle.eo_sig.specs.Usable.{AreOrdered};
 ghost use Rattle.eo_term.specs.Growth.{Grows};
 ghost use Rattle.eo_declare.specs.Declaring.{IsCommand, DeclarationBelow};
 ghost use Rattle.eo_names.specs.Names.{AreBelow, BindingsBelow};
@@ -8,13 +9,14 @@ ghost use Rattle.eo_names.specs.Ready.{IsReady, Keeps};
 ghost use Rattle.eo_sexp.specs.Collecting.{IsAtCommand, IsLive};
 
 use eo_base::both;
+use eo_base::limits::PARAMETERS;
 use eo_declare::declaration;
 use eo_elab::{ElabRefused, Locals, Names, reference_term, term};
 use eo_sexp::{Collector, Fed, Sexp};
 use eo_shape::{ShapeRefused, command_of};
 use eo_sig::{
     ConstDecl, Declaration, Entry, LiteralClass, MacroDecl, PremiseShape, ProgramDecl, RuleDecl,
-    SigRefused, Signature,
+    SigRefused, Signature, are_ordered,
 };
 use eo_term::{Id, Node, Table};
 use std::alloc::{AllocError, Global};
@@ -541,6 +543,10 @@ fn add_rule(sig: &mut Signature, table: &Table, d: RuleDecl) -> Answer
     requires below { RuleBelow (length table.now.trees) d }
     ensures ready { IsBelow (length table.now.trees) sig.new }
 {
+    if !is_ordered(table, &d) {
+        drop(d);
+        return Answer::Unread;
+    }
     if !sig.is_free_rule(d.name.as_bytes()) {
         drop(d);
         return Answer::Unread;
@@ -549,6 +555,15 @@ fn add_rule(sig: &mut Signature, table: &Table, d: RuleDecl) -> Answer
         Ok(_) => Answer::Done,
         Err(e) => unfit(&e),
     }
+}
+
+// Whether the type of each parameter of a rule uses earlier parameters only.
+fn is_ordered(table: &Table, d: &RuleDecl) -> bool
+    requires { RuleBelow (length table.now.trees) d.now }
+    ensures { IsTrue result → AreOrdered table.now.trees d.now.params }
+{
+    let params = d.params.as_slice();
+    params.len() <= PARAMETERS && are_ordered(table, params)
 }
 
 fn add_literals(sig: &mut Signature, table: &Table, class: LiteralClass, ty: Id) -> Answer

@@ -82,8 +82,8 @@ impl Signature {
         }
     }
 
-    /// Adds a rule, whose name is to be free among rules and whose terms are terms of the table,
-    /// and answers its number.
+    /// Adds a rule, whose name is to be free among rules, whose terms are terms of the table, and of
+    /// which the type of each parameter uses earlier parameters only, and answers its number.
     ///
     /// `BadPattern` comes exactly where a pattern holds an operator, a parameter's type holds an
     /// operator that no declared type may hold, or premises are joined by a constant that has no
@@ -94,6 +94,7 @@ impl Signature {
     pub fn add_rule(&mut self, table: &Table, d: RuleDecl) -> Result<usize, SigRefused>
         requires free { IsFreeRule self.old d.name }
         requires live { RuleBelow (length table.now.trees) d }
+        requires ordered { AreOrdered table.now.trees d.params }
         ensures tells { Tells result (sig.rule_fault (signature table.now.trees self.old) (read_rule table.now.trees d)) }
         ensures kept { OnOk result (self.new ≡ with_entry (declared.Rule d) self.old) }
         ensures adds { IfOk result (AddsAt sig.rules self.old (λ ts. sig.IsRule (read_rule ts d)) self.new) }

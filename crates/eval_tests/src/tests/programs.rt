@@ -45,10 +45,10 @@ const DEPTHS: &[Trial<'static>] = &[
     Trial {
         name: "depths",
         rows: &[
-            ("countdown 999", Value("true")),
-            ("countdown 1000", Deep),
-            ("same countdown 999", Value("true")),
-            ("countdown 999", Value("true")),
+            ("countdown 999999", Value("true")),
+            ("countdown 1000000", Deep),
+            ("same countdown 999999", Value("true")),
+            ("countdown 999999", Value("true")),
         ],
     },
     // `k` calls `countdown` on the same number. What is remembered of a call is used where as many
@@ -56,10 +56,10 @@ const DEPTHS: &[Trial<'static>] = &[
     Trial {
         name: "depths_of_both",
         rows: &[
-            ("and countdown 999 k 998", Value("true")),
-            ("and countdown 999 k 999", Deep),
-            ("k 998", Value("true")),
-            ("k 999", Deep),
+            ("and countdown 999999 k 999998", Value("true")),
+            ("and countdown 999999 k 999999", Deep),
+            ("k 999998", Value("true")),
+            ("k 999999", Deep),
         ],
     },
     // `endless` calls itself on the same term.
@@ -143,13 +143,13 @@ fn a_body_may_be_too_tall(rt: HostRuntime) -> Result<(), Fail> {
 }
 
 const TALL_BODIES: &[Trial<'static>] = &[
-    // `t` applies a constant to its argument twice. A term has at most the height 2,000.
+    // `t` applies a constant to its argument twice. A term has at most the height 1,000,000.
     Trial {
         name: "tall_bodies",
         rows: &[
-            ("t p_1997 true", Value("p_1999 true")),
-            ("t p_1998 true", Tall),
-            ("p_1 t p_1997 true", Tall),
+            ("t p_999997 true", Value("p_999999 true")),
+            ("t p_999998 true", Tall),
+            ("p_1 t p_999997 true", Tall),
         ],
     },
     // `u` compares its argument with `same` on `true`, below three negations: a tall argument stands
@@ -157,9 +157,9 @@ const TALL_BODIES: &[Trial<'static>] = &[
     Trial {
         name: "perhaps_tall_bodies",
         rows: &[
-            ("u p_1998 true", Value("false")),
+            ("u p_999998 true", Value("false")),
             ("u false", Value("true")),
-            ("v p_1998 true", Value("false")),
+            ("v p_999998 true", Value("false")),
         ],
     },
 ];

@@ -57,9 +57,9 @@ const WORDS: &[(&str, Word)] = &[
     ("1", Word::Number(1)),
     ("2", Word::Number(2)),
     ("60", Word::Number(60)),
-    ("998", Word::Number(998)),
-    ("999", Word::Number(999)),
-    ("1000", Word::Number(1000)),
+    ("999998", Word::Number(999_998)),
+    ("999999", Word::Number(999_999)),
+    ("1000000", Word::Number(1_000_000)),
     ("-1", Word::Number(-1)),
     ("-4", Word::Number(-4)),
     ("-7", Word::Number(-7)),
@@ -110,9 +110,9 @@ const WORDS: &[(&str, Word)] = &[
     ("both_60", Word::Repeated(Step::Both, 60)),
     ("p_1", Word::Repeated(Step::Apply, 1)),
     ("p_2", Word::Repeated(Step::Apply, 2)),
-    ("p_1997", Word::Repeated(Step::Apply, 1997)),
-    ("p_1998", Word::Repeated(Step::Apply, 1998)),
-    ("p_1999", Word::Repeated(Step::Apply, 1999)),
+    ("p_999997", Word::Repeated(Step::Apply, 999_997)),
+    ("p_999998", Word::Repeated(Step::Apply, 999_998)),
+    ("p_999999", Word::Repeated(Step::Apply, 999_999)),
 ];
 
 /// The programs, by their numbers. The tests say what each is for.

@@ -1,7 +1,7 @@
 //! Files at the limits, and one beyond them.
-use super::assert_none;
+use super::{assert_none, assert_right};
 use eo_cpc::suite;
-use memory_runs::{File, Job, Long, Want, does, first_wrong, long_text};
+use memory_runs::{File, Job, Long, Want, does, first_wrong, joined, long_text};
 use std::alloc::{AllocError, Global};
 
 /// A file, and the line that is printed.
@@ -99,21 +99,89 @@ fn a_thousand_scopes(rt: HostRuntime) {
     assert_none(&rt, wrong_check(rt.alloc(), ROWS));
 }
 
-// A formula, and macros of which each negates the one before it.
+// A conjunction of as many formulas as a list has room for, and its proof of being itself.
 #[test]
-fn two_thousand_negations(rt: HostRuntime) {
-    const FORMULA: &str = "(define @t0 () p)\n";
-    const NEGATION: &str = "(define @t^ () (not @t~))\n";
+fn long_conjunctions(rt: HostRuntime) {
+    const FIRST: &str = "(define m () (and";
+    const PROVED: &str = "))\n(step @s (= m m) :rule refl :args (m))\n";
     const ROWS: &[Row<'static>] = &[
         (
-            (FORMULA, 1_999, NEGATION, ""),
-            b"refused F41 NoRefutation p.eo:2001:61769\n",
+            (FIRST, 65_535, " p", PROVED),
+            b"refused F41 NoRefutation p.eo:3:131129\n",
         ),
         (
-            (FORMULA, 2_000, NEGATION, ""),
-            b"refused F18 TermHeight p.eo:2001:61769\n",
+            (FIRST, 65_536, " p", PROVED),
+            b"refused F08 Width p.eo:1:131088\n",
         ),
     ];
+    assert_none(&rt, wrong_check(rt.alloc(), ROWS));
+}
+
+/// Macros of a negation, of ten, of a hundred, and so on to 100,000, on the lines 1 to 6, in 406
+/// bytes.
+const NEGATIONS: &str = "(define d0 ((x Bool)) (not x))\n\
+(define d1 ((x Bool)) (d0 (d0 (d0 (d0 (d0 (d0 (d0 (d0 (d0 (d0 x)))))))))))\n\
+(define d2 ((x Bool)) (d1 (d1 (d1 (d1 (d1 (d1 (d1 (d1 (d1 (d1 x)))))))))))\n\
+(define d3 ((x Bool)) (d2 (d2 (d2 (d2 (d2 (d2 (d2 (d2 (d2 (d2 x)))))))))))\n\
+(define d4 ((x Bool)) (d3 (d3 (d3 (d3 (d3 (d3 (d3 (d3 (d3 (d3 x)))))))))))\n\
+(define d5 ((x Bool)) (d4 (d4 (d4 (d4 (d4 (d4 (d4 (d4 (d4 (d4 x)))))))))))\n";
+
+/// Nine of each of these on `p`, which are 999,999 negations.
+const TALLEST: &str = "(d5 (d5 (d5 (d5 (d5 (d5 (d5 (d5 (d5 \
+(d4 (d4 (d4 (d4 (d4 (d4 (d4 (d4 (d4 (d3 (d3 (d3 (d3 (d3 (d3 (d3 (d3 (d3 \
+(d2 (d2 (d2 (d2 (d2 (d2 (d2 (d2 (d2 (d1 (d1 (d1 (d1 (d1 (d1 (d1 (d1 (d1 \
+(d0 (d0 (d0 (d0 (d0 (d0 (d0 (d0 (d0 p))))))))))))))))))))))))))))))))))))))))))))))))))))))";
+
+/// Whether a macro of that term, or of its negation, gives this line.
+fn is_right_tall(alloc: Global, begin: &str, end: &str, line: &[u8]) -> Result<bool, AllocError> {
+    let first = long_text(alloc, &(NEGATIONS, 1, begin, TALLEST))?;
+    let proof = joined(alloc, first.as_bytes(), end.as_bytes())?;
+    check_prints(alloc, &proof, line)
+}
+
+#[test]
+fn a_million_negations(rt: HostRuntime) {
+    let tallest = b"refused F41 NoRefutation p.eo:8:692\n";
+    assert_right(
+        &rt,
+        is_right_tall(rt.alloc(), "(define h () ", ")\n", tallest),
+    );
+    let taller = b"refused F18 TermHeight p.eo:7:406\n";
+    assert_right(
+        &rt,
+        is_right_tall(rt.alloc(), "(define h () (not ", "))\n", taller),
+    );
+}
+
+/// Whether a macro of so many negations, each a list in a list, gives this line.
+fn is_right_nested(alloc: Global, count: u32, line: &[u8]) -> Result<bool, AllocError> {
+    let first = long_text(alloc, &("(define z () ", count, "(not ", "p"))?;
+    let end = long_text(alloc, &("", count, ")", ")\n"))?;
+    let proof = joined(alloc, first.as_bytes(), end.as_bytes())?;
+    check_prints(alloc, &proof, line)
+}
+
+#[test]
+fn negations_in_negations(rt: HostRuntime) {
+    let deepest = b"refused F41 NoRefutation p.eo:2:600010\n";
+    assert_right(&rt, is_right_nested(rt.alloc(), 99_999, deepest));
+    let deeper = b"refused F07 Nesting p.eo:1:500008\n";
+    assert_right(&rt, is_right_nested(rt.alloc(), 100_000, deeper));
+}
+
+// Macros of which each is the conjunction of the one before it with itself.
+#[test]
+fn conjunctions_that_double(rt: HostRuntime) {
+    const DOUBLE: &str = "(define u^ ((x Bool)) (and (u~ x) (u~ x)))\n";
+    const ROWS: &[Row<'static>] = &[(
+        (
+            "(define u0 ((x Bool)) x)\n",
+            64,
+            DOUBLE,
+            "(define v () (u64 p))\n",
+        ),
+        b"refused F41 NoRefutation p.eo:67:2962\n",
+    )];
     assert_none(&rt, wrong_check(rt.alloc(), ROWS));
 }
 

@@ -149,9 +149,9 @@ fn opens_print(alloc: Global, count: u32, line: &[u8]) -> Result<bool, AllocErro
 
 #[test]
 fn lists_that_are_nested_too_deep(rt: HostRuntime) {
-    let unclosed = opens_print(rt.alloc(), 512, b"refused F02 Unclosed a.eo:1:512\n");
+    let unclosed = opens_print(rt.alloc(), 100_000, b"refused F02 Unclosed a.eo:1:100000\n");
     assert_right(&rt, unclosed);
-    let too_deep = opens_print(rt.alloc(), 513, b"refused F07 Nesting a.eo:1:512\n");
+    let too_deep = opens_print(rt.alloc(), 100_001, b"refused F07 Nesting a.eo:1:100000\n");
     assert_right(&rt, too_deep);
 }
 

@@ -124,8 +124,7 @@ fn match_twice_in(
     requires second { second < length table.now.trees }
     requires subst { AreBelow (length table.now.trees) subst.old }
 {
-    let room = table.parameters(pattern).bound();
-    subst.reserve(room, table.height(pattern) as usize)?;
+    subst.reserve_for(table, pattern)?;
     let matches = match_terms(table, &[pattern, pattern], &[first, second], subst);
     Ok((matches, subst.get(0)))
 }
@@ -155,8 +154,7 @@ fn match_and_put_in(
     requires term { term < length table.old.trees }
     requires subst { AreBelow (length table.old.trees) subst.old }
 {
-    let room = table.parameters(pattern).bound();
-    subst.reserve(room, table.height(pattern) as usize)?;
+    subst.reserve_for(table, pattern)?;
     if match_terms(table, &[pattern], &[term], subst) {
         Ok(Some(substitute(table, subst, pattern)?))
     } else {

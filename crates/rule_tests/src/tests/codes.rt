@@ -19,7 +19,7 @@ impl World {
     /// `true` and `false`, and `p` and `q`; the type `I` of numbers, a number `c`, the numbers `0`,
     /// `1` and `5`, and `M`, which is the largest; and the parameters `x` and `y`.
     ///
-    /// With one part, there are `~`, its negation, and `N`, 1996 negations of it; `V`, the type of
+    /// With one part, there are `~`, its negation, and `N`, 999,996 negations of it; `V`, the type of
     /// vectors of this length, and `Z`, a vector of one item more; `F`, the type of proofs of this
     /// formula, and `D`, a proof of its negation; and `!`, a call of the program.
     ///
@@ -97,7 +97,7 @@ impl World {
     // A term with one part.
     fn of_one(&mut self, letter: u8, part: Id) -> Result<Id, Fail> {
         match letter {
-            b'N' => self.nots(part, 1996),
+            b'N' => self.nots(part, 999_996),
             b'!' => self.call(0, part),
             _ => Err(Fail::new("no letter")),
         }

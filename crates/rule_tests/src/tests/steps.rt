@@ -198,14 +198,21 @@ const EVALUATIONS: &[Trial<'static>] = &[
     },
     // `many` calls a program on a formula and 0, which calls itself on the formula without a negation and
     // on twice the number, and on that and one more, as long as there is a negation. So on n negations
-    // there are 2^(n + 1) - 1 different calls: at 19 more than 1,000,000.
+    // there are 2^(n + 1) - 1 different calls: at 20 more than 2,000,000.
     Trial {
         name: "many_calls",
         cases: &[("&ty", "t"), ("&~xy", "&!&x+yy!&x++yy1")],
         rules: &[("many", "B", "", "", "x", "", "!&x0")],
         uses: &[
             ("many", "", "", "~~t", "", Formula("&&tt&tt")),
-            ("many", "", "", "~~~~~~~~~~~~~~~~~~~t", "", Fault(EvalCalls)),
+            (
+                "many",
+                "",
+                "",
+                "~~~~~~~~~~~~~~~~~~~~t",
+                "",
+                Fault(EvalCalls),
+            ),
         ],
     },
     // `first` calls a program that gives the first item of a conjunction.

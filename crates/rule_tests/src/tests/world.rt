@@ -1,31 +1,30 @@
 //! Terms, and a signature with constants and rules over them.
-ghost use Rattle.std.specs.Prelude.{◌≡◌, ◌<◌, ℕ, true, nat_lt, length, map, option_map, option_to_list, All, IsTrue, IfOk};
+ghost use Rattle.std.specs.Prelude.{◌≡◌, ◌<◌, ℕ, true, length, option_map, option_to_list, All, IsTrue, IfOk};
 ghost use Rattle.std.specs.List.{list_all};
 ghost use Rattle.eo_term.specs.Growth.{tree_in, trees_in};
 ghost use Rattle.eo_term.specs.Terms.{HasArity, PartsBelow, TextsBelow, IsPlain, IsProper};
-ghost use Rattle.eo_term.specs.ParamSet.{has};
-ghost use Rattle.eo_term.specs.Tree.{is_value, uses_only};
+ghost use Rattle.eo_term.specs.Tree.{is_value};
 ghost use Rattle.eo_sig.specs.Growth.{GrowsUnder};
 ghost use Rattle.eo_sig.specs.Reading.{AttributeBelow, CaseBelow, ConstBelow, IsBelow, PremisesBelow, ProgramBelow, RuleBelow};
-ghost use Rattle.eo_sig.specs.Reading.{SomeBelow, read_parameter, rules_of, signature};
+ghost use Rattle.eo_sig.specs.Reading.{SomeBelow, rules_of, signature};
 ghost use Rattle.eo_sig.specs.declared.records.ConstDecl.{ConstDecl};
 ghost use Rattle.eo_sig.specs.declared.records.Param.{Param};
 ghost use Rattle.eo_sig.specs.declared.records.ProgramDecl.{ProgramDecl};
 ghost use Rattle.eo_sig.specs.declared.records.RuleDecl.{RuleDecl};
-ghost use Rattle.eo_sig.specs.Signature.{are_ordered};
 ghost use Rattle.eo_sig.specs.Usable.{AreOrdered, IsUsable};
 ghost use Rattle.eo_rule.specs.Reading.{IsUseOf};
 
 use super::rows::{ConstRow, Form, Given, RuleRow, Told, Trial, UseRow, Want};
+use eo_base::limits::PARAMETERS;
 use eo_base::{Name, both};
 use eo_eval::Evaluator;
 use eo_pattern::Subst;
 use eo_rule::{RuleRefused, RuleUse, conclude};
 use eo_sig::{
     Attribute, Case, Cases, ConstDecl, IdPairs, LiteralClass, Param, Params, PremiseShape,
-    ProgramDecl, RuleDecl, Signature,
+    ProgramDecl, RuleDecl, Signature, are_ordered,
 };
-use eo_term::{BOOL, Id, Ids, Node, OpCode, OpName, ParamSet, Table};
+use eo_term::{BOOL, Id, Ids, Node, OpCode, OpName, Table};
 use eo_type::Types;
 use std::alloc::{AllocError, Global};
 use std::marker::Model;
@@ -553,46 +552,11 @@ fn ordered_rule(alloc: Global, table: &Table, name: &[u8], form: &Form) -> Resul
     ensures ordered { IfOk result (λ (d : RuleDecl). AreOrdered table.now.trees d.params) }
 {
     let d = rule(alloc, table, name, form)?;
-    if !are_ordered(table, d.params.as_slice(), 0) {
+    if d.params.as_slice().len() > PARAMETERS || !are_ordered(table, d.params.as_slice()) {
         drop(d);
         return Err(Fail::new("a type uses a later parameter"));
     }
     Ok(d)
-}
-
-// Whether the type of each parameter uses earlier ones only, where the first has this number.
-fn are_ordered(table: &Table, params: &[Param], first: u8) -> bool
-    requires { All (λ (p : Param). p.ty < length table.now.trees) params.now }
-    ensures { IsTrue result → are_ordered first (map (read_parameter table.now.trees) params.now) ≡ true }
-{
-    let [param, rest @ ..] = params else {
-        return true;
-    };
-    if first >= 64 || !uses_below(table, param.ty, first) {
-        return false;
-    }
-    are_ordered(table, rest, first + 1)
-}
-
-// Whether a type uses parameters below this number only.
-fn uses_below(table: &Table, ty: Id, number: u8) -> bool
-    requires ty { ty < length table.now.trees }
-    requires number { number < 64 }
-    ensures { result ≡ uses_only (λ j. nat_lt j number) (tree_in table.now ty) }
-{
-    table.uses_only(&below(number), ty)
-}
-
-// The parameters below this number.
-fn below(number: u8) -> ParamSet
-    requires { number < 64 }
-    ensures { (j : ℕ) → has result j ≡ nat_lt j number }
-{
-    let mut set = ParamSet::new();
-    for i in 0..number {
-        set.add_all(ParamSet::of(i));
-    }
-    set
 }
 
 // The cases with these patterns and bodies.

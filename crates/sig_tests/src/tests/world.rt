@@ -1,11 +1,13 @@
 //! A signature, and terms of its table.
-ghost use Rattle.std.specs.Prelude.{◌≡◌, ◌<◌, length, All, IfOk};
+ghost use Rattle.std.specs.Prelude.{◌≡◌, ◌<◌, length, All, IfOk, IsTrue};
 ghost use Rattle.eo_sig.specs.Reading.{CaseBelow, ConstBelow, ProgramBelow, RuleBelow};
+ghost use Rattle.eo_sig.specs.Usable.{AreOrdered};
 
+use eo_base::limits::PARAMETERS;
 use eo_base::{Name, both};
 use eo_sig::{
     Attribute, Case, Cases, ConstDecl, Entry, IdPairs, Param, Params, PremiseShape, ProgramDecl,
-    RuleDecl, SigRefused, Signature,
+    RuleDecl, SigRefused, Signature, are_ordered,
 };
 use eo_term::{BOOL, Id, Ids, Node, OpCode, OpName, TRUE, TYPE, Table};
 use std::alloc::{AllocError, Global};
@@ -39,6 +41,8 @@ pub(super) enum Answer {
     Redeclared,
     BadPattern,
     UnboundParam,
+    /// The type of a parameter uses a later one.
+    Unordered,
     Memory,
 }
 
@@ -175,6 +179,10 @@ impl World {
     fn ruled(&mut self, d: RuleDecl) -> Answer
         requires { RuleBelow self.old d }
     {
+        if !is_ordered(&self.table, &d) {
+            drop(d);
+            return Answer::Unordered;
+        }
         if !self.sig.is_free_rule(d.name.as_bytes()) {
             drop(d);
             return Answer::Taken;
@@ -357,6 +365,15 @@ fn rule(
     d.params = parameter(alloc, table, BOOL, false)?;
     d.args = one(alloc, table, arg)?;
     Ok(d)
+}
+
+// Whether the type of each parameter of a rule uses earlier parameters only.
+fn is_ordered(table: &Table, d: &RuleDecl) -> bool
+    requires { RuleBelow (length table.now.trees) d.now }
+    ensures { IsTrue result → AreOrdered table.now.trees d.now.params }
+{
+    let params = d.params.as_slice();
+    params.len() <= PARAMETERS && are_ordered(table, params)
 }
 
 // A rule that takes nothing.

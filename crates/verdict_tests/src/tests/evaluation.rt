@@ -141,19 +141,19 @@ fn wrong_over_countdowns(alloc: Global, rows: &[Refusal<'_>]) -> Option<usize> {
 fn calls_have_a_greatest_depth(rt: HostRuntime) {
     const ROWS: &[Refusal<'static>] = &[
         (
-            b"(assume @a (eo::and ($e 999) ($k 998)))",
-            b"refused F41 NoRefutation p.eo:8:503\n",
+            b"(assume @a (eo::and ($e 999999) ($k 999998)))",
+            b"refused F41 NoRefutation p.eo:8:509\n",
         ),
         (
-            b"(assume @a (eo::and ($e 999) ($k 999)))",
+            b"(assume @a (eo::and ($e 999999) ($k 999999)))",
             b"refused F19 EvalDepth p.eo:8:464\n",
         ),
         (
-            b"(assume @a ($e 999))",
-            b"refused F41 NoRefutation p.eo:8:484\n",
+            b"(assume @a ($e 999999))",
+            b"refused F41 NoRefutation p.eo:8:487\n",
         ),
         (
-            b"(assume @a ($e 1000))",
+            b"(assume @a ($e 1000000))",
             b"refused F19 EvalDepth p.eo:8:464\n",
         ),
         (
@@ -165,10 +165,43 @@ fn calls_have_a_greatest_depth(rt: HostRuntime) {
             b"refused F28 NotAsserted p.eo:8:464\n",
         ),
         (
-            b"(assume @a ($t 999))",
+            b"(assume @a ($t 400000))",
             b"refused F18 TermHeight p.eo:8:464\n",
         ),
         (b"(assume @a ($e false))", b"refused F16 Stuck p.eo:8:464\n"),
     ];
     assert_none(&rt, wrong_over_countdowns(rt.alloc(), ROWS));
+}
+
+/// Programs of which `$w` on a number begins twice as many different calls, on the lines 1 to 4, in
+/// 312 bytes.
+const HALVES: &[u8] = b"(declare-const Int Type)
+(declare-consts <numeral> Int)
+(program $c ((a Int) (b Int)) :signature (Int Int) Bool ((($c a b) (eo::ite (eo::is_eq (eo::add a 1) b) true (eo::and ($c a (eo::zdiv (eo::add a b) 2)) ($c (eo::zdiv (eo::add a b) 2) b))))))
+(program $w ((a Int)) :signature (Int) Bool ((($w a) ($c 0 a))))
+";
+
+fn is_right_behind_halves(alloc: Global, row: Refusal<'_>) -> Result<bool, AllocError> {
+    let (command, line) = row;
+    let proof = joined(alloc, HALVES, command)?;
+    refuses(alloc, &proof, line)
+}
+
+#[test]
+fn different_calls_have_a_greatest_number(rt: HostRuntime) {
+    const ROWS: &[Refusal<'static>] = &[
+        (
+            b"(assume @a ($w 1000000))",
+            b"refused F41 NoRefutation p.eo:5:336\n",
+        ),
+        (
+            b"(assume @a (eo::and ($w 1000000) ($c 0 1)))",
+            b"refused F41 NoRefutation p.eo:5:355\n",
+        ),
+        (
+            b"(assume @a (eo::and ($w 1000000) ($w 1)))",
+            b"refused F20 EvalCalls p.eo:5:312\n",
+        ),
+    ];
+    assert_none(&rt, first_wrong(rt.alloc(), ROWS, is_right_behind_halves));
 }

@@ -1,29 +1,27 @@
-use Rattle.std.proofs.Common.{ℕ, List, not, ◌++◌, Some, is_some, map, sym, ap, ◌∙◌, subst}
+use Rattle.std.proofs.Common.{ℕ, List, ◌++◌, Ok, sym, ap, ◌∙◌, subst}
 use Rattle.std.specs.Prelude.{option_and_then}
 use Rattle.eo_term.specs.Terms.{tree_at}
 use Rattle.eo_term.specs.Tree.{Tree}
-use Rattle.eo_lists.specs.Lists.{spell, spelled}
+use Rattle.eo_lists.specs.Lists.{as_list, on_list, spelled}
 use Rattle.eo_lists.specs.Outcomes.{GivesList}
-use Rattle.eo_term.specs.Builds.{Builds}
-use Rattle.eo_lists.specs.Parts.{AreItems, Reads}
-use Rattle.eo_lists.proofs.Building.{spell_append}
-use Rattle.eo_lists.proofs.Spell.{spelled_by}
+use Rattle.eo_lists.specs.Parts.{AreItems, Reads, put_in}
+use Rattle.eo_lists.proofs.Put.{gives_found, put_is, nothing_behind}
 use Rattle.eo_lists.proofs.operators.list_concat.Goals as goal
+
+pub returns-then-is_same-clause-gives : goal.returns-then-is_same-clause-gives
+returns-then-is_same-clause-gives c =
+    let t = c.args.table.now in
+    let f : Tree = tree_at t.trees c.args.form.now.fun in
+    let n : Tree = tree_at t.trees c.args.form.now.end in
+    subst (GivesList t (Ok c.itself.result)) (sym (nothing_behind f n (tree_at t.trees c.args.first) (tree_at t.trees c.args.second) (c.is_same.ensures.tells.0 c.if-is_same.true)))
+    (gives_found t c.itself.result _ c.itself.ensures)
 
 pub returns-clause-gives : goal.returns-clause-gives
 returns-clause-gives c =
     let t = c.args.table.now in
-    let new = c.build-made.new.table in
     let f : Tree = tree_at t.trees c.args.form.now.fun in
     let n : Tree = tree_at t.trees c.args.form.now.end in
-    let s : Tree = tree_at t.trees c.args.second in
-    let xs : List Tree = map (tree_at t.trees) c.in-Some.found in
     let r : AreItems t c.args.form.now c.args.first c.in-Some.found = subst (Reads t c.args.form.now c.args.first) c.in-Some.is c.in_ok-found.ensures in
-    let q = spelled_by f n s (ap is_some (sym c.length_of.ensures) ∙ c.is_none.ensures ∙ ap not c.if-is_none.false) in
-    let made : Builds new c.build-made.result (spell f s xs) =
-    subst (λ (is : List ℕ). Builds new c.build-made.result (spell f s (map (tree_at t.trees) is))) c.as_slice.ensures c.build-made.ensures.gives in
-    subst (GivesList new c.answer.result)
-    (sym (ap (option_and_then (λ (zs : List Tree). option_and_then (λ (us : List Tree). Some (spell f n (zs ++ us))) (spelled f n s))) r.items
-    ∙ ap (option_and_then (λ (us : List Tree). Some (spell f n (xs ++ us)))) q.1
-    ∙ ap Some (sym (spell_append f n xs q.0) ∙ ap (λ u. spell f u xs) q.2)))
-    (c.answer.ensures new (spell f s xs) made)
+    subst (GivesList c.put_items.new.table c.put_items.result)
+    (sym (ap (option_and_then (λ (xs : List Tree). on_list f n (tree_at t.trees c.args.second) (λ ys. as_list f n (xs ++ ys)))) r.items ∙ put_is f n _ (spelled f n (tree_at t.trees c.args.second))))
+    (subst (λ (is : List ℕ). GivesList c.put_items.new.table c.put_items.result (put_in t c.args.form.now is c.args.second)) c.as_slice.ensures c.put_items.ensures.gives)

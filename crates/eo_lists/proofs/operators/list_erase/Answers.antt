@@ -1,49 +1,72 @@
-use Rattle.std.proofs.Common.{◌≡◌, ℕ, List, Some, None, map, nat_eq, position, remove, sym, ap, ◌∙◌, subst}
-use Rattle.std.specs.Prelude.{option_and_then}
-use Rattle.eo_term.specs.Terms.{tree_at}
+use Rattle.std.proofs.Common.{◌≡◌, ℕ, ◌++◌, ◌∷◌, [], true, false, List, map, sym, ap, ◌∙◌, subst, arith, rules, tests}
+use Rattle.std.specs.Prelude.{None}
+use Rattle.eo_term.specs.Terms.{Terms, tree_at}
 use Rattle.eo_term.specs.Tree.{Tree, tree_eq}
-use Rattle.eo_lists.specs.Lists.{erase, spell}
-use Rattle.eo_lists.specs.Outcomes.{GivesList}
-use Rattle.eo_term.specs.Builds.{Builds}
-use Rattle.eo_lists.specs.Parts.{AreItems, Reads}
-use Rattle.eo_lists.proofs.ById.{position_trees}
-use Rattle.eo_lists.proofs.Erased.{erase_place, erase_none, map_remove}
-use Rattle.eo_lists.proofs.Spell.{spell-spelled}
+use Rattle.eo_lists.specs.Lists.{as_list, erase, on_list}
+use Rattle.eo_lists.specs.Outcomes.{GivesList, IsValueOf}
+use Rattle.eo_lists.specs.Parts.{IsLink, put_in, spelled_in, unlinked}
+use Rattle.eo_lists.proofs.Put.{erased_first, erased_none, erased_nowhere, stay_more}
+use Rattle.eo_lists.proofs.Spell.{after_link, all_pushed, no_link}
 use Rattle.eo_lists.proofs.operators.list_erase.Goals as goal
+
+pub returns-in_default-clause-gives : goal.returns-in_default-clause-gives
+returns-in_default-clause-gives c =
+    let t = c.args.table.now in
+    let f : Tree = tree_at t.trees c.args.form.now.fun in
+    let n : Tree = tree_at t.trees c.args.form.now.end in
+    let v = c.loop-item.invariant in
+    let differs : tree_eq (tree_at t.trees c.loop-item.rest) n ≡ false =
+    ap (λ (u : Terms). tree_eq (tree_at u.trees c.loop-item.rest) (tree_at u.trees c.args.form.now.end)) (sym v.same) ∙ sym c.is_same.ensures.equals ∙ search (rules, tests) in
+    let ends : unlinked f (tree_at t.trees c.loop-item.rest) ≡ None = subst (λ (u : Terms). unlinked (tree_at u.trees c.args.form.now.fun) (tree_at u.trees c.loop-item.rest) ≡ None) v.same c.in_default.ensures in
+    erased_none f n (tree_at t.trees c.args.item) (map (tree_at t.trees) c.loop-item.front) v.stay (tree_at t.trees c.loop-item.rest) (spelled_in t c.args.form.now c.args.list) v.whole (no_link f n (tree_at t.trees c.loop-item.rest) differs ends)
+
+pub returns-then-is_same-clause-gives : goal.returns-then-is_same-clause-gives
+returns-then-is_same-clause-gives c =
+    let t = c.args.table.now in
+    let f : Tree = tree_at t.trees c.args.form.now.fun in
+    let n : Tree = tree_at t.trees c.args.form.now.end in
+    let a : Tree = tree_at t.trees c.args.item in
+    let v = c.loop-item.invariant in
+    let l : IsLink t c.args.form.now.fun c.loop-item.rest c.in-Some.link.item c.in-Some.link.rest = subst (λ (u : Terms). IsLink u c.args.form.now.fun c.loop-item.rest c.in-Some.link.item c.in-Some.link.rest) v.same c.in-Some.ensures in
+    let differs : tree_eq (tree_at t.trees c.loop-item.rest) n ≡ false =
+    ap (λ (u : Terms). tree_eq (tree_at u.trees c.loop-item.rest) (tree_at u.trees c.args.form.now.end)) (sym v.same) ∙ sym c.is_same.ensures.equals ∙ search (rules, tests) in
+    let found : tree_eq a (tree_at t.trees c.in-Some.link.item) ≡ true =
+    ap (λ (u : Terms). tree_eq (tree_at u.trees c.args.item) (tree_at u.trees c.in-Some.link.item)) (sym v.same) ∙ sym c.is_same-in-loop-item.ensures.equals ∙ c.if-is_same.true in
+    subst (GivesList c.put_items.new.table c.put_items.result)
+    (sym (erased_first f n a (map (tree_at t.trees) c.loop-item.front) v.stay (tree_at t.trees c.in-Some.link.item) (tree_at t.trees c.in-Some.link.rest) (tree_at t.trees c.loop-item.rest) (spelled_in t c.args.form.now c.args.list) v.whole differs l.tree found))
+    (subst (λ (is : List ℕ). GivesList c.put_items.new.table c.put_items.result (put_in t c.args.form.now is c.in-Some.link.rest)) c.as_slice.ensures
+    (subst (λ (u : Terms). GivesList c.put_items.new.table c.put_items.result (put_in u c.args.form.now c.as_slice.result.now c.in-Some.link.rest)) v.same c.put_items.ensures.gives))
+
+pub loop-item-preserved : goal.loop-item-preserved
+loop-item-preserved c =
+    let t = c.args.table.now in
+    let ts = t.trees in
+    let f : Tree = tree_at ts c.args.form.now.fun in
+    let n : Tree = tree_at ts c.args.form.now.end in
+    let a : Tree = tree_at ts c.args.item in
+    let v = c.loop-item.invariant in
+    let l : IsLink t c.args.form.now.fun c.loop-item.rest c.in-Some.link.item c.in-Some.link.rest = subst (λ (u : Terms). IsLink u c.args.form.now.fun c.loop-item.rest c.in-Some.link.item c.in-Some.link.rest) v.same c.in-Some.ensures in
+    let differs : tree_eq (tree_at ts c.loop-item.rest) n ≡ false =
+    ap (λ (u : Terms). tree_eq (tree_at u.trees c.loop-item.rest) (tree_at u.trees c.args.form.now.end)) (sym v.same) ∙ sym c.is_same.ensures.equals ∙ search (rules, tests) in
+    let other : tree_eq a (tree_at ts c.in-Some.link.item) ≡ false =
+    ap (λ (u : Terms). tree_eq (tree_at u.trees c.args.item) (tree_at u.trees c.in-Some.link.item)) (sym v.same) ∙ sym c.is_same-in-loop-item.ensures.equals ∙ c.if-is_same.false in
+    let pushed : c.push.new.self ≡ c.loop-item.front ++ c.in-Some.link.item ∷ [] = c.in_ok-push.ensures.pushed in
+    record {
+      same = v.same;
+      live = omega (arith, l.rest, v.live);
+      front = all_pushed ts c.loop-item.front c.in-Some.link.item c.push.new.self v.front (omega (arith, l.item, v.live)) pushed;
+      whole = after_link ts f n (tree_at ts c.loop-item.rest) (tree_at ts c.in-Some.link.rest) c.in-Some.link.item c.loop-item.front c.push.new.self _ v.whole differs l.tree pushed;
+      stay = stay_more (tree_at ts) a c.in-Some.link.item c.loop-item.front c.push.new.self v.stay other pushed;
+    }
 
 pub returns-clause-gives : goal.returns-clause-gives
 returns-clause-gives c =
     let t = c.args.table.now in
-    let new = c.without-made.new.table in
-    let p : ℕ = c.in-Some-place_of.place in
     let f : Tree = tree_at t.trees c.args.form.now.fun in
     let n : Tree = tree_at t.trees c.args.form.now.end in
     let a : Tree = tree_at t.trees c.args.item in
-    let is : List ℕ = c.in-Some.found in
-    let xs : List Tree = map (tree_at t.trees) is in
-    let r : AreItems t c.args.form.now c.args.list is = subst (Reads t c.args.form.now c.args.list) c.in-Some.is c.in_ok-found.ensures in
-    let made : Builds new c.without-made.result (spell f n (map (tree_at t.trees) (remove is p))) =
-    subst (λ (js : List ℕ). Builds new c.without-made.result (spell f n (map (tree_at t.trees) (remove js p)))) c.as_slice-2.ensures c.without-made.ensures.gives in
-    let place : position (tree_eq a) xs ≡ Some p =
-    position_trees t.trees c.laws.ensures.equals c.args.item c.requires.item is r.live ∙ ap (position (nat_eq c.args.item)) (sym c.as_slice.ensures) ∙ sym c.in-Some-place_of.ensures in
-    subst (GivesList new c.answer.result)
-    (sym (ap (option_and_then (λ (zs : List Tree). Some (spell f n (erase tree_eq a zs)))) r.items ∙ ap (λ us. Some (spell f n us)) (erase_place a xs p place ∙ sym (map_remove (tree_at t.trees) is p))))
-    (c.answer.ensures new (spell f n (map (tree_at t.trees) (remove is p))) made)
-
-pub returns-in_default-place_of-clause-gives : goal.returns-in_default-place_of-clause-gives
-returns-in_default-place_of-clause-gives c =
-    let t = c.args.table.now in
-    let f : Tree = tree_at t.trees c.args.form.now.fun in
-    let n : Tree = tree_at t.trees c.args.form.now.end in
-    let a : Tree = tree_at t.trees c.args.item in
-    let is : List ℕ = c.in-Some.found in
-    let xs : List Tree = map (tree_at t.trees) is in
-    let r : AreItems t c.args.form.now c.args.list is = subst (Reads t c.args.form.now c.args.list) c.in-Some.is c.in_ok-found.ensures in
-    let place : position (tree_eq a) xs ≡ None =
-    position_trees t.trees c.laws.ensures.equals c.args.item c.requires.item is r.live ∙ ap (position (nat_eq c.args.item)) (sym c.as_slice.ensures) ∙ sym c.in_default-place_of.ensures in
-    record {
-      live = c.requires.list;
-      value = ap (option_and_then (λ (zs : List Tree). Some (spell f n (erase tree_eq a zs)))) r.items
-          ∙ ap (λ us. Some (spell f n us)) (erase_none a xs place)
-          ∙ ap Some (spell-spelled f n (tree_at t.trees c.args.list) xs r.items).0;
-    }
+    let v = c.loop-item.invariant in
+    let empty : tree_at t.trees c.loop-item.rest ≡ n =
+    subst (λ (u : Terms). tree_at u.trees c.loop-item.rest ≡ tree_at u.trees c.args.form.now.end) v.same (c.is_same.ensures.tells.0 (search (rules, tests))) in
+    subst (λ (u : Terms). IsValueOf u (on_list f n (tree_at t.trees c.args.list) (λ xs. as_list f n (erase tree_eq a xs))) c.args.list) (sym v.same)
+    (record { live = c.requires.list; value = erased_nowhere f n a (map (tree_at t.trees) c.loop-item.front) v.stay (tree_at t.trees c.loop-item.rest) (tree_at t.trees c.args.list) v.whole empty })

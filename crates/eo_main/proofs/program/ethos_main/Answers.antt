@@ -11,12 +11,12 @@ pub returns-in-Ok-Some-Check-clause-refutes : goal.returns-in-Ok-Some-Check-clau
 returns-in-Ok-Some-Check-clause-refutes g c =
     let reading : Some (Check c.in-Ok-Some-Check.job) ≡ request c.args.words.now =
     sym (c.in-Ok-Some-Check.field-0-is ∙ ap (λ (r : Request). Some r) c.in-Ok-Some-Check.field-0-0-is) ∙ c.in-Ok-Some-Check.ensures in
-    ok_refutes c.soundness_law.ensures.correct _ _ _ _ _ (reading_ends _ _ _ _ _ _ reading c.check.ensures.exact)
+    ok_refutes _ c.soundness_law.ensures.correct _ _ _ _ _ (reading_ends _ _ _ _ _ _ _ reading c.check.ensures.exact)
 
 pub returns-in-Ok-None-clause-exact : goal.returns-in-Ok-None-clause-exact
 returns-in-Ok-None-clause-exact g c =
     let reading : None ≡ request c.args.words.now = sym c.in-Ok-None.field-0-is ∙ c.in-Ok-None.ensures in
-    reading_ends _ _ _ _ _ _ reading (no_reading_ends _ _ _ _ (usage_ends _ _ _ c.print_line.ensures.due))
+    reading_ends _ _ _ _ _ _ _ reading (no_reading_ends _ _ _ _ _ (usage_ends _ _ _ _ c.print_line.ensures.due))
 
 pub returns-in-Ok-None-clause-absent : goal.returns-in-Ok-None-clause-absent
 returns-in-Ok-None-clause-absent g c = λ files. absent_by_letter _ 117 _ _ _ _ _ _ _ (omega arith) c.print_line.ensures.due
@@ -53,7 +53,7 @@ returns-in-Ok-Some-Bench-clause-exact g c =
     let n = c.in-Ok-Some-Bench.n in
     let reading : Some (Bench n) ≡ request c.args.words.now =
     sym (c.in-Ok-Some-Bench.field-0-is ∙ ap (λ (r : Request). Some r) c.in-Ok-Some-Bench.field-0-0-is) ∙ c.in-Ok-Some-Bench.ensures in
-    reading_ends _ _ _ _ _ _ reading (bench_ends_as _ _ n _ _ c.run_bench.ensures.exact)
+    reading_ends _ _ _ _ _ _ _ reading (bench_ends_as _ _ _ n _ _ c.run_bench.ensures.exact)
 
 pub returns-in-Ok-Some-Bench-clause-own : goal.returns-in-Ok-Some-Bench-clause-own
 returns-in-Ok-Some-Bench-clause-own g c =
@@ -78,7 +78,7 @@ pub returns-in-Ok-Some-Check-clause-exact : goal.returns-in-Ok-Some-Check-clause
 returns-in-Ok-Some-Check-clause-exact g c =
     let reading : Some (Check c.in-Ok-Some-Check.job) ≡ request c.args.words.now =
     sym (c.in-Ok-Some-Check.field-0-is ∙ ap (λ (r : Request). Some r) c.in-Ok-Some-Check.field-0-0-is) ∙ c.in-Ok-Some-Check.ensures in
-    reading_ends _ _ _ _ _ _ reading c.check.ensures.exact
+    reading_ends _ _ _ _ _ _ _ reading c.check.ensures.exact
 
 pub returns-in-Ok-Some-Check-clause-cause : goal.returns-in-Ok-Some-Check-clause-cause
 returns-in-Ok-Some-Check-clause-cause g c = c.check.ensures.cause
@@ -96,7 +96,7 @@ pub returns-in-Ok-Some-Load-clause-exact : goal.returns-in-Ok-Some-Load-clause-e
 returns-in-Ok-Some-Load-clause-exact g c =
     let reading : Some (Load c.in-Ok-Some-Load.file) ≡ request c.args.words.now =
     sym (c.in-Ok-Some-Load.field-0-is ∙ ap (λ (r : Request). Some r) c.in-Ok-Some-Load.field-0-0-is) ∙ c.in-Ok-Some-Load.ensures in
-    reading_ends _ _ _ _ _ _ reading c.load.ensures.exact
+    reading_ends _ _ _ _ _ _ _ reading c.load.ensures.exact
 
 pub returns-in-Ok-Some-Load-clause-cause : goal.returns-in-Ok-Some-Load-clause-cause
 returns-in-Ok-Some-Load-clause-cause g c = c.load.ensures.cause

@@ -7,7 +7,7 @@ pub print_verdict-requires : goal.print_verdict-requires
 print_verdict-requires g c = load_in_range _ _ c.load_files-verdict.ensures.kind
 
 pub returns-clause-exact : goal.returns-clause-exact
-returns-clause-exact g c = load_ends _ _ _ _ _ _ c.args.file.now c.load_files-verdict.ensures.verdict c.print_verdict.ensures.due
+returns-clause-exact g c = load_ends _ _ _ _ _ _ _ _ c.args.file.now c.load_files-verdict.ensures.verdict c.load_files-verdict.ensures.cause c.print_verdict.ensures.due
 
 pub returns-clause-cause : goal.returns-clause-cause
 returns-clause-cause g c = end_has_cause _ _ _ _ _ _ _ _ _ _ c.print_verdict.ensures.due c.load_files-verdict.ensures.cause c.print_verdict.ensures.cause

@@ -1,9 +1,11 @@
-use Rattle.std.proofs.Common.{◌≡◌, [], ◌∷◌, sym, ap, ◌∙◌, subst, true≢false, arith}
+use Rattle.std.proofs.Common.{◌≡◌, ◌+◌, ◌<◌, [], ◌∷◌, sym, ap, ◌∙◌, subst, true≢false, arith}
 use Rattle.eo_term.specs.declared.OpCode.{OpCode}
-use Rattle.eo_term.specs.Tree.{Tree, Trees, Qar, Op, to_list, occurs}
+use Rattle.eo_term.specs.Tree.{Tree, Trees, Qar, Op, to_list, occurs, height, is_closed}
 use Rattle.eo_term.specs.Arguments.{arguments_of}
 use Rattle.eo_term.specs.Terms.{tree_at}
 use Rattle.eo_pattern.specs.Slots.{Leads}
+use Rattle.eo_pattern.specs.Sizes.{size, size_all}
+use Rattle.eo_pattern.proofs.Doing.{open_operator}
 use Rattle.eo_pattern.proofs.Splitting.{var_split, var_differ, app_split, arr_split, qar_split}
 use Rattle.eo_pattern.proofs.Steps.{closed_equal, closed_differ, op_leads, op_same, args_occur}
 use Rattle.eo_pattern.proofs.matching.split_roots.Goals as goal
@@ -27,6 +29,8 @@ returns-then-count-n c =
     let u : Op c.in-Op.code us ≡ tree_at ts c.args.term = ap (λ (d : OpCode). Op d us) same ∙ c.in-Op-node.ensures.tree in
     record {
       count = c.in-Op.ensures.count;
+      tall = subst (λ (x : Tree). 1 < height x) p (open_operator c.in-Op.code ps (ap is_closed p ∙ sym c.is_closed.ensures.closed ∙ c.if-is_closed.false));
+      smaller = let n : size (tree_at ts c.args.pattern) ≡ 1 + size_all ps = ap size (sym p) in omega (arith, n);
       pars = λ i o. ap (occurs i) (sym p) ∙ args_occur i ps o;
       same = c.in-Op-node.ensures.count ∙ sym c.if-count-n.true;
       leads = λ σ. subst (λ (x : Tree). Leads σ (x ∷ []) (tree_at ts c.args.term ∷ []) σ (to_list ps) (to_list us)) p (subst (λ (y : Tree). Leads σ (Op c.in-Op.code ps ∷ []) (y ∷ []) σ (to_list ps) (to_list us)) u (op_leads σ c.in-Op.code ps us));

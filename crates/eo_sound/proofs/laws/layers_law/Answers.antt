@@ -8,8 +8,8 @@ returns c = record {
   functions = c.reference_law.ensures.functions;
   sorts = c.reference_law.ensures.sorts;
   labels = c.labels_law.ensures.labels;
-  values = c.values_law.ensures;
+  values = c.values_law.ensures.whole;
   concludes = c.conclusion_law.ensures.sound;
-  weakens = c.derivability_law.ensures.formulas;
-  lasts = c.derivability_law.ensures.signature;
+  weakens = c.derivability_law.ensures.allowed_formulas;
+  lasts = c.derivability_law.ensures.allowed_signature;
 }

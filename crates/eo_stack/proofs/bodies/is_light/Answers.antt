@@ -19,7 +19,7 @@ returns-clause-low c = λ fits.
     c.putting_law.ensures.height σ h c.in-Some.ensures.some (lights_low t.trees h c.args.subst.now.values all) (tree_in t c.args.body) in
     not_tall (put_in t c.args.subst.now c.args.body) (small (height (put_in t c.args.subst.now c.args.body)) (height (tree_in t c.args.body)) h c.height.result low c.height.ensures.height (grind (arith, nat_tests, fits)))
   where
-    small : (a b h r : ℕ) → a + 1 ≤ b + h → r ≡ b → r + h ≤ 2001 → a ≤ 2000
+    small : (a b h r : ℕ) → a + 1 ≤ b + h → r ≡ b → r + h ≤ 1_000_001 → a ≤ 1_000_000
     small a b h r low same fits = omega (arith, low, same, fits)
 
 pub returns-clause-values : goal.returns-clause-values

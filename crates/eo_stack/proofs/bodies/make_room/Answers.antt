@@ -13,12 +13,12 @@ loop-pattern-preserved c =
     let ps = c.args.patterns.now in
     let i = c.loop-pattern.pattern-index in
     let P : Slots → ℕ → Type 0 = λ s p. HasRoom s (tree_in t p) in
-    let new = c.make_room_for.new.subst in
+    let new = c.reserve_for.new.self in
     let next : take (i + 1) ps ≡ take i ps ++ c.pattern-item.result ∷ [] = ap (λ n. take n ps) (add-one i) ∙ (take-suc ps i c.pattern-item.result c.loop-pattern-test.true ∙ ap (λ x. take i ps ++ x ∷ []) (sym c.pattern-item.is)) in
     record {
-      room = subst (All (P new)) (sym next) (All-push (P new) (take i ps) c.pattern-item.result (All-weaker (P c.loop-pattern.subst) (P new) (λ p h. c.make_room_for.ensures.more (tree_in t p) h) (take i ps) v.room) c.in_ok-make_room_for.ensures.room);
-      held = c.make_room_for.ensures.held t.trees ∙ v.held;
-      below = c.make_room_for.ensures.below (length t.trees) v.below;
+      room = subst (All (P new)) (sym next) (All-push (P new) (take i ps) c.pattern-item.result (All-weaker (P c.loop-pattern.subst) (P new) (λ p h. c.reserve_for.ensures.more (tree_in t p) h) (take i ps) v.room) c.in_ok-reserve_for.ensures.room);
+      held = c.reserve_for.ensures.held t.trees ∙ v.held;
+      below = c.reserve_for.ensures.below (length t.trees) v.below;
     }
 
 pub returns-clause-room : goal.returns-clause-room

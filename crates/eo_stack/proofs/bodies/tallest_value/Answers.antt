@@ -15,7 +15,7 @@ loop-slot-preserved c =
     let m = c.max-tallest.result in
     let next : take (i + 1) os ≡ take i os ++ c.slot-item.result ∷ [] = ap (λ n. take n os) (add-one i) ∙ (take-suc os i c.slot-item.result c.loop-slot-test.true ∙ ap (λ x. take i os ++ x ∷ []) (sym c.slot-item.is)) in
     let one : 1 ≤ m = search rules in
-    let low : m ≤ 2000 = search rules in
+    let low : m ≤ 1_000_000 = search rules in
     let was : c.loop-slot.tallest ≤ m = search rules in
     let is : c.in-Some.height ≤ m = search rules in
     record {

@@ -1,4 +1,4 @@
-use Rattle.std.proofs.Common.{sym, subst}
+use Rattle.std.proofs.Common.{sym, ◌∙◌, subst}
 use Rattle.eo_session.specs.Held.{state_of}
 use Rattle.eo_session.specs.Step.{added_macro}
 use Rattle.eo_session.proofs.Adding.{declared-refused, declared-added}
@@ -28,3 +28,6 @@ pub returns-clause-does : goal.returns-clause-does
 returns-clause-does c =
     let keeps = keeps_table c.args.self.now c.requires c.defined.new.table c.in_ok-d.ensures.grows.stays c.in_ok-d.ensures.grows.table in
     declared-added _ added_macro (state_of c.args.self.now) c.add_macro.result c.add_macro.new.self _ (read_macro c.defined.new.table.trees c.in_ok-d.d) keeps.same c.in_ok-d.ensures.gives.is c.add_macro.ensures.does
+
+pub define_free-requires-clause-free : goal.define_free-requires-clause-free
+define_free-requires-clause-free c = λ ts. sym (c.is_free.ensures ts) ∙ c.if-is_free.true

@@ -30,7 +30,7 @@ invariant_of-self-2 c =
     let text : HasText bytes c.args.delimited c.args.from c.args.to = subst (λ (b : Built). HasText b.bytes c.args.delimited c.args.from c.args.to) (sym c.self.view_is) c.requires.text in
     let n : Node = node.Atom c.args.kind c.args.delimited c.args.from c.args.to in
     let all = added-open bytes c.self.inside.parts.nodes.items (n ∷ []) (reverse c.self.inside.lists.items)
-    (Atom (kind_meant c.args.kind) (token_text bytes c.args.delimited c.args.from c.args.to) (record { from = c.args.from; to = c.args.to })) c.self.invariant.open_lists (text, tt) refl in
+    (Atom (kind_meant c.args.kind) (token_text bytes c.args.delimited c.args.from c.args.to) (record { from = c.args.from; to = c.args.to })) c.self.invariant.open_lists ((text, c.requires.delimits), tt) refl in
     record {
       open_lists = subst (AreOpen bytes c.push.new.self.items) (sym c.count_child.ensures)
           (subst (λ (ns : List Node). AreOpen bytes ns (counted (reverse c.self.inside.lists.items))) (sym c.in_ok-push.ensures.items) all);

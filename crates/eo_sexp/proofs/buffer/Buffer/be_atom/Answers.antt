@@ -18,7 +18,7 @@ invariant_of-self c =
     let text : HasText bytes c.args.delimited c.args.from c.args.to = subst (λ (b : Built). HasText b.bytes c.args.delimited c.args.from c.args.to) (sym c.self.view_is) c.requires.text in
     let all : c.push_reserved.new.self.items ≡ n ∷ [] = c.push_reserved.ensures.items ∙ ap (λ (ns : List Node). ns ++ n ∷ []) c.clear.ensures.items in
     record {
-      open_lists = subst (λ (ns : List Node). AreOpen bytes ns os) (sym all) (alone-open bytes c.self.inside.parts.nodes.items os c.args.kind c.args.delimited c.args.from c.args.to none text);
+      open_lists = subst (λ (ns : List Node). AreOpen bytes ns os) (sym all) (alone-open bytes c.self.inside.parts.nodes.items os c.args.kind c.args.delimited c.args.from c.args.to none text c.requires.delimits);
       room = omega (arith, c.self.invariant.room, c.push_reserved.ensures.capacity, c.clear.ensures.capacity);
       short = omega (arith, ap length all);
       few = omega (arith, ap length all);

@@ -12,7 +12,7 @@ module _ (bytes : List ℕ) (ns more : List Node) (k : AtomKind) (d e : Bool) (f
   first-text = ap (λ l. sexp_text (first_of (trees bytes l))) is ∙ ap (λ b. token_text bytes b from to) same
 
   first-within : AreLinked bytes ns → HasText bytes e from to
-  first-within linked = subst (λ b. HasText bytes b from to) same (subst (AreLinked bytes) is linked).0
+  first-within linked = subst (λ b. HasText bytes b from to) same (subst (AreLinked bytes) is linked).0.0
 
 pub returns-in-Atom-default-true-default-default : goal.returns-in-Atom-default-true-default-default
 returns-in-Atom-default-true-default-default c =

@@ -40,7 +40,7 @@ pub returns-then-rest-n-eq32-clause-runs : goal.returns-then-rest-n-eq32-clause-
 returns-then-rest-n-eq32-clause-runs c =
     let b = c.args.buffer.now in
     let h = subst (IsReader limits (held b c.args.self.now)) (sym c.requires.at) c.requires.reader in
-    let kind = ap (λ k. with_child c.extend.new.self (Atom k (token_text c.extend.new.self.bytes false c.args.at (c.args.at + c.args.n)) (record { from = c.args.at; to = c.args.at + c.args.n }))) c.kind_of.ensures in
+    let kind = ap (λ k. with_child c.extend.new.self (Atom k (token_text c.extend.new.self.bytes false c.args.at (c.args.at + c.args.n)) (record { from = c.args.at; to = c.args.at + c.args.n }))) c.kind_of.ensures.kind in
     word-space limits some_token b c.extend.new.self c.add_atom.new.self c.args.self.now c.args.rest.now c.args.n c.args.at
     h c.requires.at c.requires.first c.requires.ahead c.requires.ends c.if-rest-n-eq32.true c.in_ok-extend.ensures (c.in_ok-add_atom.ensures ∙ kind)
 

@@ -47,13 +47,13 @@ pub turn_gap-requires-clause-reader : goal.turn_gap-requires-clause-reader
 turn_gap-requires-clause-reader c =
     let b = c.args.buffer.now in
     let h = subst (IsReader limits (held b c.args.self.now)) (sym c.requires.at) c.requires.reader in
-    let kind = ap (λ k. with_child c.extend.new.self (Atom k (token_text c.extend.new.self.bytes false c.args.at (c.args.at + c.args.n)) (record { from = c.args.at; to = c.args.at + c.args.n }))) c.kind_of.ensures in
+    let kind = ap (λ k. with_child c.extend.new.self (Atom k (token_text c.extend.new.self.bytes false c.args.at (c.args.at + c.args.n)) (record { from = c.args.at; to = c.args.at + c.args.n }))) c.kind_of.ensures.kind in
     word_reader limits some_token b c.extend.new.self c.add_atom.new.self c.args.self.now c.args.rest.now c.args.n c.args.at h c.requires.at c.requires.first c.requires.ahead c.in_ok-extend.ensures (c.in_ok-add_atom.ensures ∙ kind)
 
 pub returns : goal.returns
 returns c =
     let b = c.args.buffer.now in
     let h = subst (IsReader limits (held b c.args.self.now)) (sym c.requires.at) c.requires.reader in
-    let kind = ap (λ k. with_child c.extend.new.self (Atom k (token_text c.extend.new.self.bytes false c.args.at (c.args.at + c.args.n)) (record { from = c.args.at; to = c.args.at + c.args.n }))) c.kind_of.ensures in
+    let kind = ap (λ k. with_child c.extend.new.self (Atom k (token_text c.extend.new.self.bytes false c.args.at (c.args.at + c.args.n)) (record { from = c.args.at; to = c.args.at + c.args.n }))) c.kind_of.ensures.kind in
     word-stops limits some_token b c.extend.new.self c.add_atom.new.self c.args.self.now c.args.rest.now c.args.n c.args.at h c.requires.at c.requires.first c.requires.ahead c.in_ok-extend.ensures (c.in_ok-add_atom.ensures ∙ kind)
     _ c.turn_gap.new.buffer c.turn_gap.new.self c.turn_gap.result c.requires.ends c.turn_gap.ensures.bytes c.turn_gap.ensures.turns

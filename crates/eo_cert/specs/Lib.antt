@@ -1,0 +1,13 @@
+pub mod Lines
+pub mod Forms
+pub mod Stated
+pub mod Terms
+pub mod Rules
+pub mod Assignments
+pub mod Blocks
+pub mod Uses
+pub mod Recheck
+pub mod Traces
+pub mod Accepting
+pub mod Declared
+pub mod Written

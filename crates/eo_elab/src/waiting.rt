@@ -1,0 +1,54 @@
+//! What waits for the meaning of a term.
+use eo_names::{Bindings, Use};
+use eo_sexp::{Children, Sexp};
+use eo_term::{Id, Ids};
+
+/// What is read once all pairs of a `let` or a binder are.
+#[derive(Drop)]
+pub(crate) enum Next<'b> {
+    /// The body of a `let`.
+    Body(Sexp<'b>),
+    /// The other arguments of a constant that binds variables, of which another one makes the list.
+    Others {
+        binder: usize,
+        collector: usize,
+        others: Children<'b>,
+    },
+}
+
+/// One thing that waits for the meaning of a term.
+#[derive(Drop)]
+pub(crate) enum Frame<'b> {
+    /// Arguments wait for their head.
+    Head {
+        args: Children<'b>,
+    },
+    /// Arguments that are used so wait for one of them. The meanings of those before it are there.
+    Argument {
+        used: Use,
+        before: Ids,
+        rest: Children<'b>,
+    },
+    /// The pairs of a `let` or a binder wait for what stands beside a name. Those before it are there.
+    Beside {
+        before: Bindings,
+        name: &'b [u8],
+        rest: Children<'b>,
+        next: Next<'b>,
+    },
+    /// Attributes wait for their term.
+    Annotated {
+        attributes: Children<'b>,
+    },
+    /// What a `let` or a binder binds waits for what is read inside of it.
+    Inner,
+}
+
+/// What is done next.
+#[derive(Drop)]
+pub(crate) enum Now<'b> {
+    /// A term is read.
+    Read(Sexp<'b>),
+    /// A meaning is given to what waits for it.
+    Give(Id),
+}

@@ -1,0 +1,14 @@
+mod Stands
+mod Uses
+mod Folds
+mod Layers
+mod Steps
+mod LineNames
+mod Process
+mod FreeLines
+mod Follows
+mod ReadsBack
+mod Names
+mod ShapeNames
+mod RunNames
+mod TextBack

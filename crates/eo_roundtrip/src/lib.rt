@@ -1,0 +1,30 @@
+//! A value that is shown reads back as it is.
+#![tactic(auto)]
+
+ghost use Rattle.std.specs.Prelude.{◌≡◌, ℕ, List, Ok};
+ghost use Rattle.eo_io.specs.Library.{Files};
+ghost use Rattle.eo_run.specs.Run.{Progress, run_check, run_load};
+ghost use Rattle.eo_run.specs.declared.CheckJob.{CheckJob};
+ghost use Rattle.eo_session.specs.State.{State};
+ghost use Rattle.eo_roundtrip.specs.Shown.{IsNamed, ShowsBack};
+
+use eo_sexp::printed_law;
+use eo_show::lines_law;
+
+/// A law: the lines that a value is shown by read back as it. They are read as commands; these are
+/// accepted, one after another; and then the name of the last of them stands for a tree that
+/// evaluates to the value.
+///
+/// So it is in each state whose constants have names that can be read and printed. Each file that is
+/// loaded ends in such a state, and so does each check.
+pub fn shown_law()
+    ensures state { (st : State) → IsNamed st.signature → ShowsBack st }
+    ensures load { (files : Files) (name : List ℕ) (final : Progress) → run_load files name ≡ Ok final → ShowsBack final.state }
+    ensures load_names { (files : Files) (name : List ℕ) (final : Progress) → run_load files name ≡ Ok final →
+        IsNamed final.state.signature }
+    ensures check_names { (files : Files) (job : CheckJob) (final : Progress) → run_check files job ≡ Ok final →
+        IsNamed final.state.signature }
+{
+    printed_law();
+    lines_law();
+}

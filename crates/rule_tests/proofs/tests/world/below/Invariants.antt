@@ -1,7 +1,0 @@
-use Rattle.std.proofs.Common.{◌≡◌, ℕ, nat_lt}
-use Rattle.eo_term.specs.ParamSet.{has}
-use Rattle.rule_tests.proofs.tests.world.below.Given as goal
-
--- those before are in the set
-abbrev pub invariant-loop-i : goal.invariant-loop-i
-invariant-loop-i l = (j : ℕ) → has l.set j ≡ nat_lt j l.i
