@@ -1,0 +1,8 @@
+(declare-const p Bool)
+(declare-const q Bool)
+(declare-const r Bool)
+(declare-const s Bool)
+(declare-const x Int)
+(declare-fun g (Int) Int)
+(declare-fun P (Int) Bool)
+(assert (not true))
