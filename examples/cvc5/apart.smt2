@@ -1,0 +1,8 @@
+(set-logic QF_UFLIA)
+(declare-fun f (Int) Int)
+(declare-const x Int)
+(declare-const y Int)
+(assert (<= x y))
+(assert (<= y x))
+(assert (distinct (f x) (f y) 3))
+(check-sat)

@@ -1,0 +1,7 @@
+(set-logic ALL)
+(declare-sort U 0)
+(declare-fun f (Bool U) U)
+(declare-const p Bool)
+(declare-const a U)
+(assert (not (= (f p (f true a)) (f p (f (or p true) a)))))
+(check-sat)

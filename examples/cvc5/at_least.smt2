@@ -1,0 +1,7 @@
+(set-logic UFLIA)
+(declare-fun f (Int) Int)
+(declare-const n Int)
+(assert (forall ((x Int)) (=> (>= x 0) (>= (f x) x))))
+(assert (>= n 5))
+(assert (< (f n) 5))
+(check-sat)

@@ -1,0 +1,6 @@
+(set-logic QF_LIA)
+(declare-const x Int)
+(assert (> (* 2 x) 2))
+(assert (< (* 2 x) 4))
+(check-sat)
+(exit)

@@ -1,0 +1,7 @@
+(set-logic ALL)
+(declare-const x Int)
+(declare-const y Int)
+(assert (= (div x 2) y))
+(assert (= (mod x 2) 1))
+(assert (= x (* 2 y)))
+(check-sat)

@@ -1,0 +1,6 @@
+(set-logic ALL)
+(declare-const m (Array Int (Array Int Int)))
+(declare-const x Int)
+(declare-const y Int)
+(assert (not (= (select (select (store m x (store (select m x) y 5)) x) y) 5)))
+(check-sat)

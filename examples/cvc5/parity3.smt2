@@ -1,0 +1,7 @@
+(set-logic QF_UF)
+(declare-const x0 Bool)
+(declare-const x1 Bool)
+(declare-const x2 Bool)
+(assert (xor (xor (xor x0 x1) x2) (xor x0 (xor x1 x2))))
+(check-sat)
+(exit)

@@ -1,0 +1,6 @@
+(set-logic QF_LIA)
+(declare-const x Int)
+(declare-const y Int)
+(assert (>= (+ (* 3 x) (* 6 y)) 1))
+(assert (<= (+ x (* 2 y)) 0))
+(check-sat)

@@ -1,0 +1,8 @@
+(set-logic QF_LIA)
+(declare-const a Int)
+(declare-const b Int)
+(declare-const c Int)
+(assert (and (<= 0 a 2) (<= 0 b 2) (<= 0 c 2)))
+(assert (distinct a b c))
+(assert (not (= (+ a b c) 3)))
+(check-sat)
