@@ -86,20 +86,8 @@ pub(crate) fn unlink(table: &Table, fun: Id, list: Id) -> Option<Link>
     requires list { list < length table.now.trees }
     ensures { Unlinks table.now fun list result }
 {
-    let Node::App {
-        fun: front,
-        arg: rest,
-    } = table.node(list)
-    else {
-        return None;
-    };
-    let Node::App {
-        fun: head,
-        arg: item,
-    } = table.node(front)
-    else {
-        return None;
-    };
+    let (front, rest) = table.application(list)?;
+    let (head, item) = table.application(front)?;
     if table.is_same(head, fun) {
         Some(Link { item, rest })
     } else {

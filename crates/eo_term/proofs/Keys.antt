@@ -1,5 +1,5 @@
 -- Roots by their keys.
-use Rattle.std.proofs.Common.{◌≡◌, ℕ, ℤ, All, suc, pos, ◌<◌, ◌≤◌, List, [], ◌∷◌, ◌++◌, length, get_or, map, take, position, slice_get, Option, Some, None, IfSome, inl, inr, refl, sym, ap, ◌∙◌, subst, arith, length-append}
+use Rattle.std.proofs.Common.{◌≡◌, ℕ, ℤ, All, suc, pos, ◌<◌, ◌≤◌, List, [], ◌∷◌, ◌++◌, length, get_or, map, take, position, slice_get, Option, Some, None, IfSome, IfNone, is_some, inl, inr, refl, sym, ap, ◌∙◌, subst, arith, length-append}
 use Rattle.std.specs.Map.{keys_of, lookup}
 use Rattle.std.proofs.lemmas.List.{get_or-take, length-map, length-take-le, map-append, take-map}
 use Rattle.std.proofs.lemmas.List.Elements.{All-take}
@@ -21,7 +21,7 @@ use Rattle.eo_term.specs.contracts.node.KeyPartialEq.TheImpl as key_eq
 use Rattle.eo_term.proofs.Apart.{one_place}
 use Rattle.eo_term.proofs.Exact.{key_exact, key_same}
 use Rattle.eo_term.proofs.Grown.{slice_get_push, slice_get_take}
-use Rattle.eo_term.proofs.Numbers.{slice_get_at_map, slice_get_of_map, found_entry, no_entry, lookup_none, numbered_later, numbered_cut, old_kept}
+use Rattle.eo_term.proofs.Numbers.{slice_get_at_map, slice_get_of_map, found_entry, no_entry, none_from_is_some, lookup_none, numbered_later, numbered_cut, old_kept}
 
 pub uses_weaker : (P Q R S : ℕ → Type 0) → ((l : ℕ) → P l → R l) → ((l : ℕ) → Q l → S l) → (k : Key) → UsesOnly P Q k → UsesOnly R S k
 uses_weaker P Q R S f g (key.Con k) h = tt
@@ -252,6 +252,10 @@ module _ (n : Nodes) (h : IsKept n) where
               ∙ ap (λ r. Some (r, e.0.1)) (ap roots (sym (key_exact k e.0.0 e.2)) ∙ own.root),
         )
 
+    pub missing_root : (r : Option ℕ) → is_some r ≡ is_some (lookup (key_eq.ghosts.eq k) n.keys.entries) → IfNone r (IsNew (entries_of n) d is)
+    missing_root (Some i) p = tt
+    missing_root None p = new_key (none_from_is_some {B = ℕ} (lookup (key_eq.ghosts.eq k) n.keys.entries) None (sym p) (λ i. None))
+
     -- a new root's key is not there
     pub key_absent : IsNew (entries_of n) d is → lookup (key_eq.ghosts.eq k) n.keys.entries ≡ None
     key_absent a =
@@ -341,3 +345,10 @@ module _ (m n : Nodes) (h : IsKept m) (t a b : ℕ) (within : t ≤ length m.key
       ∙ map_same (λ (e : Key × Info). (root_of (literals_of n) (lists_of n) e.0, e.1)) (λ e. (root_of (literals_of m) (lists_of m) e.0, e.1)) (take t m.keys.entries)
       (λ i e p. let q = slice_get_take t m.keys.entries i e p in ap (λ r. (r, e.1)) (root_cut i e.0 q.0 (h.keyed i e q.1)))
       ∙ sym (take-map (λ (e : Key × Info). (root_of (literals_of m) (lists_of m) e.0, e.1)) t m.keys.entries)
+
+-- the key of an application, and that of a constant
+pub application_key : (n : Nodes) (f x : ℕ) → IsKeyOf n (node.App f x) [] (key.App f x)
+application_key n f x = record { live = tt; root = refl }
+
+pub constant_key : (n : Nodes) (c : ℕ) → IsKeyOf n (node.Con c) [] (key.Con c)
+constant_key n c = record { live = tt; root = refl }

@@ -1,12 +1,12 @@
 -- How a table holds its terms.
-use Rattle.std.specs.Prelude.{◌≡◌, ℕ, ◌<◌, ◌≤◌, List, [], ◌∷◌, ◌++◌, length, take, slice_get, All, Some}
+use Rattle.std.specs.Prelude.{◌≡◌, ℕ, ◌<◌, ◌≤◌, false, List, [], ◌∷◌, ◌++◌, length, take, slice_get, All, Some}
 use Rattle.eo_term.specs.declared.node.Info.{Info}
 use Rattle.eo_term.specs.declared.node.Node.{Node}
 use Rattle.eo_term.specs.declared.table.TheConstants.{HEIGHT_LIMIT}
 use Rattle.eo_term.specs.ParamSet.{has}
-use Rattle.eo_term.specs.Tree.{Tree, height, is_value, is_closed, is_plain, may_be_type, occurs, occurs_openly}
+use Rattle.eo_term.specs.Tree.{Tree, height, is_tall, is_value, is_closed, is_plain, may_be_type, occurs, occurs_openly}
 use Rattle.eo_base.specs.Characters.{AreCharacters}
-use Rattle.eo_term.specs.Terms.{Terms, tree_at, tree_of, trees_at, PartsBelow, TextsBelow, HasArguments, IsProper, AreApart, first_trees}
+use Rattle.eo_term.specs.Terms.{Terms, tree_at, tree_of, trees_at, PartsBelow, TextsBelow, HasArguments, IsProper, AreApart, Interned, first_trees}
 use Rattle.eo_term.specs.Ranges.{HasRange}
 use Rattle.eo_term.specs.Keys.{Root}
 
@@ -72,3 +72,12 @@ tree_over t d is = tree_of t.trees t.texts d (trees_at t.trees is)
 pub record HasRoot (t : Terms) (i : ℕ) (r : Root) : Type 0 where
   pub over : IsOver i (length t.texts) r
   pub tree : tree_at t.trees i ≡ tree_of_root t.trees t.texts r
+
+-- the tree is that of term i of the table, and is not too tall
+pub record IsThere (t : Terms) (u : Tree) (i : ℕ) : Type 0 where
+  pub interned : Interned t u i t
+  pub low : is_tall u ≡ false
+
+-- no term of the table has that tree
+abbrev pub Lacks : Terms → Tree → Type 0
+Lacks t u = (i : ℕ) → i < length t.trees → tree_at t.trees i ≡ u → ⊥

@@ -1,5 +1,5 @@
 -- How a table keeps the roots of its terms: each under a small key, in which a literal that is not small and a list of arguments that the key does not hold have numbers of their own.
-use Rattle.std.specs.Prelude.{◌≡◌, ◌+◌, ℕ, suc, pos, Vec, ◌<◌, ◌≤◌, List, [], ◌∷◌, ◌++◌, ◌⊎◌, length, map, slice_get, slice_index_or, Some, All}
+use Rattle.std.specs.Prelude.{◌≡◌, ◌+◌, ℕ, suc, pos, Vec, ◌<◌, ◌≤◌, List, [], ◌∷◌, ◌++◌, ◌⊎◌, length, map, slice_get, slice_index_or, Option, Some, None, All}
 use Rattle.std.specs.Map.{keys_of}
 use Rattle.std.specs.Global.{Global}
 use Rattle.indexmap.specs.IndexMap.{spare}
@@ -119,6 +119,11 @@ pub record IsKept (n : Nodes) : Type 0 where
 abbrev pub IsAt : List (Root × Info) → ℕ → Info → Type 0
 IsAt es i s = (r : Root) × (slice_get es i ≡ Some (r, s))
 
+-- the two parts of an application's key, and none of any other
+abbrev pub parts_of : Key → Option (ℕ × ℕ)
+parts_of (key.App f x) = Some (f, x)
+parts_of k = None
+
 -- no entry has that root
 abbrev pub IsNew : List (Root × Info) → Node → List ℕ → Type 0
 IsNew es d is = (i : ℕ) (e : Root × Info) → slice_get es i ≡ Some e → IsRoot e.0 d is → ⊥
@@ -136,6 +141,10 @@ HasKeyRoom n t = (n + 1 ≤ spare t.keys) × (n ≤ spare t.literals) × (n ≤ 
 -- the entry at a place has that root
 abbrev pub HasRootAt : List (Root × Info) → ℕ → Node → List ℕ → Type 0
 HasRootAt es i d is = (s : Info) × (slice_get es i ≡ Some (record { node = d; args = is }, s))
+
+-- the entry at a place has a key with those parts
+abbrev pub HasPartsAt : Nodes → ℕ → Option (ℕ × ℕ) → Type 0
+HasPartsAt n i o = (e : Key × Info) × (slice_get n.keys.entries i ≡ Some e) × (o ≡ parts_of e.0)
 
 -- the root is new, and stands at the end
 pub record IsAdded (es : List (Root × Info)) (r : Root) (s : Info) (i : ℕ) (fs : List (Root × Info)) : Type 0 where

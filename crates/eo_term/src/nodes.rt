@@ -7,11 +7,11 @@ ghost use Rattle.eo_term.specs.Terms.{HasArguments};
 ghost use Rattle.eo_term.specs.Keys.{IsRoot, root_of, literal_node, literal_at, list_at, UsesOnly, literals_of};
 ghost use Rattle.eo_term.specs.Keys.{lists_of, list_items, ages_of, entries_of, IsKeyed, IsKept, IsMore, IsKeyOf, IsAt};
 ghost use Rattle.eo_term.specs.Keys.{IsNew, IsPut, HasRoom, IsNumbered, HasNumber, MoreLiterals, MoreLists, HasKeyRoom};
-ghost use Rattle.eo_term.specs.Keys.{IsAbsent, IsCut, IsShape, IsWide, applied};
+ghost use Rattle.eo_term.specs.Keys.{IsAbsent, IsCut, IsShape, IsWide, HasRootAt, HasPartsAt, parts_of, applied};
 ghost use Rattle.eo_term.specs.declared.node.Node.TheVariants as node;
 
 use crate::id::number_of;
-use crate::node::{Info, Key, Literal, SmallNumber};
+use crate::node::{Applied, Constant, Info, Key, Literal, SmallNumber};
 use crate::{Id, Node, OpCode};
 use indexmap::IndexMap;
 use std::alloc::{AllocError, Global};
@@ -63,6 +63,16 @@ impl Nodes {
         *info
     }
 
+    // The two parts of the application at a place, and none where another root stands there.
+    #[inline(always)]
+    pub(crate) fn application(&self, at: usize) -> Option<(Id, Id)>
+        requires { at < length (entries_of self.now) }
+        ensures { HasPartsAt self.now at result }
+    {
+        let (key, _) = self.keys.get_index(at).unwrap();
+        parts_of(key)
+    }
+
     // The root of the term at a place, and what is known of it.
     #[inline(always)]
     pub(crate) fn get(&self, at: usize) -> (Node, &[Id], Info)
@@ -73,6 +83,44 @@ impl Nodes {
         let (key, info) = self.keys.get_index(at).unwrap();
         let (node, args) = self.root(key);
         (node, args, *info)
+    }
+
+    // The place of the application of one term to another, if it is there.
+    #[inline(always)]
+    pub(crate) fn find_application(&self, fun: Id, arg: Id) -> Option<usize>
+        requires { IsKept self.now }
+        ensures yes { IfSome result (λ i. HasRootAt (entries_of self.now) i (node.App fun arg) []) }
+        ensures no { IfNone result (IsNew (entries_of self.now) (node.App fun arg) []) }
+    {
+        self.keys.get_index_of(Applied { fun, arg })
+    }
+
+    // The place of a constant, if it is there.
+    #[inline(always)]
+    pub(crate) fn find_constant(&self, k: usize) -> Option<usize>
+        requires { IsKept self.now }
+        ensures yes { IfSome result (λ i. HasRootAt (entries_of self.now) i (node.Con k) []) }
+        ensures no { IfNone result (IsNew (entries_of self.now) (node.Con k) []) }
+    {
+        self.keys.get_index_of(Constant(k))
+    }
+
+    // The number of the application of one term to another, which is not there and is added.
+    pub(crate) fn push_application(
+        &mut self,
+        fun: Id,
+        arg: Id,
+        info: Info,
+    ) -> Result<u32, AllocError>
+        requires kept { IsKept self.old }
+        requires absent { IsNew (entries_of self.old) (node.App fun arg) [] }
+        ensures kept { IsKept self.new }
+        ensures ok { IfOk result (λ i. IsPut (entries_of self.old) (node.App fun arg) [] info i (entries_of self.new)) }
+        ensures err { OnErr result (entries_of self.new ≡ entries_of self.old) }
+    {
+        let number = number_of(self.keys.len())?;
+        self.keys.insert(Key::App { fun, arg }, info)?;
+        Ok(number)
     }
 
     // The number of the term with that root, which is added at the end where it is not there.
@@ -256,6 +304,17 @@ impl Nodes {
     {
         let (list, _) = self.lists.get_index(number).unwrap();
         list.as_slice()
+    }
+}
+
+// The two parts of an application's key, and none of any other.
+#[inline(always)]
+fn parts_of(key: &Key) -> Option<(Id, Id)>
+    ensures { result ≡ parts_of key.now }
+{
+    match *key {
+        Key::App { fun, arg } => Some((fun, arg)),
+        _ => None,
     }
 }
 

@@ -1,20 +1,21 @@
 //! The table of terms.
 ghost use Rattle.std.specs.Prelude.{◌≡◌, ℕ, ◌+◌, ◌<◌, ◌≤◌, ◌↔◌, ◌&&◌, ◌||◌, nat_eq, [], ◌∷◌};
-ghost use Rattle.std.specs.Prelude.{length, take, true, false, IsTrue, All, IfOk, OnOk, OnErr, slice_index_or};
+ghost use Rattle.std.specs.Prelude.{length, take, true, false, IsTrue, All, None, IfSome, IfNone, IfOk, OnOk, OnErr, slice_index_or};
 ghost use Rattle.eo_base.specs.Characters.{AreCharacters};
 ghost use Rattle.eo_term.specs.ParamSet.{has};
 ghost use Rattle.eo_term.specs.Tree.{height, height_all, is_tall, is_value, is_closed, all_closed, is_plain};
 ghost use Rattle.eo_term.specs.Tree.{may_type_use, may_be_type, all_may_be_type, occurs, occurs_in_all, occurs_openly};
-ghost use Rattle.eo_term.specs.Tree.{uses_only, tree_eq, NoTree, Op, App};
-ghost use Rattle.eo_term.specs.Arguments.{count_of, arguments_of, argument_at};
+ghost use Rattle.eo_term.specs.Tree.{uses_only, tree_eq, NoTree, Con, Op, App};
+ghost use Rattle.eo_term.specs.Arguments.{count_of, arguments_of, argument_at, application_of};
 ghost use Rattle.eo_term.specs.Growth.{IsTable, Grows};
 ghost use Rattle.eo_term.specs.Terms.{Terms, tree_at, text_at, trees_at, tree_of, PartsBelow, TextsBelow, IsPlain};
 ghost use Rattle.eo_term.specs.Terms.{HasCount, HasArity, IsProper, AreLow, Interned, InternedText, IsMark};
 ghost use Rattle.eo_term.specs.Terms.{first_trees};
 ghost use Rattle.eo_term.specs.Refused.{IsTall};
-ghost use Rattle.eo_term.specs.Held.{Tells, IsOver, HasRoot, tree_over, AreFirst};
+ghost use Rattle.eo_term.specs.Held.{Tells, IsOver, HasRoot, tree_over, Lacks, AreFirst};
 ghost use Rattle.eo_term.specs.Keys.{entries_of, IsKept};
 
+use crate::id::number_of;
 use crate::node::Info;
 use crate::nodes::Nodes;
 use crate::{Id, Mark, Node, OpCode, ParamSet, TextId};
@@ -25,6 +26,7 @@ use std::marker::Model;
 
 mod low;
 mod release;
+mod texts;
 
 /// The greatest height of a term.
 pub const HEIGHT_LIMIT: u32 = 1_000_000;
@@ -136,7 +138,7 @@ impl Table {
 
     /// The root of a term. Its parts are older terms; the arguments of an operator are told by
     /// [`Table::arg`].
-    #[inline]
+    #[inline(always)]
     pub fn node(&self, id: Id) -> Node
         requires { id < length self.now.trees }
         ensures tree { tree_of self.now.trees self.now.texts result (arguments_of (tree_at self.now.trees id)) ≡ tree_at self.now.trees id }
@@ -147,6 +149,18 @@ impl Table {
     {
         let (node, _) = self.root(id);
         node
+    }
+
+    /// The function and the argument of an application, which are older terms, and none of any other
+    /// term.
+    #[inline(always)]
+    pub fn application(&self, id: Id) -> Option<(Id, Id)>
+        requires { id < length self.now.trees }
+        ensures tree { IfSome result (λ p. App (tree_at self.now.trees p.0) (tree_at self.now.trees p.1) ≡ tree_at self.now.trees id) }
+        ensures older { IfSome result (λ p. (p.0 < id) × (p.1 < id)) }
+        ensures other { IfNone result (application_of (tree_at self.now.trees id) ≡ None) }
+    {
+        self.nodes.application(id.place())
     }
 
     /// The argument of an operator at a place, counted from 0. It is an older term.
@@ -299,7 +313,75 @@ impl Table {
     ///
     /// It is refused with [`TermRefused::Tall`] exactly where its height would exceed
     /// [`HEIGHT_LIMIT`]. The table then stays as it is, and also where there is no memory left.
+    #[inline(always)]
     pub fn intern(&mut self, node: Node) -> Result<Id, TermRefused>
+        requires plain { IsPlain node }
+        requires parts { PartsBelow (length self.old.trees) node }
+        requires texts { TextsBelow (length self.old.texts) node }
+        requires proper { IsProper node }
+        ensures interned { IfOk result (λ i. Interned self.old (tree_of self.old.trees self.old.texts node NoTree) i self.new) }
+        ensures tall { IsTall result ↔ (is_tall (tree_of self.old.trees self.old.texts node NoTree) ≡ true) }
+        ensures err { OnErr result (self.new ≡ self.old) }
+        ensures grows { Grows self.old self.new }
+    {
+        // Inlined, so that a caller which writes an application or a constant goes straight there.
+        match node {
+            Node::App { fun, arg } => self.apply(fun, arg),
+            Node::Con(k) => self.intern_constant(k),
+            _ => self.intern_other(node),
+        }
+    }
+
+    // The application of one term to another, as `intern` has it.
+    #[inline(always)]
+    fn apply(&mut self, fun: Id, arg: Id) -> Result<Id, TermRefused>
+        requires fun { fun < length self.old.trees }
+        requires arg { arg < length self.old.trees }
+        ensures interned { IfOk result (λ i. Interned self.old (App (tree_at self.old.trees fun) (tree_at self.old.trees arg)) i self.new) }
+        ensures tall { IsTall result ↔ (is_tall (App (tree_at self.old.trees fun) (tree_at self.old.trees arg)) ≡ true) }
+        ensures err { OnErr result (self.new ≡ self.old) }
+        ensures grows { Grows self.old self.new }
+    {
+        match self.nodes.find_application(fun, arg) {
+            Some(at) => term_at(at),
+            None => self.apply_new(fun, arg),
+        }
+    }
+
+    // The same where it is not there.
+    #[inline(never)]
+    fn apply_new(&mut self, fun: Id, arg: Id) -> Result<Id, TermRefused>
+        requires fun { fun < length self.old.trees }
+        requires arg { arg < length self.old.trees }
+        requires lacks { Lacks self.old (App (tree_at self.old.trees fun) (tree_at self.old.trees arg)) }
+        ensures interned { IfOk result (λ i. Interned self.old (App (tree_at self.old.trees fun) (tree_at self.old.trees arg)) i self.new) }
+        ensures tall { IsTall result ↔ (is_tall (App (tree_at self.old.trees fun) (tree_at self.old.trees arg)) ≡ true) }
+        ensures err { OnErr result (self.new ≡ self.old) }
+        ensures grows { Grows self.old self.new }
+    {
+        let info = self.info_of_pair(fun, arg);
+        if info.height > HEIGHT_LIMIT {
+            return Err(TermRefused::Tall);
+        }
+        Ok(self.add_application(fun, arg, info)?)
+    }
+
+    // The constant of this number, as `intern` has it.
+    #[inline(always)]
+    fn intern_constant(&mut self, k: usize) -> Result<Id, TermRefused>
+        ensures interned { IfOk result (λ i. Interned self.old (Con k) i self.new) }
+        ensures tall { IsTall result ↔ (is_tall (Con k) ≡ true) }
+        ensures err { OnErr result (self.new ≡ self.old) }
+        ensures grows { Grows self.old self.new }
+    {
+        match self.nodes.find_constant(k) {
+            Some(at) => term_at(at),
+            None => self.intern_other(Node::Con(k)),
+        }
+    }
+
+    // The term with this root, as `intern` has it.
+    fn intern_other(&mut self, node: Node) -> Result<Id, TermRefused>
         requires plain { IsPlain node }
         requires parts { PartsBelow (length self.old.trees) node }
         requires texts { TextsBelow (length self.old.texts) node }
@@ -452,6 +534,32 @@ impl Table {
         let number = self.nodes.intern(self.alloc, &node, args, info)?;
         Ok(Id { number })
     }
+
+    // The application of one term to another, which is not there, and of which `info` is known.
+    #[inline(always)]
+    fn add_application(&mut self, fun: Id, arg: Id, info: Info) -> Result<Id, AllocError>
+        requires fun { fun < length self.old.trees }
+        requires arg { arg < length self.old.trees }
+        requires lacks { Lacks self.old (App (tree_at self.old.trees fun) (tree_at self.old.trees arg)) }
+        requires tells { Tells (App (tree_at self.old.trees fun) (tree_at self.old.trees arg)) info }
+        requires low { info.height ≤ HEIGHT_LIMIT }
+        ensures interned { IfOk result (λ i. Interned self.old (App (tree_at self.old.trees fun) (tree_at self.old.trees arg)) i self.new) }
+        ensures err { OnErr result (self.new ≡ self.old) }
+        ensures grows { Grows self.old self.new }
+    {
+        let number = self.nodes.push_application(fun, arg, info)?;
+        Ok(Id { number })
+    }
+}
+
+// The term at a place. Beyond 2^32 of them there is no memory left.
+#[inline(always)]
+fn term_at(place: usize) -> Result<Id, TermRefused>
+    ensures ok { IfOk result (λ i. i ≡ place) }
+    ensures low { IsTall result → ⊥ }
+{
+    let number = number_of(place)?;
+    Ok(Id { number })
 }
 
 fn argument(args: &[Id], i: usize) -> Id

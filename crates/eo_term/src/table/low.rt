@@ -11,6 +11,7 @@ use std::alloc::AllocError;
 impl Table {
     /// The term with this root, as [`Table::intern`] has it, where it is not too tall. `Err` is want
     /// of memory, and the table stays as it is.
+    #[inline(always)]
     pub fn intern_low(&mut self, node: Node) -> Result<Id, AllocError>
         requires plain { IsPlain node }
         requires parts { PartsBelow (length self.old.trees) node }
