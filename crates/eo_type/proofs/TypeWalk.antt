@@ -1,7 +1,6 @@
 -- A walk that types terms, step by step.
 use Rattle.std.proofs.Common.{◌≡◌, ℕ, ◌+◌, ◌<◌, ◌≤◌, List, [], ◌∷◌, ◌++◌, length, Option, Some, None, nat_eq, Bool, true, false, if◌then◌else◌, refl, sym, ap, ◌∙◌, subst, arith}
 use Rattle.std.specs.Prelude.{Result, Ok, Err}
-use Rattle.std.proofs.lemmas.Option.{none-some}
 use Rattle.std.proofs.lemmas.Bool.{eqb-true, eqb-false}
 use Rattle.eo_sig.specs.Reading.{Kept, signature}
 use Rattle.eo_sig.specs.Growth.{GrowsUnder}
@@ -32,13 +31,6 @@ other_kept [] k v j n = by (nat_eq j k) refl
     by false q = refl
 other_kept (e ∷ es) k v j n = ap (λ (o : Option ℕ). if nat_eq j e.0 then Some e.1 else o) (other_kept es k v j n)
 
-pub none_first : (old now : List (ℕ × ℕ)) (j : ℕ) → Keeps old now → kept_type now j ≡ None → kept_type old j ≡ None
-none_first old now j keeps e = by (kept_type old j) refl
-  where
-    by : (o : Option ℕ) → kept_type old j ≡ o → o ≡ None
-    by None q = refl
-    by (Some u) q = absurd (none-some u (sym e ∙ keeps j u q))
-
 -- what is kept once the type of a term is found
 pub record IsFound (k : Kept) (new : Terms) (first now : List (ℕ × ℕ)) (id x ty : ℕ) : Type 0 where
   pub keeps : Keeps first now
@@ -56,23 +48,10 @@ is_found k old new first known now id x ty u none e keeps older low live fit typ
       found = subst (λ kn. kept_type kn x ≡ Some ty) (sym e) (kept_new known x ty none);
     }
 
-pub memo_on : (memo new known now : List (ℕ × ℕ)) (x ty : ℕ) → ((j : ℕ) → told new j ≡ (if nat_eq x j then Some ty else told memo j)) → now ≡ known ++ (x, ty) ∷ [] → kept_type now x ≡ Some ty → ((j v : ℕ) → told memo j ≡ Some v → kept_type known j ≡ Some v) → (j v : ℕ) → told new j ≡ Some v → kept_type now j ≡ Some v
-memo_on memo new known now x ty f e found h j v t = by (nat_eq x j) refl (sym (f j) ∙ t)
+-- a type that is kept is what is told of its term, and of any other term the same is told as before
+pub finished : (known now : List (ℕ × ℕ)) (x ty : ℕ) → kept_type known x ≡ None → now ≡ known ++ (x, ty) ∷ [] → (j : ℕ) → told now j ≡ (if nat_eq x j then Some ty else told known j)
+finished known now x ty none e j = ap (λ kn. told kn j) e ∙ by (nat_eq x j) refl
   where
-    by : (b : Bool) → nat_eq x j ≡ b → (if b then Some ty else told memo j) ≡ Some v → kept_type now j ≡ Some v
-    by true q r = ap (kept_type now) (sym (eqb-true x j q)) ∙ found ∙ r
-    by false q r = subst (λ kn. kept_type kn j ≡ Some v) (sym e) (keeps_more known (x, ty) j v (h j v r))
-
-pub same_on : (memo new known now first : List (ℕ × ℕ)) (x ty : ℕ) → ((j : ℕ) → told new j ≡ (if nat_eq x j then Some ty else told memo j)) → now ≡ known ++ (x, ty) ∷ [] → ((j : ℕ) → told memo j ≡ None → kept_type known j ≡ kept_type first j) → (j : ℕ) → told new j ≡ None → kept_type now j ≡ kept_type first j
-same_on memo new known now first x ty f e h j t = by (nat_eq x j) refl (sym (f j) ∙ t)
-  where
-    by : (b : Bool) → nat_eq x j ≡ b → (if b then Some ty else told memo j) ≡ None → kept_type now j ≡ kept_type first j
-    by true q r = absurd (none-some ty (sym r))
-    by false q r = subst (λ kn. kept_type kn j ≡ kept_type known j) (sym e) (other_kept known x ty j (eqb-false x j q)) ∙ h j r
-
-pub none_told : (memo known : List (ℕ × ℕ)) (j : ℕ) → ((i v : ℕ) → told memo i ≡ Some v → kept_type known i ≡ Some v) → kept_type known j ≡ None → told memo j ≡ None
-none_told memo known j h e = by (told memo j) refl
-  where
-    by : (o : Option ℕ) → told memo j ≡ o → o ≡ None
-    by None q = refl
-    by (Some u) q = absurd (none-some u (sym e ∙ h j u q))
+    by : (b : Bool) → nat_eq x j ≡ b → told (known ++ (x, ty) ∷ []) j ≡ (if b then Some ty else told known j)
+    by true q = ap (kept_type (known ++ (x, ty) ∷ [])) (sym (eqb-true x j q)) ∙ kept_new known x ty none
+    by false q = other_kept known x ty j (eqb-false x j q)

@@ -37,9 +37,9 @@ pub(crate) fn application_type(
     application_with(alloc, table, subst, fun, ty, arg)
 }
 
-// The same for a function type without parameters and operators, which is taken as it stands; `None`
-// for any other.
-fn plain_application(table: &Table, fun: Id, ty: Id) -> Option<Result<Id, Stop>>
+/// The same for a function type without parameters and operators, which is taken as it is; `None`
+/// for any other.
+pub(crate) fn plain_application(table: &Table, fun: Id, ty: Id) -> Option<Result<Id, Stop>>
     requires fun { fun < length table.now.trees }
     requires ty { ty < length table.now.trees }
     ensures { IfSome result (λ r. (x : Tree) → Gives table.now r (application_type (tree_in table.now fun) (tree_in table.now ty) x)) }

@@ -1,21 +1,33 @@
 //! The type of a term, by the types that are kept of its parts.
-ghost use Rattle.std.specs.Prelude.{◌≡◌, ◌<◌, ◌+◌, max, length, None, IfSome, IfNone};
-ghost use Rattle.eo_term.specs.Tree.{App, Arr};
+ghost use Rattle.std.specs.Prelude.{◌≡◌, ℕ, ◌<◌, ◌+◌, List, max, length, None, IfSome, IfNone};
+ghost use Rattle.eo_term.specs.Tree.{Tree, App, Arr};
+ghost use Rattle.eo_term.specs.Terms.{Terms};
 ghost use Rattle.eo_term.specs.Growth.{tree_in, Grows};
-ghost use Rattle.eo_sig.specs.Reading.{signature};
+ghost use Rattle.eo_sig.specs.Reading.{Kept, signature};
+ghost use Rattle.eo_type.specs.Types.{TypeOutcome};
 ghost use Rattle.eo_type.specs.Outcomes.{Gives, IsTyped};
 ghost use Rattle.eo_type.specs.Parts.{variable_type};
 ghost use Rattle.eo_type.specs.Known.{Fit, kept_type, type_at, type_in};
 ghost use Rattle.eo_type.specs.TypeSteps.{AreKept, GivesTypeStep};
 
-use crate::application::application_type;
+use crate::application::{application_type, plain_application};
 use crate::known::Known;
 use crate::leaves::is_constant;
 use crate::refused::Stop;
 use eo_pattern::Subst;
 use eo_sig::Signature;
-use eo_term::{Id, Step, Table};
+use eo_term::{Id, Node, Step, Table};
 use std::alloc::Global;
+
+// A type that is found ends a term's part of a walk.
+pub(crate) fn made(found: Result<Id, Stop>) -> Result<Step, Stop>
+    ensures { (k : Kept) (old new : Terms) (known : List (ℕ × ℕ)) (below : ℕ) (o : TypeOutcome Tree) → Gives new found o → GivesTypeStep k old known below o new result }
+{
+    match found {
+        Ok(ty) => Ok(Step::Made(ty)),
+        Err(e) => Err(e),
+    }
+}
 
 // The type that is kept of a term.
 pub(crate) fn kept(sig: &Signature, table: &Table, known: &Known, id: Id) -> Option<Id>
@@ -121,7 +133,7 @@ pub(crate) fn variable_step(
     Ok(Step::Made(found))
 }
 
-// The type of an application, or the first of its parts.
+// The type of an application, or the first of its parts of which none is kept.
 pub(crate) fn application_step(
     alloc: Global,
     sig: &Signature,
@@ -131,18 +143,104 @@ pub(crate) fn application_step(
     fun: Id,
     arg: Id,
 ) -> Result<Step, Stop>
+    requires fun { fun < length table.old.trees }
     requires arg { arg < length table.old.trees }
     requires fits { Fit sig.now table.old known.now }
     ensures gives { GivesTypeStep sig.now table.old known.now (max fun arg + 1) (type_in sig.now table.old (App (tree_in table.old fun) (tree_in table.old arg))) table.new result }
     ensures grows { Grows table.old table.new }
 {
-    match kept_two(sig, &*table, known, fun, arg) {
-        Err(part) => Ok(Step::Part(part)),
-        Ok((ty, kind)) => {
-            let found = application(alloc, sig, table, subst, fun, arg, ty, kind)?;
-            Ok(Step::Made(found))
-        }
+    match head_step(sig, &*table, known, fun)? {
+        Step::Made(ty) => applied(alloc, sig, table, subst, known, fun, arg, ty),
+        Step::Part(part) => Ok(Step::Part(part)),
     }
+}
+
+// The type of what is applied: that which is kept, or that of a plain application of which those of
+// both parts are kept. The latter is found anew each time, at a constant cost.
+fn head_step(sig: &Signature, table: &Table, known: &Known, id: Id) -> Result<Step, Stop>
+    requires live { id < length table.now.trees }
+    requires fits { Fit sig.now table.now known.now }
+    ensures { GivesTypeStep sig.now table.now known.now (id + 1) (type_at sig.now table.now id) table.now result }
+{
+    let Some(ty) = kept(sig, table, known, id) else {
+        return match table.node(id) {
+            Node::App { fun, arg } => plain_step(sig, table, known, id, fun, arg),
+            _ => Ok(Step::Part(id)),
+        };
+    };
+    Ok(Step::Made(ty))
+}
+
+// The type of the application `id` of these parts, if it is plain, or the first of the parts and of
+// itself that has to be typed before.
+fn plain_step(
+    sig: &Signature,
+    table: &Table,
+    known: &Known,
+    id: Id,
+    fun: Id,
+    arg: Id,
+) -> Result<Step, Stop>
+    requires tree { tree_in table.now id ≡ App (tree_in table.now fun) (tree_in table.now arg) }
+    requires fun { fun < id }
+    requires arg { arg < id }
+    requires live { id < length table.now.trees }
+    requires fits { Fit sig.now table.now known.now }
+    requires new { kept_type known.now id ≡ None }
+    ensures { GivesTypeStep sig.now table.now known.now (id + 1) (type_at sig.now table.now id) table.now result }
+{
+    match kept_two(sig, table, known, fun, arg) {
+        Err(part) => Ok(Step::Part(part)),
+        Ok((ty, kind)) => match plain(sig, table, fun, arg, ty, kind) {
+            Some(found) => made(found),
+            None => Ok(Step::Part(id)),
+        },
+    }
+}
+
+// The type of an application by these types of its parts, where the function type is taken as it is.
+fn plain(
+    sig: &Signature,
+    table: &Table,
+    fun: Id,
+    arg: Id,
+    ty: Id,
+    kind: Id,
+) -> Option<Result<Id, Stop>>
+    requires first { IsTyped table.now (type_at sig.now table.now fun) ty }
+    requires second { IsTyped table.now (type_at sig.now table.now arg) kind }
+    ensures { IfSome result (λ r. Gives table.now r (type_in sig.now table.now (App (tree_in table.now fun) (tree_in table.now arg)))) }
+{
+    let _sig = sig;
+    let (_fun, _arg) = (fun, arg);
+    if !table.is_value(kind) {
+        return None;
+    }
+    plain_application(table, ty, kind)
+}
+
+// The type of an application of what has this type, or its argument first.
+fn applied(
+    alloc: Global,
+    sig: &Signature,
+    table: &mut Table,
+    subst: &mut Subst,
+    known: &Known,
+    fun: Id,
+    arg: Id,
+    ty: Id,
+) -> Result<Step, Stop>
+    requires arg { arg < length table.old.trees }
+    requires fits { Fit sig.now table.old known.now }
+    requires typed { IsTyped table.old (type_at sig.now table.old fun) ty }
+    ensures gives { GivesTypeStep sig.now table.old known.now (arg + 1) (type_in sig.now table.old (App (tree_in table.old fun) (tree_in table.old arg))) table.new result }
+    ensures grows { Grows table.old table.new }
+{
+    let Some(kind) = kept(sig, &*table, known, arg) else {
+        return Ok(Step::Part(arg));
+    };
+    let found = application(alloc, sig, table, subst, fun, arg, ty, kind)?;
+    Ok(Step::Made(found))
 }
 
 // The type of a function type, or the first of its parts.

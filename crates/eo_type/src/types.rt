@@ -1,8 +1,7 @@
 //! Types of terms, and the types that are kept.
-ghost use Rattle.std.specs.Prelude.{◌≡◌, ℕ, ◌+◌, ◌<◌, List, [], length, filter, Ok, Some, None, OnErr};
+ghost use Rattle.std.specs.Prelude.{◌≡◌, ℕ, ◌+◌, ◌<◌, List, [], ◌∷◌, ◌++◌, length, filter, Ok, Some, None, IfSome, IfNone, OnOk, OnErr};
 ghost use Rattle.eo_term.specs.Tree.{Tree};
 ghost use Rattle.eo_term.specs.Terms.{Terms};
-ghost use Rattle.eo_term.specs.Memo.{told};
 ghost use Rattle.eo_term.specs.Growth.{tree_in, Grows};
 ghost use Rattle.eo_pattern.specs.Slots.{AreBelow, AreEmpty};
 ghost use Rattle.eo_sig.specs.Signature as spec;
@@ -18,12 +17,12 @@ use crate::TypeRefused;
 use crate::application::{assign, settled};
 use crate::known::Known;
 use crate::leaves::if_value;
-use crate::partwise::{application_step, function_step, variable_step};
+use crate::partwise::{application_step, function_step, made, variable_step};
 use crate::refused::{Stop, answer};
 use eo_pattern::Subst;
 use eo_sig::{LiteralClass, Signature, growth_law, longer_law};
-use eo_term::{Id, Mark, Node, Step, Table, Walk, walk_law};
-use std::alloc::Global;
+use eo_term::{Id, Mark, Node, Step, Table, walk_law};
+use std::alloc::{AllocError, Global};
 use std::marker::Model;
 
 /// Types that were found, with their terms, in the order in which they were found. Contracts see them
@@ -38,6 +37,8 @@ pub struct Types {
     known: Known,
     // Room for what parameters of types stand for. What it holds counts for nothing.
     subst: Subst,
+    // Room for the terms that wait for the types of their parts. What it holds counts for nothing.
+    waiting: Vec<Id>,
 }
 
 impl Model for Types {
@@ -58,6 +59,7 @@ impl Types {
             alloc,
             known: Known::new(alloc),
             subst: Subst::new(alloc),
+            waiting: Vec::new(alloc),
         }
     }
 
@@ -152,51 +154,75 @@ impl Types {
         ensures grows { GrowsUnder sig.now table.old table.new }
     {
         let alloc = self.alloc;
-        let mut walk = Walk::new(alloc, id);
+        self.waiting.clear();
         find_walk(
             alloc,
             sig,
             table,
             &mut self.subst,
             &mut self.known,
-            &mut walk,
+            &mut self.waiting,
+            id,
         )
     }
 }
 
-// The same, as a walk over its parts.
+// The same, as a walk over its parts: a term waits while the type of a part is found.
 fn find_walk(
     alloc: Global,
     sig: &Signature,
     table: &mut Table,
     subst: &mut Subst,
     known: &mut Known,
-    walk: &mut Walk,
+    waiting: &mut Vec<Id>,
+    id: Id,
 ) -> Result<Id, Stop>
-    requires live { walk.old.top < length table.old.trees }
+    requires live { id < length table.old.trees }
     requires fits { Fit sig.now table.old known.old }
-    requires new { kept_type known.old walk.old.top ≡ None }
-    requires told { (k : ℕ) → told walk.old.memo k ≡ None }
-    requires waiting { walk.old.waiting ≡ [] }
-    ensures gives { Gives table.new result (type_at sig.now table.old walk.old.top) }
-    ensures kept { Finds known.old walk.old.top result known.new }
-    ensures older { FindsBelow (walk.old.top + 1) known.old known.new }
+    requires new { kept_type known.old id ≡ None }
+    requires waiting { waiting.old.items ≡ [] }
+    ensures gives { Gives table.new result (type_at sig.now table.old id) }
+    ensures kept { Finds known.old id result known.new }
+    ensures older { FindsBelow (id + 1) known.old known.new }
     ensures fits { Fit sig.now table.new known.new }
     ensures grows { GrowsUnder sig.now table.old table.new }
 {
     walk_law();
     sig.laws();
+    let mut top = id;
     loop {
-        match derive(alloc, sig, table, subst, &*known, walk.top())? {
+        match derive(alloc, sig, table, subst, &*known, top)? {
             Step::Made(ty) => {
-                known.keep(walk.top(), ty)?;
-                if !walk.finish(ty)? {
+                known.keep(top, ty)?;
+                let Some(next) = resume(waiting) else {
                     return Ok(ty);
-                }
+                };
+                top = next;
             }
-            Step::Part(part) => walk.begin(part)?,
+            Step::Part(part) => {
+                wait(waiting, top)?;
+                top = part;
+            }
         }
     }
+}
+
+// Another term waits, the last of all.
+#[inline]
+fn wait(waiting: &mut Vec<Id>, id: Id) -> Result<(), AllocError>
+    ensures { OnOk result (waiting.new.items ≡ waiting.old.items ++ id ∷ []) }
+{
+    waiting.push(id)?;
+    Ok(())
+}
+
+// The term that waited last waits no more.
+#[inline]
+fn resume(waiting: &mut Vec<Id>) -> Option<Id>
+    ensures some { IfSome result (λ i. waiting.old.items ≡ waiting.new.items ++ i ∷ []) }
+    ensures none { IfNone result (waiting.old.items ≡ []) }
+{
+    waiting.pop()
 }
 
 // The type of a term, by the types that are kept of its parts, or the first part of which none is.
@@ -224,16 +250,6 @@ fn derive(
         Node::Par(_) => Err(Stop::Untyped),
         Node::Qar { .. } => Err(Stop::Untyped),
         Node::Op { .. } => Err(Stop::Untyped),
-    }
-}
-
-// A type that is found ends a term's part of a walk.
-fn made(found: Result<Id, Stop>) -> Result<Step, Stop>
-    ensures { (k : Kept) (old new : Terms) (known : List (ℕ × ℕ)) (below : ℕ) (o : TypeOutcome Tree) → Gives new found o → GivesTypeStep k old known below o new result }
-{
-    match found {
-        Ok(ty) => Ok(Step::Made(ty)),
-        Err(e) => Err(e),
     }
 }
 
