@@ -1,21 +1,23 @@
 -- What waits, finished.
 use Rattle.std.proofs.Common.{◌≡◌, ℕ, ◌+◌, ◌*◌, ◌<◌, ◌≤◌, List, [], ◌∷◌, ◌++◌, length, map, refl, sym, ap, ap₂, ◌∙◌, subst, arith, All}
-use Rattle.std.specs.Prelude.{reverse, Result, Ok, Err, false, bytes_eq, Some, drop}
+use Rattle.std.specs.Prelude.{reverse, Result, Ok, Err, false, bytes_eq, Some, None, drop}
 use Rattle.std.proofs.lemmas.List.{reverse-append, append_assoc}
 use Rattle.std.proofs.lemmas.List.Elements.{All-head, All-tail, All-weaker}
-use Rattle.eo_elab.proofs.Giving.{relabelled, made_labels, use_more}
+use Rattle.eo_elab.proofs.Giving.{relabelled, made_labels, labels_grown, use_more}
 use Rattle.std.specs.Result.{IsErrAnd}
 use Rattle.eo_base.specs.Answers.{Tells}
 use Rattle.eo_base.proofs.Answering.{tells_on}
 use Rattle.eo_base.specs.declared.FaultName.{FaultName}
-use Rattle.eo_sexp.specs.Sexp.{Sexp, Atom, Listed}
+use Rattle.eo_sexp.specs.Kinds.{sexp_kind}
+use Rattle.eo_sexp.specs.Pairs.{list_of as list_in}
+use Rattle.eo_sexp.specs.Sexp.{Sexp, Atom, Listed, sexp_text}
 use Rattle.eo_sexp.specs.Sizes.{size}
 use Rattle.eo_sig.specs.Reading.{Kept}
 use Rattle.eo_term.specs.Tree.{Tree, Con}
 use Rattle.eo_term.specs.Terms.{Terms, tree_at}
-use Rattle.eo_term.specs.Growth.{tree_in}
+use Rattle.eo_term.specs.Growth.{tree_in, trees_in}
 use Rattle.eo_names.specs.Names.{Binding, binding_local, bound_by, read_pairs, read_locals, BindingsBelow, AreBelow}
-use Rattle.eo_names.specs.Readers.{Label, Reader, ◌>>=◌, give, built, go_on}
+use Rattle.eo_names.specs.Readers.{Label, Reader, ◌>>=◌, give, built, go_on, with_labels}
 use Rattle.std.specs.List.{list_any}
 use Rattle.eo_names.specs.Binders.{pair_local, variable, list_of}
 use Rattle.eo_names.specs.Contexts.{is_list as is_list_tree}
@@ -24,7 +26,8 @@ use Rattle.eo_names.specs.Refused.{told}
 use Rattle.eo_names.specs.Usage.{made_of, Suits, UseBelow}
 use Rattle.eo_names.specs.declared.refused.ElabRefused.{ElabRefused}
 use Rattle.eo_names.specs.declared.usage.Use.{Use}
-use Rattle.eo_elab.proofs.WalkSteps.{all_next, all_fault, all_end, all_alone, no_binder, bound_after, binder_step, let_step, pairs_end, pairs_next, pairs_fault}
+use Rattle.eo_elab.specs.Gives.{atom_told}
+use Rattle.eo_elab.proofs.WalkSteps.{of_no_list, all_next, all_fault, all_end, all_alone, no_binder, bound_after, binder_step, let_step, pairs_end, pairs_next, pairs_fault}
 use Rattle.eo_names.specs.Ready.{IsReady}
 use Rattle.eo_names.specs.Scopes.{bound_in, setting_in}
 use Rattle.eo_names.specs.declared.locals.LocalName.{LocalName}
@@ -42,7 +45,7 @@ use Rattle.eo_elab.specs.declared.waiting.Next.{Next}
 use Rattle.eo_elab.specs.declared.waiting.Next.TheVariants as next
 use Rattle.eo_elab.specs.declared.waiting.Now.{Now}
 use Rattle.eo_elab.specs.declared.waiting.Now.TheVariants as now
-use Rattle.eo_elab.specs.Waiting.{Blocks, inside, resumed, around, around_all, finished, reads, FrameBelow, FramesBelow, weight, weights, weight_now, GoesOn, Goes, arguments_after, used_by, pairs_then, pairs_first, with_names}
+use Rattle.eo_elab.specs.Waiting.{Blocks, inside, resumed, around, around_all, finished, reads, FrameBelow, FramesBelow, weight, weights, weight_now, GoesOn, Goes, ReadsOn, arguments_after, used_by, pairs_then, pairs_first, with_names}
 
 module _ (k : Kept) (s : Scope) (t : Terms) where
   -- some that wait in front of others
@@ -127,6 +130,19 @@ pub plain_arguments : (t : Terms) (w : World) (h : Sexp) (args : List Sexp) (u :
 plain_arguments t w h args u labels differs =
     ap (λ (r : Reader (List Tree)). go_on (made_of t.trees w.names w.locals u) (r labels)) (no_binder (parts_in w h args) u differs) ∙ ap (go_on (made_of t.trees w.names w.locals u)) (all_alone w.names w.locals labels (parts_in w h args).arguments)
 
+-- the exit of a `?` ends with the fault of all terms
+pub reads_fault : (w : World) (old new : Terms) (before after : List ℕ) (terms : List Sexp) (r : Result (List Sexp) ElabRefused) (e : ElabRefused) → IsErrAnd r (λ x. x ≡ e) → ((labels : List Label) → Tells told e (all_in w (trees_in old before) terms labels)) → ReadsOn w old new before after terms r
+reads_fault w old new before after terms (Ok left) e q h = absurd q
+reads_fault w old new before after terms (Err x) e q h = subst (λ y. (labels : List Label) → Tells told y (all_in w (trees_in old before) terms labels)) (sym q) h
+
+-- the first of several terms is an atom, behind those before it
+module _ (w : World) (before : List Tree) (x : Sexp) (rest : List Sexp) (labels : List Label) (alone : None ≡ list_in x) where
+  pub atom_next : (t : Tree) → atom_told w (sexp_kind x) (sexp_text x) ≡ Ok t → all_in w before (x ∷ rest) labels ≡ all_in w (before ++ t ∷ []) rest labels
+  atom_next t e = all_next w.names w.locals labels x (sexps rest) before t labels (of_no_list w x labels alone ∙ ap (with_labels labels) e)
+
+  pub atom_fault : (fault : FaultName) → atom_told w (sexp_kind x) (sexp_text x) ≡ Err fault → all_in w before (x ∷ rest) labels ≡ Err fault
+  atom_fault fault e = all_fault w.names w.locals labels x (sexps rest) before fault (of_no_list w x labels alone ∙ ap (with_labels labels) e)
+
 -- what is read inside of names that are bound
 inner_same : (r : Read Tree) → r ≡ go_on (λ t labels. Ok (t, labels)) r
 inner_same (Ok p) = refl
@@ -167,7 +183,7 @@ around_ready n k s [] frame.Inner h = h
 around_ready n k s (b ∷ blocks) frame.Inner h = record { below = h.below; names = outer_below n (map binding_local b) (bound_by blocks ++ bound_in s) (subst (AreBelow n) (append_assoc (map binding_local b) (bound_by blocks) (bound_in s)) h.names) }
 around_ready n k s blocks (frame.Head args) h = h
 around_ready n k s blocks (frame.Argument u before rest) h = h
-around_ready n k s blocks (frame.Beside before name rest m) h = h
+around_ready n k s blocks (frame.Beside b) h = h
 around_ready n k s blocks (frame.Annotated attributes) h = h
 
 module _ (k : Kept) (s : Scope) (old new : Terms) (g : Grows old new) (stays : (ls : List LocalName) → NamesStay k ls) (uses : (u : Use) → UseStays u) where
@@ -182,9 +198,18 @@ module _ (k : Kept) (s : Scope) (old new : Terms) (g : Grows old new) (stays : (
   resumed_grown w (frame.Head args) below r = refl
   resumed_grown w (frame.Argument u before rest) below r = go_same (resumed w new.trees (frame.Argument u before rest)) (resumed w old.trees (frame.Argument u before rest))
       (λ x labels. ap (λ is. arguments_after w new.trees u (is ++ x ∷ []) rest labels) (trees_grown old new before below.0 g) ∙ go_same (made_of new.trees w.names w.locals u) (made_of old.trees w.names w.locals u) (λ ts ls. made_grown w u ts below.1.0 ls) (all_in w (map (tree_at old.trees) before ++ x ∷ []) rest labels)) r
-  resumed_grown w (frame.Beside before name rest m) below r = ap (λ bs. go_on (λ x. pairs_then w m (bs ++ (name.now, x) ∷ []) rest) r) (pairs_grown old new before below.0 g)
+  resumed_grown w (frame.Beside b) below r = ap (λ bs. go_on (λ x. pairs_then w b.value.next (bs ++ (b.value.name.now, x) ∷ []) b.value.rest) r) (pairs_grown old new b.value.before below.0 g)
   resumed_grown w (frame.Annotated attributes) below r = refl
   resumed_grown w frame.Inner below r = refl
+
+  -- and so do arguments that are left
+  pub arguments_grown : (blocks : Blocks) (u : Use) (labels : List Binding) (us : List Tree) (rest : List Sexp) → UseBelow (length old.trees) u → BindingsBelow (length old.trees) labels → IsReady (length old.trees) k (bound_by blocks ++ bound_in s)
+      → arguments_after (inside new k s blocks) new.trees u us rest (labels_in new labels) ≡ arguments_after (inside old k s blocks) old.trees u us rest (labels_in old labels)
+  arguments_grown blocks u labels us rest below given ready =
+      let same : inside new k s blocks ≡ inside old k s blocks = ap (in_setting (setting_in s)) (stays (bound_by blocks ++ bound_in s) old new ready g).world in
+      let w = inside old k s blocks in
+      ap (λ v. arguments_after v new.trees u us rest (labels_in new labels)) same ∙ ap (arguments_after w new.trees u us rest) (labels_grown old new labels given g.now)
+      ∙ go_same (made_of new.trees w.names w.locals u) (made_of old.trees w.names w.locals u) (λ ts ls. made_grown w u ts below ls) (all_in w us rest (labels_in old labels))
 
   -- what waits makes the same of what is read
   pub finished_grown : (blocks : Blocks) (fs : List Frame) → FramesBelow (length old.trees) fs → IsReady (length old.trees) k (bound_by blocks ++ bound_in s) → (r : Read Tree) → finished k s new blocks fs r ≡ finished k s old blocks fs r
@@ -203,7 +228,7 @@ module _ (k : Kept) (s : Scope) (old new : Terms) (g : Grows old new) (stays : (
   frame_more : (f : Frame) → FrameBelow (length old.trees) f → FrameBelow (length new.trees) f
   frame_more (frame.Head args) h = h
   frame_more (frame.Argument u before rest) h = (All-weaker (λ i. i < length old.trees) (λ i. i < length new.trees) (λ i l. omega (arith, l, g.now.more_trees)) before h.0, (use_more old new u g.now h.1.0, h.1.1))
-  frame_more (frame.Beside before name rest m) h = (All-weaker (λ (b : Binding). b.1 < length old.trees) (λ (b : Binding). b.1 < length new.trees) (λ b l. omega (arith, l, g.now.more_trees)) before h.0, h.1)
+  frame_more (frame.Beside b) h = (All-weaker (λ (b : Binding). b.1 < length old.trees) (λ (b : Binding). b.1 < length new.trees) (λ p l. omega (arith, l, g.now.more_trees)) b.value.before h.0, h.1)
   frame_more (frame.Annotated attributes) h = tt
   frame_more frame.Inner h = tt
 

@@ -6,12 +6,12 @@ use Rattle.eo_sexp.specs.Sizes.{size, size_of_all}
 use Rattle.eo_sig.specs.Reading.{Kept}
 use Rattle.eo_term.specs.Tree.{Tree, Con}
 use Rattle.eo_term.specs.Terms.{Terms, tree_at}
-use Rattle.eo_term.specs.Growth.{tree_in}
+use Rattle.eo_term.specs.Growth.{tree_in, trees_in}
 use Rattle.eo_names.specs.Binders.{pair_local, variable, list_of}
 use Rattle.eo_names.specs.Contexts.{is_list}
 use Rattle.eo_names.specs.Folding.{applied}
 use Rattle.eo_names.specs.Names.{Binding, read_pairs, BindingsBelow, bound_by, names_in}
-use Rattle.eo_names.specs.Readers.{Reader, ◌>>=◌, give, go_on, built}
+use Rattle.eo_names.specs.Readers.{Label, Reader, ◌>>=◌, give, go_on, built}
 use Rattle.eo_names.specs.Ready.{IsReady}
 use Rattle.eo_names.specs.Refused.{told}
 use Rattle.eo_names.specs.Scopes.{bound_in, setting_in}
@@ -64,7 +64,7 @@ headed_by w args f = used (tree_use w.names w.locals (sexps args) f) (means_all 
 abbrev pub resumed : World → List Tree → Frame → Tree → Reader Tree
 resumed w ts (frame.Head args) f = headed_by w args f
 resumed w ts (frame.Argument u before rest) t = arguments_after w ts u (map (tree_at ts) before ++ t ∷ []) rest
-resumed w ts (frame.Beside before name rest n) t = pairs_then w n (read_pairs ts before ++ (name.now, t) ∷ []) rest
+resumed w ts (frame.Beside b) t = pairs_then w b.value.next (read_pairs ts b.value.before ++ (b.value.name.now, t) ∷ []) b.value.rest
 resumed w ts (frame.Annotated attributes) t = label w.names t (labels_of w.names.setting (sexps attributes))
 resumed w ts frame.Inner t = give t
 
@@ -73,7 +73,7 @@ abbrev pub around : Frame → Blocks → Blocks
 around frame.Inner blocks = drop 1 blocks
 around (frame.Head args) blocks = blocks
 around (frame.Argument u before rest) blocks = blocks
-around (frame.Beside before name rest n) blocks = blocks
+around (frame.Beside b) blocks = blocks
 around (frame.Annotated attributes) blocks = blocks
 
 abbrev pub around_all : List Frame → Blocks → Blocks
@@ -99,7 +99,7 @@ NowBelow n (now.Give i) = i < n
 abbrev pub FrameBelow : ℕ → Frame → Type 0
 FrameBelow n (frame.Head args) = 1 ≤ length args
 FrameBelow n (frame.Argument u before rest) = All (λ i. i < n) before × (UseBelow n u × Suits u (length before + 1 + length rest))
-FrameBelow n (frame.Beside before name rest next) = BindingsBelow n before × (names_in before name.now ≡ false)
+FrameBelow n (frame.Beside b) = BindingsBelow n b.value.before × (names_in b.value.before b.value.name.now ≡ false)
 FrameBelow n (frame.Annotated attributes) = Unit {0}
 FrameBelow n frame.Inner = Unit {0}
 
@@ -115,7 +115,7 @@ weight_next (next.Others binder collector others) = 4 * size_of_all others + 1
 abbrev pub weight : Frame → ℕ
 weight (frame.Head args) = 4 * size_of_all args + 1
 weight (frame.Argument u before rest) = 4 * size_of_all rest + 1
-weight (frame.Beside before name rest n) = 4 * size_of_all rest + weight_next n + 1
+weight (frame.Beside b) = 4 * size_of_all b.value.rest + weight_next b.value.next + 1
 weight (frame.Annotated attributes) = 1
 weight frame.Inner = 1
 
@@ -142,6 +142,18 @@ pub record GoesOn (k : Kept) (s : Scope) (t : Terms) (labels : List Binding) (bl
 abbrev pub Goes : Kept → Scope → Terms → List Binding → (blocks inner : Blocks) → (before after : List Frame) → ℕ → Result Now ElabRefused → Read Tree → Type 0
 Goes k s t labels blocks inner before after most (Ok n) r = GoesOn k s t labels blocks inner before after most n r
 Goes k s t labels blocks inner before after most (Err e) r = Tells told e r
+
+-- Terms are read on: what is left, behind what is read by then, makes what all make.
+pub record IsReadOn (w : World) (old new : Terms) (before after : List ℕ) (terms left : List Sexp) : Type 0 where
+  pub live : All (λ i. i < length new.trees) after
+  pub count : length after + length left ≡ length before + length terms
+  pub less : size_of_all left ≤ size_of_all terms
+  pub is : (labels : List Label) → all_in w (trees_in old before) terms labels ≡ all_in w (trees_in new after) left labels
+
+-- they are, or there is the fault of the whole
+abbrev pub ReadsOn : World → (old new : Terms) → (before after : List ℕ) → List Sexp → Result (List Sexp) ElabRefused → Type 0
+ReadsOn w old new before after terms (Ok left) = IsReadOn w old new before after terms left
+ReadsOn w old new before after terms (Err e) = (labels : List Label) → Tells told e (all_in w (trees_in old before) terms labels)
 
 -- what is made of arguments that are all there
 abbrev pub used_by : World → List Tree → Use → List Tree → Reader Tree

@@ -10,6 +10,7 @@ mod shapes;
 mod terms;
 mod waiting;
 mod walk;
+mod within;
 
 pub use eo_names::{Bindings as Names, ElabRefused, LocalName, Locals, Setting};
 pub use laws::labels_law;

@@ -16,7 +16,20 @@ pub(crate) enum Next<'b> {
     },
 }
 
-/// One thing that waits for the meaning of a term.
+/// The pairs of a `let` or a binder, of which one is read.
+#[derive(Drop)]
+pub(crate) struct Pairs<'b> {
+    /// The names of those before it, and the meanings beside them.
+    pub(crate) before: Bindings,
+    /// Its name.
+    pub(crate) name: &'b [u8],
+    /// Those behind it.
+    pub(crate) rest: Children<'b>,
+    pub(crate) next: Next<'b>,
+}
+
+/// One thing that waits for the meaning of a term. It takes 72 bytes: pairs, which are the largest
+/// and rare, are apart.
 #[derive(Drop)]
 pub(crate) enum Frame<'b> {
     /// Arguments wait for their head.
@@ -29,13 +42,8 @@ pub(crate) enum Frame<'b> {
         before: Ids,
         rest: Children<'b>,
     },
-    /// The pairs of a `let` or a binder wait for what stands beside a name. Those before it are there.
-    Beside {
-        before: Bindings,
-        name: &'b [u8],
-        rest: Children<'b>,
-        next: Next<'b>,
-    },
+    /// The pairs of a `let` or a binder wait for what stands beside the name of one.
+    Beside(Box<Pairs<'b>>),
     /// Attributes wait for their term.
     Annotated {
         attributes: Children<'b>,

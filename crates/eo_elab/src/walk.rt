@@ -1,13 +1,9 @@
 //! The walk over a term.
-ghost use Rattle.std.specs.Prelude.{◌≡◌, ◌<◌, ◌≤◌, ◌+◌, ◌-◌, ◌*◌, ◌++◌, [], ◌∷◌, length, reverse, All, OnOk, None, Ok, IfOk, map, false};
+ghost use Rattle.std.specs.Prelude.{◌≡◌, ◌<◌, ◌≤◌, ◌+◌, ◌-◌, ◌*◌, ◌++◌, [], ◌∷◌, length, reverse, All, OnOk, None, Ok, IfOk, false};
 ghost use Rattle.eo_sexp.specs.Sexp.{Sexp, Span};
 ghost use Rattle.eo_sexp.specs.Sizes.{size, size_of_all};
 ghost use Rattle.eo_term.specs.Growth.{Grows, tree_in, trees_in};
-ghost use Rattle.eo_elab.specs.Gives.{GivesTerm, NamesGrow, FormsList, atom_told};
-ghost use Rattle.eo_elab.specs.Forms.{FormFits};
-ghost use Rattle.eo_names.specs.Gives.{GivesTree, GivesTerm as GivesNone};
-ghost use Rattle.eo_names.specs.Worlds.{world_of, bound_list_in, seen_in};
-ghost use Rattle.eo_names.specs.Binders.{variable};
+ghost use Rattle.eo_elab.specs.Gives.{GivesTerm, NamesGrow};
 ghost use Rattle.eo_names.specs.Names.{BindingsBelow, bound_by, names_in, read_pairs};
 ghost use Rattle.eo_names.specs.Scopes.{bound_in};
 ghost use Rattle.eo_names.specs.Usage.{UseBelow, Suits};
@@ -15,16 +11,18 @@ ghost use Rattle.eo_names.specs.Ready.{IsReady};
 ghost use Rattle.eo_elab.specs.declared.waiting.Frame.TheVariants as frame;
 ghost use Rattle.eo_elab.specs.declared.waiting.Next.TheVariants as nexts;
 ghost use Rattle.eo_elab.specs.Worlds.{term_at, labels_in, let_in, annotated_in, term_in, list_in, use_in};
-ghost use Rattle.eo_elab.specs.Waiting.{Goes, FrameBelow, FramesBelow, NowBelow, reads, inside, arguments_after, pairs_then, headed_by, with_names, finished, around, used_by, weight, weight_next, pairs_first};
+ghost use Rattle.eo_elab.specs.Waiting.{Goes, ReadsOn, FrameBelow, FramesBelow, NowBelow, reads, resumed, inside, finished, around};
+ghost use Rattle.eo_elab.specs.Waiting.{arguments_after, pairs_first, pairs_then, headed_by, with_names, weight, weight_next};
 
 use crate::annotations::label;
-use crate::atoms::{atom, bit_string};
-use crate::plan::{Form, form_of, use_of_term};
+use crate::atoms::bit_string;
+use crate::plan::{Form, use_of_term};
 use crate::shapes::pair_of;
-use crate::waiting::{Frame, Next, Now};
+use crate::waiting::{Frame, Next, Now, Pairs};
+use crate::within::{atom_inside, bind_inside, form_inside, use_all};
 use crate::{ElabRefused, Names};
-use eo_names::{Bindings, Blocks, Scope, Use, bind, names_law, use_arguments};
-use eo_sexp::{Children, Kind, Sexp};
+use eo_names::{Bindings, Blocks, Scope, Use, names_law};
+use eo_sexp::{Children, Sexp};
 use eo_sig::SignatureView;
 use eo_term::{Id, Ids, Table};
 use std::alloc::{AllocError, Global};
@@ -69,7 +67,8 @@ fn read_list<'b>(
     }
 }
 
-// The next one of arguments that are used so, or what is made of all.
+// What is made of arguments that are used so, where those before the first list are read, or that
+// list is read next.
 fn next_argument<'b>(
     alloc: Global,
     used: &Use,
@@ -87,8 +86,74 @@ fn next_argument<'b>(
     requires before { All (λ i. i < length table.old.trees) before }
     requires below { UseBelow (length table.old.trees) used.now }
     requires suits { Suits used.now (length before + length rest.now) }
-    ensures gives { Goes sig.now scope.now table.new labels.now blocks.now blocks.now waits.old.items waits.new.items (4 * size_of_all rest.now + 1) result
-        (arguments_after (inside table.old sig.now scope.now blocks.now) table.old.trees used.now (trees_in table.old before) rest.now (labels_in table.old labels.now)) }
+    ensures gives { Goes sig.now scope.now table.new labels.now blocks.now blocks.now
+        waits.old.items waits.new.items (4 * size_of_all rest.now + 1) result
+        (arguments_after (inside table.old sig.now scope.now blocks.now) table.old.trees used.now
+        (trees_in table.old before) rest.now (labels_in table.old labels.now)) }
+    ensures grows { Grows table.old table.new }
+{
+    names_law();
+    let mut ids = before;
+    let left = read_atoms(alloc, rest, &mut ids, scope, sig, table, blocks)?;
+    use_or_wait(
+        alloc, used, ids, &left, scope, sig, table, labels, blocks, waits,
+    )
+}
+
+// The meanings of the terms before the first list, behind those that are there, and what is left.
+fn read_atoms<'b>(
+    alloc: Global,
+    terms: &Children<'b>,
+    ids: &mut Ids,
+    scope: &Scope<'_>,
+    sig: &SignatureView<'_>,
+    table: &mut Table,
+    blocks: &Blocks,
+) -> Result<Children<'b>, ElabRefused>
+    requires ready { IsReady (length table.old.trees) sig.now (bound_by blocks.now ++ bound_in scope.now) }
+    requires before { All (λ i. i < length table.old.trees) ids.old }
+    ensures gives { ReadsOn (inside table.old sig.now scope.now blocks.now) table.old table.new ids.old ids.new terms.now result }
+    ensures grows { Grows table.old table.new }
+{
+    names_law();
+    let mut left = terms.again();
+    loop {
+        let Some((s, rest)) = left.split_first() else {
+            return Ok(left);
+        };
+        match s.list() {
+            Some(_) => return Ok(left),
+            None => {
+                let id = atom_inside(alloc, s.kind(), s.text(), scope, sig, table, blocks)?;
+                ids.push(id)?;
+                left = rest;
+            }
+        }
+    }
+}
+
+// The first of the arguments that are left is read next, or what is made of all is there.
+fn use_or_wait<'b>(
+    alloc: Global,
+    used: &Use,
+    before: Ids,
+    rest: &Children<'b>,
+    scope: &Scope<'_>,
+    sig: &SignatureView<'_>,
+    table: &mut Table,
+    labels: &Names,
+    blocks: &Blocks,
+    waits: &mut Vec<Frame<'b>>,
+) -> Result<Now<'b>, ElabRefused>
+    requires ready { IsReady (length table.old.trees) sig.now (bound_by blocks.now ++ bound_in scope.now) }
+    requires labels { BindingsBelow (length table.old.trees) labels.now }
+    requires before { All (λ i. i < length table.old.trees) before }
+    requires below { UseBelow (length table.old.trees) used.now }
+    requires suits { Suits used.now (length before + length rest.now) }
+    ensures gives { Goes sig.now scope.now table.new labels.now blocks.now blocks.now
+        waits.old.items waits.new.items (4 * size_of_all rest.now + 1) result
+        (arguments_after (inside table.old sig.now scope.now blocks.now) table.old.trees used.now
+        (trees_in table.old before) rest.now (labels_in table.old labels.now)) }
     ensures grows { Grows table.old table.new }
 {
     names_law();
@@ -109,36 +174,6 @@ fn next_argument<'b>(
             Ok(Now::Read(s))
         }
     }
-}
-
-// What is made of all arguments.
-fn use_all(
-    alloc: Global,
-    used: &Use,
-    args: &Ids,
-    scope: &Scope<'_>,
-    sig: &SignatureView<'_>,
-    table: &mut Table,
-    labels: &Names,
-    blocks: &Blocks,
-) -> Result<Id, ElabRefused>
-    requires ready { IsReady (length table.old.trees) sig.now (bound_by blocks.now ++ bound_in scope.now) }
-    requires labels { BindingsBelow (length table.old.trees) labels.now }
-    requires args { All (λ i. i < length table.old.trees) args.now }
-    requires below { UseBelow (length table.old.trees) used.now }
-    requires suits { Suits used.now (length args.now) }
-    ensures gives { GivesTerm table.new labels.now result (used_by (inside table.old sig.now scope.now blocks.now) table.old.trees used.now (trees_in table.old args.now) (labels_in table.old labels.now)) }
-    ensures grows { Grows table.old table.new }
-{
-    names_law();
-    use_arguments(
-        alloc,
-        *used,
-        args.as_slice(),
-        &Scope::Within(&*blocks, &*scope),
-        sig,
-        table,
-    )
 }
 
 // Arguments that are used so.
@@ -305,13 +340,14 @@ fn next_pair<'b>(
             alloc, before, next, scope, sig, table, labels, blocks, waits,
         ),
         Some((pair, rest)) => wait_beside(
-            before, &pair, rest, next, scope, sig, &*table, labels, &*blocks, waits,
+            alloc, before, &pair, rest, next, scope, sig, &*table, labels, &*blocks, waits,
         ),
     }
 }
 
 // What stands beside a name is read, and then the pairs behind it.
 fn wait_beside<'b>(
+    alloc: Global,
     before: Bindings,
     pair: &Sexp<'b>,
     rest: Children<'b>,
@@ -325,8 +361,10 @@ fn wait_beside<'b>(
 ) -> Result<Now<'b>, ElabRefused>
     requires ready { IsReady (length table.now.trees) sig.now (bound_by blocks.now ++ bound_in scope.now) }
     requires before { BindingsBelow (length table.now.trees) before }
-    ensures gives { Goes sig.now scope.now table.now labels.now blocks.now blocks.now waits.old.items waits.new.items (4 * size_of_all (pair.now ∷ rest.entry) + weight_next next.entry + 1) result
-        (pairs_then (inside table.now sig.now scope.now blocks.now) next.entry (read_pairs table.now.trees before) (pair.now ∷ rest.entry) (labels_in table.now labels.now)) }
+    ensures gives { Goes sig.now scope.now table.now labels.now blocks.now blocks.now
+        waits.old.items waits.new.items (4 * size_of_all (pair.now ∷ rest.entry) + weight_next next.entry + 1) result
+        (pairs_then (inside table.now sig.now scope.now blocks.now) next.entry
+        (read_pairs table.now.trees before) (pair.now ∷ rest.entry) (labels_in table.now labels.now)) }
 {
     let Some((name, beside)) = pair_of(pair) else {
         return Err(ElabRefused::BadCommand);
@@ -334,16 +372,24 @@ fn wait_beside<'b>(
     if before.contains(name) {
         return Err(ElabRefused::Redeclared);
     }
-    wait(
-        waits,
-        Frame::Beside {
+    let pairs = boxed(
+        alloc,
+        Pairs {
             before,
             name,
             rest,
             next,
         },
     )?;
+    wait(waits, Frame::Beside(pairs))?;
     Ok(Now::Read(beside))
+}
+
+// Pairs that wait, on the heap.
+fn boxed<'b>(alloc: Global, pairs: Pairs<'b>) -> Result<Box<Pairs<'b>>, AllocError>
+    ensures { IfOk result (λ b. b.value ≡ pairs.entry) }
+{
+    Ok(Box::new(alloc, pairs)?)
 }
 
 // What stands behind all pairs is read inside of their names.
@@ -486,13 +532,8 @@ fn resume<'b>(
                 alloc, id, &used, before, &rest, scope, sig, table, &*labels, &*blocks, waits,
             )
         }
-        Frame::Beside {
-            before,
-            name,
-            rest,
-            next,
-        } => resume_pair(
-            alloc, id, before, name, &rest, next, scope, sig, table, &*labels, blocks, waits,
+        Frame::Beside(pairs) => resume_pairs(
+            alloc, id, pairs, scope, sig, table, &*labels, blocks, waits,
         ),
         Frame::Annotated { attributes } => {
             label(alloc, id, &attributes, scope.setting(), sig, labels)?;
@@ -557,6 +598,39 @@ fn resume_argument<'b>(
     ids.push(id)?;
     next_argument(
         alloc, used, ids, rest, scope, sig, table, labels, blocks, waits,
+    )
+}
+
+// One pair more of those that wait is there.
+fn resume_pairs<'b>(
+    alloc: Global,
+    id: Id,
+    waiting: Box<Pairs<'b>>,
+    scope: &Scope<'_>,
+    sig: &SignatureView<'_>,
+    table: &mut Table,
+    labels: &Names,
+    blocks: &mut Blocks,
+    waits: &mut Vec<Frame<'b>>,
+) -> Result<Now<'b>, ElabRefused>
+    requires ready { IsReady (length table.old.trees) sig.now (bound_by blocks.old ++ bound_in scope.now) }
+    requires labels { BindingsBelow (length table.old.trees) labels.now }
+    requires live { id < length table.old.trees }
+    requires waiting { FrameBelow (length table.old.trees) (frame.Beside waiting) }
+    ensures gives { Goes sig.now scope.now table.new labels.now blocks.old blocks.new
+        waits.old.items waits.new.items (weight (frame.Beside waiting.entry)) result
+        (resumed (inside table.old sig.now scope.now blocks.old) table.old.trees (frame.Beside waiting.entry)
+        (tree_in table.old id) (labels_in table.old labels.now)) }
+    ensures grows { Grows table.old table.new }
+{
+    let Pairs {
+        before,
+        name,
+        rest,
+        next,
+    } = Box::into_inner(waiting);
+    resume_pair(
+        alloc, id, before, name, &rest, next, scope, sig, table, labels, blocks, waits,
     )
 }
 
@@ -675,72 +749,4 @@ fn wait<'b>(waits: &mut Vec<Frame<'b>>, waiting: Frame<'b>) -> Result<(), AllocE
 {
     waits.push(waiting)?;
     Ok(())
-}
-
-// What a list is, inside of these names.
-fn form_inside(
-    head: &Sexp<'_>,
-    args: &Children<'_>,
-    scope: &Scope<'_>,
-    sig: &SignatureView<'_>,
-    table: &Table,
-    blocks: &Blocks,
-) -> Result<Form, ElabRefused>
-    requires ready { IsReady (length table.now.trees) sig.now (bound_by blocks.now ++ bound_in scope.now) }
-    ensures form { FormsList (inside table.now sig.now scope.now blocks.now) table.now head.now args.now result }
-    ensures some { OnOk result (1 ≤ length args.now) }
-    ensures fits { IfOk result (FormFits (length table.now.trees) (length args.now)) }
-{
-    form_of(head, args, &Scope::Within(&*blocks, &*scope), sig, table)
-}
-
-// The meaning of an atom inside of these names.
-fn atom_inside(
-    alloc: Global,
-    kind: Kind,
-    text: &[u8],
-    scope: &Scope<'_>,
-    sig: &SignatureView<'_>,
-    table: &mut Table,
-    blocks: &Blocks,
-) -> Result<Id, ElabRefused>
-    requires ready { IsReady (length table.old.trees) sig.now (bound_by blocks.now ++ bound_in scope.now) }
-    ensures gives { GivesTree table.new result (atom_told (inside table.old sig.now scope.now blocks.now) kind text.now) }
-    ensures grows { Grows table.old table.new }
-{
-    atom(
-        alloc,
-        kind,
-        text,
-        &Scope::Within(&*blocks, &*scope),
-        sig,
-        table,
-    )
-}
-
-// The list of variables inside of these names.
-fn bind_inside(
-    alloc: Global,
-    collector: usize,
-    names: &mut Bindings,
-    scope: &Scope<'_>,
-    sig: &SignatureView<'_>,
-    table: &mut Table,
-    blocks: &Blocks,
-) -> Result<Id, ElabRefused>
-    requires ready { IsReady (length table.old.trees) sig.now (bound_by blocks.now ++ bound_in scope.now) }
-    requires types { BindingsBelow (length table.old.trees) names.old }
-    ensures gives { GivesNone table.new result (bound_list_in (world_of table.old sig.now (bound_by blocks.now ++ bound_in scope.now)) collector (seen_in table.old names.old)) }
-    ensures below { OnOk result (BindingsBelow (length table.new.trees) names.new) }
-    ensures names { OnOk result (seen_in table.new names.new ≡ map variable (seen_in table.old names.old)) }
-    ensures grows { Grows table.old table.new }
-{
-    bind(
-        alloc,
-        collector,
-        names,
-        &Scope::Within(&*blocks, &*scope),
-        sig,
-        table,
-    )
 }

@@ -75,3 +75,19 @@ module _ (f : Tree) (us : List Tree) (two : length us ≡ 2) where
   two_attributed fold_by il (Chain g) = λ i. if two i == 2 then Ok (applied f us) else fold_by g (links f us)
   two_attributed fold_by il (Pairs g) = λ i. if two i == 2 then Ok (applied f us) else fold_by g (all_pairs f us)
   two_attributed fold_by il (Binder c) = refl
+
+-- an attribute asks for two arguments at most
+least_two : (a : Attribute) → least a ≤ 2
+least_two Plain = omega arith
+least_two (RightNil n) = omega arith
+least_two (LeftNil n) = omega arith
+least_two Right = omega arith
+least_two Left = omega arith
+least_two (Chain g) = omega arith
+least_two (Pairs g) = omega arith
+least_two (Binder c) = omega arith
+
+pub two_folded : (S : Signature) (il : Tree → Bool) (k : ℕ) (us : List Tree) → length us ≡ 2 → (turns : ℕ) → folded_within (suc turns) S il k us ≡ Ok (grouped il (Con k) (attribute_at S k) us)
+two_folded S il k us two turns =
+    let few = least_two (attribute_at S k) in
+    not_too_few S il k us turns (omega (arith, few, two)) ∙ two_attributed (Con k) us two (folded_within turns S il) il (attribute_at S k)

@@ -1,5 +1,5 @@
 //! A constant folded over its arguments.
-ghost use Rattle.std.specs.Prelude.{suc, ◌<◌, ◌≤◌, length, All, IfOk};
+ghost use Rattle.std.specs.Prelude.{◌≡◌, ℕ, suc, ◌<◌, ◌≤◌, length, All, IfOk};
 ghost use Rattle.eo_sig.specs.Reading.{AttributeBelow};
 ghost use Rattle.eo_names.specs.Names.{AreBelow};
 ghost use Rattle.eo_names.specs.Scopes.{bound_in};
@@ -46,7 +46,33 @@ pub(crate) fn fold_constant(
     ensures gives { GivesTree table.new result (folded_in (world table.old sig.now scope.now) k (trees_in table.old args.now)) }
     ensures grows { Grows table.old table.new }
 {
+    if args.len() == 2 {
+        return fold_two(k, args, scope, sig, table);
+    }
     fold_within(alloc, k, k, args, scope, sig, table)
+}
+
+// The same on two arguments. Each attribute takes so many, and no other constant joins what it
+// makes of them, however many turns there are.
+fn fold_two(
+    k: usize,
+    args: &[Id],
+    scope: &Scope<'_>,
+    sig: &SignatureView<'_>,
+    table: &mut Table,
+) -> Result<Id, ElabRefused>
+    requires ready { IsReady (length table.old.trees) sig.now (bound_in scope.now) }
+    requires args { All (λ a. a < length table.old.trees) args.now }
+    requires two { length args.now ≡ 2 }
+    ensures gives { (turns : ℕ) → GivesTree table.new result
+        (turned_in (world table.old sig.now scope.now) (suc turns) k (trees_in table.old args.now)) }
+    ensures grows { Grows table.old table.new }
+{
+    names_law();
+    let f = table.constant(k)?;
+    let made = group(table, scope, f, attribute_of(sig, k), args)?;
+    prove!(table.height(made) <= HEIGHT_LIMIT);
+    Ok(made)
 }
 
 // The same, where the constants that join what it is applied to follow one another at most so

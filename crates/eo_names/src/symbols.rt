@@ -1,10 +1,10 @@
 //! What a symbol stands for.
-ghost use Rattle.std.specs.Prelude.{◌≡◌, if◌then◌else◌, ℕ, ◌<◌, List, length};
+ghost use Rattle.std.specs.Prelude.{◌≡◌, if◌then◌else◌, ℕ, ◌<◌, List, length, false};
 ghost use Rattle.eo_term.specs.Tree.{Tree};
 ghost use Rattle.eo_sig.specs.Reading.{programs_of, IsBelow};
 ghost use Rattle.eo_names.specs.Meanings as meanings;
 ghost use Rattle.eo_names.specs.Meanings.{word_of, program_meant};
-ghost use Rattle.eo_names.specs.Contexts.{is_reference};
+ghost use Rattle.eo_names.specs.Contexts.{Setting as Kind, is_reference};
 ghost use Rattle.eo_names.specs.Scopes.{bound_in, read_setting, setting_in};
 ghost use Rattle.eo_names.specs.Ready.{context, IsReady};
 ghost use Rattle.eo_names.specs.Symbols.{read_word, read_meant, IsLive};
@@ -48,6 +48,9 @@ pub enum Meant {
 pub fn word_of(symbol: &[u8], scope: &Scope<'_>) -> Word
     ensures { read_word result ≡ word_of (setting_in scope.now) symbol.now }
 {
+    if !begins_word(symbol) {
+        return Word::Name;
+    }
     if symbol == b"_".as_slice() {
         return Word::Underscore;
     }
@@ -61,6 +64,16 @@ pub fn word_of(symbol: &[u8], scope: &Scope<'_>) -> Word
         return exclamation(scope.setting());
     }
     Word::Name
+}
+
+// Whether one of the words begins with the first byte of the symbol.
+fn begins_word(symbol: &[u8]) -> bool
+    ensures { (kind : Kind) → result ≡ false → word_of kind symbol.now ≡ meanings.Name }
+{
+    match symbol.first() {
+        Some(b'_' | b'-' | b'l' | b'!') => true,
+        _ => false,
+    }
 }
 
 // Which word `!` is.

@@ -7,7 +7,7 @@ use Rattle.eo_names.specs.Worlds.{world_of}
 use Rattle.eo_elab.specs.Gives.{FormsList}
 use Rattle.eo_elab.specs.Waiting.{inside}
 use Rattle.eo_elab.specs.Worlds.{place, in_setting}
-use Rattle.eo_elab.proofs.walk.form_inside.Goals as goal
+use Rattle.eo_elab.proofs.within.form_inside.Goals as goal
 
 pub returns-clause-form : goal.returns-clause-form
 returns-clause-form c =

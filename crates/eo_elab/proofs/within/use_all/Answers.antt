@@ -11,7 +11,7 @@ use Rattle.eo_elab.specs.Gives.{GivesTerm}
 use Rattle.eo_elab.specs.Waiting.{inside}
 use Rattle.eo_elab.specs.Worlds.{labels_in}
 use Rattle.eo_elab.proofs.Giving.{with_them, relabelled, made_labels, made_anywhere, labels_grown}
-use Rattle.eo_elab.proofs.walk.use_all.Goals as goal
+use Rattle.eo_elab.proofs.within.use_all.Goals as goal
 
 pub returns-clause-gives : goal.returns-clause-gives
 returns-clause-gives c =

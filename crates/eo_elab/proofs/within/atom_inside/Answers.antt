@@ -3,13 +3,17 @@ use Rattle.eo_names.specs.declared.scope.Scope.{the_lemmas}
 use Rattle.eo_names.specs.declared.scope as declared
 use Rattle.eo_names.specs.Names.{bound_by}
 use Rattle.eo_names.specs.Scopes.{bound_in, setting_in}
-use Rattle.eo_names.specs.Worlds.{world_of, bound_list_in, seen_in}
-use Rattle.eo_names.specs.Gives.{GivesTerm as GivesNone}
-use Rattle.eo_elab.proofs.walk.bind_inside.Goals as goal
+use Rattle.eo_names.specs.Worlds.{world_of}
+use Rattle.eo_names.specs.Gives.{GivesTree}
+use Rattle.eo_elab.specs.Gives.{atom_told}
+use Rattle.eo_elab.specs.Waiting.{inside}
+use Rattle.eo_elab.specs.Worlds.{place, in_setting}
+use Rattle.eo_elab.proofs.within.atom_inside.Goals as goal
 
 pub returns-clause-gives : goal.returns-clause-gives
 returns-clause-gives c =
     let names : bound_in (declared.Scope.Within c.args.blocks c.args.scope) ≡ bound_by c.args.blocks.now ++ bound_in c.args.scope.now = search (rules, the_lemmas) in
     let kind : setting_in (declared.Scope.Within c.args.blocks c.args.scope) ≡ setting_in c.args.scope.now = search (rules, the_lemmas) in
     let t = c.args.table.now in
-    subst (λ ls. GivesNone c.bind.new.table c.bind.result (bound_list_in (world_of t c.args.sig.now ls) c.args.collector (seen_in t c.args.names.now))) names c.bind.ensures.gives
+    let there : place t c.args.sig.now (declared.Scope.Within c.args.blocks c.args.scope) ≡ inside t c.args.sig.now c.args.scope.now c.args.blocks.now = λ i. in_setting (kind i) (world_of t c.args.sig.now (names i)) in
+    subst (λ w. GivesTree c.atom.new.table c.atom.result (atom_told w c.args.kind c.args.text.now)) there c.atom.ensures.gives
