@@ -247,6 +247,14 @@ module _ (ts : List Tree) where
       let same : length (keys_of k.facts) ≡ length k.facts = length-map k.facts (λ (f : NamedId). f.0) in
       at_end (position_or_len (bytes_eq name) (keys_of k.facts)) (outer_count k) (omega (arith, l, same, beyond)) ∙ sym (free_outside k name l)
 
+-- a name that no fact has
+pub not_named : (k : Kept) (name : List ℕ) → ((ts : List Tree) → is_live (scopes ts k) name ≡ false) → lookup (bytes_eq name) k.facts ≡ None
+not_named k name free = by (lookup (bytes_eq name) k.facts) (sym (live_is_named [] k name) ∙ free [])
+  where
+    by : (o : Option ℕ) → is_some o ≡ false → o ≡ None
+    by None e = refl
+    by (Some i) e = absurd (true≢false e)
+
 pub same_names : (ts us : List Tree) (k : Kept) (name : List ℕ) → is_live (scopes ts k) name ≡ is_live (scopes us k) name
 same_names ts us k name = live_is_named ts k name ∙ sym (live_is_named us k name)
 

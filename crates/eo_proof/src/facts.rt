@@ -107,6 +107,20 @@ impl Facts {
         Ok(())
     }
 
+    /// Adds a fact to the innermost scope, by a name that no fact has. It is not looked up. `Err` is
+    /// want of memory, and no fact is added.
+    #[tactic(auto, using(crate::proofs::Reading::not_named))]
+    pub fn add_free(&mut self, name: &[u8], id: Id) -> Result<(), AllocError>
+        requires free { (ts : List Tree) → scope.is_live (scopes ts self.old) name.now ≡ false }
+        ensures adds { OnOk result ((ts : List Tree) → scopes ts self.new ≡ scope.with_fact (scopes ts self.old) name.now (tree_at ts id)) }
+        ensures kept { OnOk result (self.new ≡ with_named self.old (name.now, id)) }
+        ensures below { (m : ℕ) → AreBelow m self.old → id < m → AreBelow m self.new }
+        ensures same { OnErr result (self.new ≡ self.old) }
+    {
+        self.put_free(name, id)?;
+        Ok(())
+    }
+
     /// A law: which names facts have is the same over all lists of trees. The scopes begin within the
     /// facts, and the inner ones behind the outer ones.
     #[tactic(auto, using(crate::proofs::Reading::same_names))]
@@ -239,6 +253,19 @@ impl Facts {
         }
         self.refutes = refutes;
         Ok(true)
+    }
+
+    // Adds a fact to the innermost scope, by a name that no fact has.
+    fn put_free(&mut self, name: &[u8], id: Id) -> Result<(), AllocError>
+        requires { lookup (bytes_eq name.now) self.old.facts ≡ None }
+        ensures added { OnOk result (self.new ≡ with_named self.old (name.now, id)) }
+        ensures adds { OnOk result ((ts : List Tree) → scopes ts self.new ≡ scope.with_fact (scopes ts self.old) name.now (tree_at ts id)) }
+        ensures same { OnErr result (self.new ≡ self.old) }
+    {
+        let refutes = self.refutes_with(id);
+        self.formulas.push(name, id)?;
+        self.refutes = refutes;
+        Ok(())
     }
 
     // Opens a scope, with an assumption whose name no fact has.

@@ -1,16 +1,18 @@
 //! Scopes that are opened and closed.
-ghost use Rattle.std.specs.Prelude.{◌≡◌, ℕ, ◌<◌, List, ◌∷◌, ◌++◌, [], IfOk, IfSome, IfNone, OnOk, OnErr};
+ghost use Rattle.std.specs.Prelude.{◌≡◌, false, ℕ, ◌<◌, List, ◌∷◌, ◌++◌, [], IfOk, IfSome, IfNone, OnOk, OnErr};
 ghost use Rattle.std.specs.Map.{lookup};
 ghost use Rattle.std.specs.Str.{bytes_eq};
 ghost use Rattle.eo_term.specs.Terms.{tree_at};
 ghost use Rattle.eo_term.specs.Tree.{Tree};
 ghost use Rattle.eo_proof.specs.Kept.{scopes, outer_count, with_begun, without_begun, AreBelow};
 ghost use Rattle.eo_proof.specs.Outcomes.{Pushed, Popped};
+ghost use Rattle.eo_proof.specs.Scopes as scope;
 
 use crate::facts::Begun;
 use crate::{FactRefused, Facts, NoScope};
 use eo_base::limits::SCOPES;
 use eo_term::Id;
+use std::alloc::AllocError;
 
 impl Facts {
     /// Opens a scope with an assumption, which is its first fact.
@@ -30,6 +32,20 @@ impl Facts {
         if self.has(name) {
             return Err(FactRefused::Redeclared);
         }
+        self.begin(name, id)?;
+        Ok(())
+    }
+
+    /// Opens a scope with an assumption, by a name that no fact has. It is not looked up. `Err` is
+    /// want of memory, and no scope is opened.
+    #[tactic(auto, using(crate::proofs::Reading::not_named))]
+    pub fn push_free(&mut self, name: &[u8], id: Id) -> Result<(), AllocError>
+        requires free { (ts : List Tree) → scope.is_live (scopes ts self.old) name.now ≡ false }
+        ensures pushes { OnOk result ((ts : List Tree) → scopes ts self.new ≡ scope.with_scope (scopes ts self.old) name.now (tree_at ts id)) }
+        ensures kept { OnOk result (self.new ≡ with_begun self.old (name.now, id)) }
+        ensures below { (m : ℕ) → AreBelow m self.old → id < m → AreBelow m self.new }
+        ensures same { OnErr result (self.new ≡ self.old) }
+    {
         self.begin(name, id)?;
         Ok(())
     }

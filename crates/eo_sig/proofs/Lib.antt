@@ -8,6 +8,7 @@ pub mod Same
 pub mod Keeping
 pub mod Solving
 pub mod Usable
+pub mod Adding
 pub mod Growing
 pub mod Views
 pub mod Telling

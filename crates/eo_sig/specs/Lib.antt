@@ -7,3 +7,4 @@ pub mod Refused
 pub mod Usable
 pub mod Growth
 pub mod Views
+pub mod Adding

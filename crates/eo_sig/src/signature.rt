@@ -9,6 +9,8 @@ ghost use Rattle.eo_sig.specs.Reading.{first_kept, first_constant, with_entry, r
 ghost use Rattle.eo_sig.specs.Growth.{StaysUnder};
 ghost use Rattle.eo_sig.specs.Usable.{IsUsable};
 
+mod adding;
+mod counting;
 mod declaring;
 mod keeping;
 mod numbered;
@@ -148,6 +150,14 @@ impl Signature {
         ensures value { (ts : List Tree) → result ≡ length (sig.programs (signature ts self.now)) }
     {
         self.programs.len()
+    }
+
+    /// How many rules there are, which is the number of the next one.
+    pub(crate) fn rules(&self) -> usize
+        ensures count { result ≡ length (rules_of self.now) }
+        ensures value { (ts : List Tree) → result ≡ length (sig.rules (signature ts self.now)) }
+    {
+        self.rules.len()
     }
 
     /// A mark of the macros that there are.

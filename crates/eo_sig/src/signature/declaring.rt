@@ -13,7 +13,9 @@ ghost use Rattle.eo_sig.specs.Usable.{AreOrdered, StaysUsable};
 use super::Signature;
 use crate::patterns::{cases_are_bound, cases_may_hold, rule_is_bound, rule_is_plain};
 use crate::types::{ends_at_right, implicit_occur, may_type};
-use crate::{ConstDecl, LiteralClass, MacroDecl, PremiseShape, ProgramDecl, RuleDecl, SigRefused};
+use crate::{
+    ConstDecl, Declared, LiteralClass, MacroDecl, PremiseShape, ProgramDecl, RuleDecl, SigRefused,
+};
 use eo_base::both;
 use eo_term::{Id, Table};
 
@@ -36,8 +38,9 @@ impl Signature {
         ensures err { OnErr result (self.new ≡ self.old) }
     {
         let ((), d) = both(check_constant(table, &d), d)?;
-        match self.keep_constant(d) {
-            Ok(n) => Ok(n),
+        let number = self.constants();
+        match self.add(table, Declared::Const(d)) {
+            Ok(()) => Ok(number),
             Err(e) => Err(SigRefused::Memory(e)),
         }
     }
@@ -76,8 +79,9 @@ impl Signature {
         ensures err { OnErr result (self.new ≡ self.old) }
     {
         let ((), d) = both(check_program(table, &d), d)?;
-        match self.keep_program(d) {
-            Ok(n) => Ok(n),
+        let number = self.programs();
+        match self.add(table, Declared::Program(d)) {
+            Ok(()) => Ok(number),
             Err(e) => Err(SigRefused::Memory(e)),
         }
     }
@@ -103,8 +107,9 @@ impl Signature {
         ensures err { OnErr result (self.new ≡ self.old) }
     {
         let ((), d) = both(self.check_rule(table, &d), d)?;
-        match self.keep_rule(d) {
-            Ok(n) => Ok(n),
+        let number = self.rules();
+        match self.add(table, Declared::Rule(d)) {
+            Ok(()) => Ok(number),
             Err(e) => Err(SigRefused::Memory(e)),
         }
     }
@@ -129,20 +134,34 @@ impl Signature {
         ensures below { OnOk result ((m : ℕ) → IsBelow m self.old → ty < m → IsBelow m self.new) }
         ensures err { OnErr result (self.new ≡ self.old) }
     {
+        self.check_literals(table, class, ty)?;
+        match self.add(table, Declared::Literal { class, ty }) {
+            Ok(()) => Ok(()),
+            Err(e) => Err(SigRefused::Memory(e)),
+        }
+    }
+
+    /// Refuses a second type of a class of literals, and one that may not be declared.
+    pub(super) fn check_literals(
+        &self,
+        table: &Table,
+        class: LiteralClass,
+        ty: Id,
+    ) -> Result<(), SigRefused>
+        requires { ty < length table.now.trees }
+        ensures { Tells result (sig.literal_type_fault (signature table.now.trees self.now) class (tree_at table.now.trees ty)) }
+    {
         if self.literal_type(class).is_some() {
             return Err(SigRefused::Redeclared);
         }
         if !table.may_be_type(ty) {
             return Err(SigRefused::BadPattern);
         }
-        match self.keep_literal(class, ty) {
-            Ok(()) => Ok(()),
-            Err(e) => Err(SigRefused::Memory(e)),
-        }
+        Ok(())
     }
 
-    // Refuses a rule that may not be added, whatever its name.
-    fn check_rule(&self, table: &Table, d: &RuleDecl) -> Result<(), SigRefused>
+    /// Refuses a rule that may not be added, whatever its name.
+    pub(super) fn check_rule(&self, table: &Table, d: &RuleDecl) -> Result<(), SigRefused>
         requires { RuleBelow (length table.now.trees) d.now }
         ensures { Tells result (sig.rule_fault (signature table.now.trees self.now) (read_rule table.now.trees d.now)) }
     {
@@ -177,8 +196,8 @@ impl Signature {
     }
 }
 
-// Refuses a constant that may not be declared, whatever its name.
-fn check_constant(table: &Table, d: &ConstDecl) -> Result<(), SigRefused>
+/// Refuses a constant that may not be declared, whatever its name.
+pub(super) fn check_constant(table: &Table, d: &ConstDecl) -> Result<(), SigRefused>
     requires { ConstBelow (length table.now.trees) d.now }
     ensures { Tells result (sig.constant_fault (read_constant table.now.trees d.now)) }
 {
@@ -191,8 +210,8 @@ fn check_constant(table: &Table, d: &ConstDecl) -> Result<(), SigRefused>
     Ok(())
 }
 
-// Refuses a program that may not be added, whatever its name.
-fn check_program(table: &Table, d: &ProgramDecl) -> Result<(), SigRefused>
+/// Refuses a program that may not be added, whatever its name.
+pub(super) fn check_program(table: &Table, d: &ProgramDecl) -> Result<(), SigRefused>
     requires { ProgramBelow (length table.now.trees) d.now }
     ensures { Tells result (sig.program_fault (read_program table.now.trees d.now)) }
 {

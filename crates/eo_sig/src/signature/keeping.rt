@@ -3,7 +3,7 @@ ghost use Rattle.std.specs.Prelude.{◌≡◌, [], ◌∷◌, ◌++◌, length, 
 ghost use Rattle.indexmap.specs.IndexMap.{insert_entry};
 ghost use Rattle.eo_sig.specs.Signature as sig;
 ghost use Rattle.eo_sig.specs.declared.records.Declared.TheVariants as declared;
-ghost use Rattle.eo_sig.specs.Reading.{signature, macros, constants_of, programs_of, rules_of, with_entry, with_macro};
+ghost use Rattle.eo_sig.specs.Reading.{signature, macros, with_entry, with_macro};
 
 use super::{Named, Signature};
 use crate::{ConstDecl, Declared, LiteralClass, MacroDecl, ProgramDecl, RuleDecl};
@@ -13,13 +13,11 @@ use std::alloc::AllocError;
 
 impl Signature {
     /// Appends a constant whose name no constant has.
-    pub(super) fn keep_constant(&mut self, d: ConstDecl) -> Result<usize, AllocError>
+    pub(super) fn keep_constant(&mut self, d: ConstDecl) -> Result<(), AllocError>
         requires { sig.constant_named (signature [] self.old) d.name ≡ None }
         ensures kept { OnOk result (self.new ≡ with_entry (declared.Const d) self.old) }
-        ensures number { IfOk result (λ n. n ≡ length (constants_of self.old)) }
         ensures err { OnErr result (self.new ≡ self.old) }
     {
-        let number = self.constants.len();
         let (key, d) = both(Name::new(self.alloc, d.name.as_bytes()), d)?;
         append(
             &mut self.entries,
@@ -27,17 +25,15 @@ impl Signature {
             key,
             Declared::Const(d),
         )?;
-        Ok(number)
+        Ok(())
     }
 
     /// Appends a program whose name no program has.
-    pub(super) fn keep_program(&mut self, d: ProgramDecl) -> Result<usize, AllocError>
+    pub(super) fn keep_program(&mut self, d: ProgramDecl) -> Result<(), AllocError>
         requires { sig.program_named (signature [] self.old) d.name ≡ None }
         ensures kept { OnOk result (self.new ≡ with_entry (declared.Program d) self.old) }
-        ensures number { IfOk result (λ n. n ≡ length (programs_of self.old)) }
         ensures err { OnErr result (self.new ≡ self.old) }
     {
-        let number = self.programs.len();
         let (key, d) = both(Name::new(self.alloc, d.name.as_bytes()), d)?;
         append(
             &mut self.entries,
@@ -45,20 +41,18 @@ impl Signature {
             key,
             Declared::Program(d),
         )?;
-        Ok(number)
+        Ok(())
     }
 
     /// Appends a rule whose name no rule has.
-    pub(super) fn keep_rule(&mut self, d: RuleDecl) -> Result<usize, AllocError>
+    pub(super) fn keep_rule(&mut self, d: RuleDecl) -> Result<(), AllocError>
         requires { sig.rule_named (signature [] self.old) d.name ≡ None }
         ensures kept { OnOk result (self.new ≡ with_entry (declared.Rule d) self.old) }
-        ensures number { IfOk result (λ n. n ≡ length (rules_of self.old)) }
         ensures err { OnErr result (self.new ≡ self.old) }
     {
-        let number = self.rules.len();
         let (key, d) = both(Name::new(self.alloc, d.name.as_bytes()), d)?;
         append(&mut self.entries, &mut self.rules, key, Declared::Rule(d))?;
-        Ok(number)
+        Ok(())
     }
 
     /// Appends a macro whose name no macro has.

@@ -92,6 +92,18 @@ fn declare_implicit(w: &mut World, rows: &[(Sample, Answer)]) -> Result<bool, Fa
     Ok(true)
 }
 
+#[test]
+fn a_check_declares_nothing(rt: HostRuntime) -> Result<(), Fail> {
+    assert!(rt; holds(rt.alloc(), checks_declare_nothing)?);
+    Ok(())
+}
+
+fn checks_declare_nothing(w: &mut World) -> Result<bool, Fail> {
+    let hidden = w.checks_implicit(b"c", Sample::OfValues)?;
+    let shown = w.checks_implicit(b"c", Sample::OfArguments)?;
+    Ok(!hidden && shown && w.lookup(b"c").is_none())
+}
+
 /// A name, a pattern, what it gives, and what becomes of it.
 type Row<'a> = (&'a [u8], Sample, Sample, Answer);
 

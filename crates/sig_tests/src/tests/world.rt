@@ -6,8 +6,8 @@ ghost use Rattle.eo_sig.specs.Usable.{AreOrdered};
 use eo_base::limits::PARAMETERS;
 use eo_base::{Name, both};
 use eo_sig::{
-    Attribute, Case, Cases, ConstDecl, Entry, IdPairs, Param, Params, PremiseShape, ProgramDecl,
-    RuleDecl, SigRefused, Signature, are_ordered,
+    Attribute, Case, Cases, ConstDecl, Declared, Entry, IdPairs, Param, Params, PremiseShape,
+    ProgramDecl, RuleDecl, SigRefused, Signature, are_ordered,
 };
 use eo_term::{BOOL, Id, Ids, Node, OpCode, OpName, TRUE, TYPE, Table};
 use std::alloc::{AllocError, Global};
@@ -127,6 +127,21 @@ impl World {
         let ty = self.term(ty)?;
         let d = implicit_constant(self.alloc, &self.table, name, ty)?;
         Ok(self.declared(d))
+    }
+
+    /// Whether the check alone passes a constant of this type, whose parameter 0 is implicit and a
+    /// type.
+    pub(super) fn checks_implicit(&mut self, name: &[u8], ty: Sample) -> Result<bool, Fail> {
+        let ty = self.term(ty)?;
+        let d = implicit_constant(self.alloc, &self.table, name, ty)?;
+        Ok(self.passes(d))
+    }
+
+    fn passes(&self, d: ConstDecl) -> bool
+        requires { ConstBelow self.now d }
+    {
+        let d = Declared::Const(d);
+        self.sig.check(&self.table, &d).is_ok()
     }
 
     fn declared(&mut self, d: ConstDecl) -> Answer

@@ -1,12 +1,9 @@
-use Rattle.std.proofs.Common.{◌≡◌, [], None, length, sym, ap, ◌∙◌, subst}
-use Rattle.std.specs.List.{filter_map}
-use Rattle.std.proofs.lemmas.List.{length-map}
+use Rattle.std.proofs.Common.{◌≡◌, None, sym, ap, ◌∙◌, subst}
 use Rattle.eo_sig.specs.declared.records.Declared.TheVariants as declared
 use Rattle.eo_sig.specs.declared.records.ProgramDecl.{ProgramDecl}
-use Rattle.eo_sig.specs.Signature as sig
-use Rattle.eo_sig.specs.Reading.{Kept, signature, IsBelow, Adds, read_program, program_decl_of, with_entry}
-use Rattle.eo_sig.specs.Usable.{IsUsable}
-use Rattle.eo_sig.proofs.Readings.{adds_entry, programs_read, below_entry, free_program}
+use Rattle.eo_sig.specs.Adding.{EntryIsFree, EntryIsSound}
+use Rattle.eo_sig.specs.Reading.{with_entry}
+use Rattle.eo_sig.proofs.Adding.{is_added, stays_below, stays_with}
 use Rattle.eo_sig.proofs.Telling.{no_fault, tells_refused}
 use Rattle.eo_sig.proofs.Usable.{usable_program}
 use Rattle.eo_sig.proofs.signature.Signature.add_program.Goals as goal
@@ -14,8 +11,13 @@ use Rattle.eo_sig.proofs.signature.Signature.add_program.Goals as goal
 pub returns-in_err-d-clause-tells : goal.returns-in_err-d-clause-tells
 returns-in_err-d-clause-tells c = tells_refused c.check_program.result _ c.check_program.ensures c.from_residual.result _ c.in_err-d.ensures.refused c.from_residual.ensures.1
 
-pub keep_program-requires : goal.keep_program-requires
-keep_program-requires c = subst (λ (d : ProgramDecl). sig.program_named (signature [] c.args.self.now) d.name ≡ None) (sym c.in_ok-d.ensures.other) (free_program c.args.self.now c.args.d.name c.requires.free)
+pub add-requires-clause-free : goal.add-requires-clause-free
+add-requires-clause-free c = subst (λ (d : ProgramDecl). EntryIsFree c.args.self.now (declared.Program d)) (sym c.in_ok-d.ensures.other) c.requires.free
+
+pub add-requires-clause-sound : goal.add-requires-clause-sound
+add-requires-clause-sound c =
+    subst (λ (d : ProgramDecl). EntryIsSound c.args.table.now.trees c.args.self.now (declared.Program d)) (sym c.in_ok-d.ensures.other)
+    (no_fault c.check_program.result _ c.check_program.ensures _ c.in_ok-d.ensures.called)
 
 pub returns-in-Ok-clause-tells : goal.returns-in-Ok-clause-tells
 returns-in-Ok-clause-tells c = no_fault c.check_program.result _ c.check_program.ensures _ c.in_ok-d.ensures.called
@@ -28,15 +30,10 @@ returns-in-Ok-clause-kept c = c.in-Ok.ensures.kept ∙ ap (λ (d : ProgramDecl).
 
 pub returns-in-Ok-clause-adds : goal.returns-in-Ok-clause-adds
 returns-in-Ok-clause-adds c =
-    record {
-      adds = λ ts. subst (Adds ts c.args.self.now (sig.IsProgram (read_program ts c.args.d))) (sym (returns-in-Ok-clause-kept c)) (adds_entry ts c.args.self.now (declared.Program c.args.d));
-      number = λ ts. c.in-Ok.ensures.number ∙ sym (ap length (programs_read ts c.args.self.now.entries) ∙ length-map (filter_map program_decl_of c.args.self.now.entries) (read_program ts));
-    }
+    record { adds = is_added c.args.self.now _ (declared.Program c.args.d) (returns-in-Ok-clause-kept c); number = c.programs-number.ensures.value }
 
 pub returns-in-Ok-clause-below : goal.returns-in-Ok-clause-below
-returns-in-Ok-clause-below c = λ m h g. subst (IsBelow m) (sym (returns-in-Ok-clause-kept c)) (below_entry m c.args.self.now (declared.Program c.args.d) h g)
+returns-in-Ok-clause-below c = stays_below c.args.self.now _ (declared.Program c.args.d) (returns-in-Ok-clause-kept c)
 
 pub returns-in-Ok-clause-usable : goal.returns-in-Ok-clause-usable
-returns-in-Ok-clause-usable c = λ ts h.
-    subst (λ (k : Kept). IsUsable (signature ts k)) (sym (returns-in-Ok-clause-kept c))
-    (subst IsUsable (sym (adds_entry ts c.args.self.now (declared.Program c.args.d)).signature) (usable_program _ _ h))
+returns-in-Ok-clause-usable c = λ ts. stays_with c.args.self.now _ (declared.Program c.args.d) (returns-in-Ok-clause-kept c) ts (usable_program _ _)

@@ -1,12 +1,9 @@
-use Rattle.std.proofs.Common.{◌≡◌, [], None, length, sym, ap, ◌∙◌, subst}
-use Rattle.std.specs.List.{filter_map}
-use Rattle.std.proofs.lemmas.List.{length-map}
+use Rattle.std.proofs.Common.{◌≡◌, None, sym, ap, ◌∙◌, subst}
 use Rattle.eo_sig.specs.declared.records.Declared.TheVariants as declared
 use Rattle.eo_sig.specs.declared.records.RuleDecl.{RuleDecl}
-use Rattle.eo_sig.specs.Signature as sig
-use Rattle.eo_sig.specs.Reading.{Kept, signature, IsBelow, Adds, read_rule, rule_decl_of, with_entry}
-use Rattle.eo_sig.specs.Usable.{IsUsable}
-use Rattle.eo_sig.proofs.Readings.{adds_entry, rules_read, below_entry, free_rule}
+use Rattle.eo_sig.specs.Adding.{EntryIsFree, EntryIsSound, EntryIsOrdered}
+use Rattle.eo_sig.specs.Reading.{with_entry}
+use Rattle.eo_sig.proofs.Adding.{is_added, stays_below, stays_with}
 use Rattle.eo_sig.proofs.Telling.{no_fault, tells_refused}
 use Rattle.eo_sig.proofs.Usable.{usable_rule}
 use Rattle.eo_sig.proofs.signature.Signature.add_rule.Goals as goal
@@ -14,8 +11,16 @@ use Rattle.eo_sig.proofs.signature.Signature.add_rule.Goals as goal
 pub returns-in_err-d-clause-tells : goal.returns-in_err-d-clause-tells
 returns-in_err-d-clause-tells c = tells_refused c.check_rule.result _ c.check_rule.ensures c.from_residual.result _ c.in_err-d.ensures.refused c.from_residual.ensures.1
 
-pub keep_rule-requires : goal.keep_rule-requires
-keep_rule-requires c = subst (λ (d : RuleDecl). sig.rule_named (signature [] c.args.self.now) d.name ≡ None) (sym c.in_ok-d.ensures.other) (free_rule c.args.self.now c.args.d.name c.requires.free)
+pub add-requires-clause-free : goal.add-requires-clause-free
+add-requires-clause-free c = subst (λ (d : RuleDecl). EntryIsFree c.args.self.now (declared.Rule d)) (sym c.in_ok-d.ensures.other) c.requires.free
+
+pub add-requires-clause-sound : goal.add-requires-clause-sound
+add-requires-clause-sound c =
+    subst (λ (d : RuleDecl). EntryIsSound c.args.table.now.trees c.args.self.now (declared.Rule d)) (sym c.in_ok-d.ensures.other)
+    (no_fault c.check_rule.result _ c.check_rule.ensures _ c.in_ok-d.ensures.called)
+
+pub add-requires-clause-ordered : goal.add-requires-clause-ordered
+add-requires-clause-ordered c = subst (λ (d : RuleDecl). EntryIsOrdered c.args.table.now.trees (declared.Rule d)) (sym c.in_ok-d.ensures.other) c.requires.ordered
 
 pub returns-in-Ok-clause-tells : goal.returns-in-Ok-clause-tells
 returns-in-Ok-clause-tells c = no_fault c.check_rule.result _ c.check_rule.ensures _ c.in_ok-d.ensures.called
@@ -28,15 +33,10 @@ returns-in-Ok-clause-kept c = c.in-Ok.ensures.kept ∙ ap (λ (d : RuleDecl). wi
 
 pub returns-in-Ok-clause-adds : goal.returns-in-Ok-clause-adds
 returns-in-Ok-clause-adds c =
-    record {
-      adds = λ ts. subst (Adds ts c.args.self.now (sig.IsRule (read_rule ts c.args.d))) (sym (returns-in-Ok-clause-kept c)) (adds_entry ts c.args.self.now (declared.Rule c.args.d));
-      number = λ ts. c.in-Ok.ensures.number ∙ sym (ap length (rules_read ts c.args.self.now.entries) ∙ length-map (filter_map rule_decl_of c.args.self.now.entries) (read_rule ts));
-    }
+    record { adds = is_added c.args.self.now _ (declared.Rule c.args.d) (returns-in-Ok-clause-kept c); number = c.rules-number.ensures.value }
 
 pub returns-in-Ok-clause-below : goal.returns-in-Ok-clause-below
-returns-in-Ok-clause-below c = λ m h g. subst (IsBelow m) (sym (returns-in-Ok-clause-kept c)) (below_entry m c.args.self.now (declared.Rule c.args.d) h g)
+returns-in-Ok-clause-below c = stays_below c.args.self.now _ (declared.Rule c.args.d) (returns-in-Ok-clause-kept c)
 
 pub returns-in-Ok-clause-usable : goal.returns-in-Ok-clause-usable
-returns-in-Ok-clause-usable c = λ ts o h.
-    subst (λ (k : Kept). IsUsable (signature ts k)) (sym (returns-in-Ok-clause-kept c))
-    (subst IsUsable (sym (adds_entry ts c.args.self.now (declared.Rule c.args.d)).signature) (usable_rule _ _ h o))
+returns-in-Ok-clause-usable c = λ ts o. stays_with c.args.self.now _ (declared.Rule c.args.d) (returns-in-Ok-clause-kept c) ts (λ h. usable_rule _ _ h o)

@@ -1,21 +1,22 @@
-use Rattle.std.proofs.Common.{◌≡◌, [], None, length, sym, ap, ◌∙◌, subst}
-use Rattle.std.specs.List.{filter_map}
-use Rattle.std.proofs.lemmas.List.{length-map}
+use Rattle.std.proofs.Common.{◌≡◌, None, sym, ap, ◌∙◌, subst}
 use Rattle.eo_sig.specs.declared.records.Declared.TheVariants as declared
 use Rattle.eo_sig.specs.declared.records.ConstDecl.{ConstDecl}
-use Rattle.eo_sig.specs.Signature as sig
-use Rattle.eo_sig.specs.Reading.{Kept, signature, IsBelow, Adds, read_constant, const_of, with_entry}
-use Rattle.eo_sig.specs.Usable.{IsUsable}
-use Rattle.eo_sig.proofs.Readings.{adds_entry, constants_read, below_entry, free_constant}
+use Rattle.eo_sig.specs.Adding.{EntryIsFree, EntryIsSound}
+use Rattle.eo_sig.specs.Reading.{with_entry}
+use Rattle.eo_sig.proofs.Adding.{is_added, stays_below, stays_usable}
 use Rattle.eo_sig.proofs.Telling.{no_fault, tells_refused}
-use Rattle.eo_sig.proofs.Usable.{usable_constant}
 use Rattle.eo_sig.proofs.signature.Signature.declare.Goals as goal
 
 pub returns-in_err-d-clause-tells : goal.returns-in_err-d-clause-tells
 returns-in_err-d-clause-tells c = tells_refused c.check_constant.result _ c.check_constant.ensures c.from_residual.result _ c.in_err-d.ensures.refused c.from_residual.ensures.1
 
-pub keep_constant-requires : goal.keep_constant-requires
-keep_constant-requires c = subst (λ (d : ConstDecl). sig.constant_named (signature [] c.args.self.now) d.name ≡ None) (sym c.in_ok-d.ensures.other) (free_constant c.args.self.now c.args.d.name c.requires.free)
+pub add-requires-clause-free : goal.add-requires-clause-free
+add-requires-clause-free c = subst (λ (d : ConstDecl). EntryIsFree c.args.self.now (declared.Const d)) (sym c.in_ok-d.ensures.other) c.requires.free
+
+pub add-requires-clause-sound : goal.add-requires-clause-sound
+add-requires-clause-sound c =
+    subst (λ (d : ConstDecl). EntryIsSound c.args.table.now.trees c.args.self.now (declared.Const d)) (sym c.in_ok-d.ensures.other)
+    (no_fault c.check_constant.result _ c.check_constant.ensures _ c.in_ok-d.ensures.called)
 
 pub returns-in-Ok-clause-tells : goal.returns-in-Ok-clause-tells
 returns-in-Ok-clause-tells c = no_fault c.check_constant.result _ c.check_constant.ensures _ c.in_ok-d.ensures.called
@@ -28,15 +29,10 @@ returns-in-Ok-clause-kept c = c.in-Ok.ensures.kept ∙ ap (λ (d : ConstDecl). w
 
 pub returns-in-Ok-clause-adds : goal.returns-in-Ok-clause-adds
 returns-in-Ok-clause-adds c =
-    record {
-      adds = λ ts. subst (Adds ts c.args.self.now (sig.IsConstant (read_constant ts c.args.d))) (sym (returns-in-Ok-clause-kept c)) (adds_entry ts c.args.self.now (declared.Const c.args.d));
-      number = λ ts. c.in-Ok.ensures.number ∙ sym (ap length (constants_read ts c.args.self.now.entries) ∙ length-map (filter_map const_of c.args.self.now.entries) (read_constant ts));
-    }
+    record { adds = is_added c.args.self.now _ (declared.Const c.args.d) (returns-in-Ok-clause-kept c); number = c.constants-number.ensures.value }
 
 pub returns-in-Ok-clause-below : goal.returns-in-Ok-clause-below
-returns-in-Ok-clause-below c = λ m h g. subst (IsBelow m) (sym (returns-in-Ok-clause-kept c)) (below_entry m c.args.self.now (declared.Const c.args.d) h g)
+returns-in-Ok-clause-below c = stays_below c.args.self.now _ (declared.Const c.args.d) (returns-in-Ok-clause-kept c)
 
 pub returns-in-Ok-clause-usable : goal.returns-in-Ok-clause-usable
-returns-in-Ok-clause-usable c = λ h.
-    subst (λ (k : Kept). IsUsable (signature c.args.table.now.trees k)) (sym (returns-in-Ok-clause-kept c))
-    (subst IsUsable (sym (adds_entry c.args.table.now.trees c.args.self.now (declared.Const c.args.d)).signature) (usable_constant _ _ h (returns-in-Ok-clause-tells c)))
+returns-in-Ok-clause-usable c = stays_usable c.args.self.now _ (declared.Const c.args.d) (returns-in-Ok-clause-kept c) c.args.table.now.trees (returns-in-Ok-clause-tells c) tt

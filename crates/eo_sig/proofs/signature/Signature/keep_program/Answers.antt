@@ -1,13 +1,11 @@
 use Rattle.std.proofs.Common.{◌≡◌, [], ◌∷◌, ◌++◌, length, map, position, None, sym, ap, ◌∙◌, subst}
 use Rattle.std.specs.Prelude.{bytes_eq}
 use Rattle.std.specs.Map.{lookup, keys_of}
-use Rattle.std.specs.List.{filter_map}
 use Rattle.indexmap.proofs.CallerLemmas.{insert_entry-new}
 use Rattle.eo_sig.specs.declared.records.Declared.TheVariants as declared
 use Rattle.eo_sig.specs.declared.records.ProgramDecl.{ProgramDecl}
 use Rattle.eo_sig.specs.Signature as sig
-use Rattle.eo_sig.specs.Reading.{Kept, signature, read_entry, program_decl_of, with_entry}
-use Rattle.eo_sig.proofs.Tables.{numbers}
+use Rattle.eo_sig.specs.Reading.{Kept, signature, read_entry, with_entry}
 use Rattle.eo_sig.proofs.Keeping.{new_program, kept_program, no_key, at_ok}
 use Rattle.eo_sig.proofs.signature.Signature.keep_program.Goals as goal
 
@@ -28,6 +26,3 @@ returns-clause-kept c =
     let es = c.self.inside.entries.items in
     let entries : c.append.new.entries.items ≡ es ++ declared.Program c.args.d ∷ [] = c.in_ok-append.ensures.entries ∙ ap (λ (x : ProgramDecl). es ++ declared.Program x ∷ []) c.in_ok-key.ensures.other in
     (λ i. record { entries = entries i; macros = map (λ e. e.1) c.self.inside.macros.entries }) ∙ ap (with_entry (declared.Program c.args.d)) c.self.view_is
-
-pub returns-clause-number : goal.returns-clause-number
-returns-clause-number c = subst (λ (k : Kept). c.len-number.result ≡ length (filter_map program_decl_of k.entries)) c.self.view_is (c.len-number.ensures.len ∙ numbers program_decl_of (λ d. d.name) c.self.inside.entries.items c.self.inside.programs.entries c.self.invariant.programs)
