@@ -17,7 +17,8 @@ use Rattle.eo_show.proofs.FormFacts.{some_height}
 use Rattle.eo_roundtrip.proofs.Uses.{Reads}
 use Rattle.eo_show.proofs.FormFacts.{IsSpelled}
 use Rattle.eo_roundtrip.proofs.Layers.{HaveNames, layer-reads}
-use Rattle.eo_show.proofs.Lower.{IsBelow, parts-below}
+use Rattle.eo_show.specs.Walking.{IsLower}
+use Rattle.eo_show.proofs.Lower.{parts-below}
 use Rattle.eo_show.specs.Written.{IsNext, Ordered}
 use Rattle.eo_roundtrip.proofs.Steps.{macro_of, line-step}
 use Rattle.eo_roundtrip.proofs.LineNames.{line-reads}
@@ -49,7 +50,7 @@ module _ (start : State) (names : HaveNames start.signature) (N : Tree → Optio
       layer-reads S (macros ++ later) (λ p. name_or (N p) (written S d N p)) m names next.value can.low can.spelled
       (λ k x lt. known (slice_index_or (parts S (form S m)) k x) (next.parts_before k x lt) later d (lower (slice_index_or (parts S (form S m)) k x) (parts-below S m next.value k x lt)))
     where
-      lower : (p : Tree) → IsBelow (height m) p → height p ≤ d
+      lower : (p : Tree) → IsLower (height m) p → height p ≤ d
       lower p b = omega (arith, b.lower)
 
   -- the lines that members get, in their order

@@ -12,12 +12,14 @@ mod count;
 mod incremental;
 mod lent;
 mod plain;
+mod printing;
 mod reader;
 mod token;
 
 use eo_base::FaultName;
 pub use incremental::Collector;
 pub use lent::{Children, Sexp};
+pub use printing::print_symbol;
 use std::marker::Model;
 
 /// What an s-expression is.

@@ -4,7 +4,7 @@ use Rattle.std.proofs.Common.{inl, inr, arith}
 use Rattle.eo_sig.specs.Signature.{Signature, Macro}
 use Rattle.eo_term.specs.Ranges.{IsInRange}
 use Rattle.eo_term.specs.Tree.{Tree, height, is_value}
-use Rattle.eo_show.specs.Members.{members, defined}
+use Rattle.eo_show.specs.Members.{defined}
 use Rattle.eo_show.specs.Lines.{shown_lines}
 use Rattle.eo_show.specs.Printable.{CanShow}
 use Rattle.eo_show.specs.Written.{AreMembers, HaveNewNames}

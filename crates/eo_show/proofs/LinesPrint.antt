@@ -1,5 +1,5 @@
 -- Each line of a value can be printed as a command.
-use Rattle.std.specs.Prelude.{refl, ℕ, zero, suc, ◌+◌, ◌^◌, ◌<◌, ◌≤◌, Bool, ◌||◌, List, [], ◌∷◌, ◌++◌, map, filter, length, max, codes, Option, All, Contains, slice_index_or, ◌⊎◌}
+use Rattle.std.specs.Prelude.{refl, ℕ, zero, suc, ◌^◌, ◌<◌, ◌≤◌, Bool, ◌||◌, List, [], ◌∷◌, ◌++◌, map, filter, length, max, codes, Option, All, Contains, slice_index_or, ◌⊎◌}
 use Rattle.std.proofs.Common.{sym, arith, subst, inl, inr, length-append}
 use Rattle.std.proofs.lemmas.List.Elements.{All-head, All-tail, All-contains, All-contains_itself, All-filter}
 use Rattle.eo_base.specs.Limits.{limits}
@@ -17,13 +17,14 @@ use Rattle.eo_show.specs.Lines.{Line, line_name, next_free, named_from, name_in,
 use Rattle.eo_term.specs.Ranges.{IsInRange}
 use Rattle.eo_show.specs.Printable.{IsPrintedName, ArePrintedNames, CanShow}
 use Rattle.eo_show.proofs.FormFacts.{some_height}
-use Rattle.eo_show.proofs.Lower.{IsBelow, parts-below}
+use Rattle.eo_show.specs.Walking.{IsLower}
+use Rattle.eo_show.proofs.Lower.{parts-below}
 use Rattle.eo_show.proofs.Order.{members-visited}
 use Rattle.eo_show.proofs.Named.{named-as}
 use Rattle.eo_show.proofs.FreeNames.{AreNumbered, are-numbered}
 use Rattle.eo_show.proofs.PartsHold.{range-down, none-fails, members-hold}
 use Rattle.eo_show.proofs.Measured.{IsMember, members-in, HasLine, part-small, name-word, name-short, stand_in-size}
-use Rattle.eo_show.proofs.Sizes.{IsSound, sound-printable}
+use Rattle.eo_show.proofs.Depths.{IsSound, sound-printable}
 use Rattle.eo_show.proofs.Printable.{FormSound, form-sound, with_parts-sound, with_parts-small, word-name}
 
 -- ---- the numbers of the limits
@@ -104,7 +105,7 @@ module _ (S : Signature) (macros : List Macro) (t : Tree) (printed_names : ArePr
       with_parts-sound S (λ p. name_or (N p) (written S d N p)) (form S m) (member-form m c)
       (λ k x lt. part (slice_index_or (parts_of S m) k x) ((inside m c).parts_in k x lt) (parts-below S m (inside m c).value k x lt) (sound-written d (slice_index_or (parts_of S m) k x)))
     where
-      part : (p : Tree) → Contains all p → IsBelow (height m) p → (Contains all p → height p ≤ d → IsSound limits (written S d N p)) → IsSound limits (name_or (N p) (written S d N p))
+      part : (p : Tree) → Contains all p → IsLower (height m) p → (Contains all p → height p ≤ d → IsSound limits (written S d N p)) → IsSound limits (name_or (N p) (written S d N p))
       part p i b h = sound-part d p i (h i (omega (arith, b.lower)))
 
   small-written : (d : ℕ) (m : Tree) → Contains all m → height m ≤ d → (nesting (written S d N m) ≤ 63) × (length (printed (written S d N m)) ≤ 8_000_000)
@@ -113,7 +114,7 @@ module _ (S : Signature) (macros : List Macro) (t : Tree) (printed_names : ArePr
       with_parts-small S (λ p. name_or (N p) (written S d N p)) (form S m) (member-form m c)
       (λ k x lt. part (slice_index_or (parts_of S m) k x) ((inside m c).parts_in k x lt) (parts-below S m (inside m c).value k x lt))
     where
-      part : (p : Tree) → Contains all p → IsBelow (height m) p → (nesting (name_or (N p) (written S d N p)) ≤ 62) × (length (printed (name_or (N p) (written S d N p))) ≤ 4095)
+      part : (p : Tree) → Contains all p → IsLower (height m) p → (nesting (name_or (N p) (written S d N p)) ≤ 62) × (length (printed (name_or (N p) (written S d N p))) ≤ 4095)
       part p i b = part-small S all t N inside low has-line d p i (omega (arith, b.lower)) (omega (arith, b.lower, low m c))
 
   -- a definition of what is small is a line

@@ -14,10 +14,11 @@ use Rattle.eo_show.specs.Forms.{form, symbol}
 use Rattle.eo_show.specs.Members.{nesting, stand_in, parts_of, has_parts, places, wants_line, measured, is_defined, most_height, most_length}
 use Rattle.eo_show.specs.Lines.{line_name, name_or, written}
 use Rattle.eo_show.proofs.FormFacts.{some_height}
-use Rattle.eo_show.proofs.Lower.{IsBelow, parts-below}
+use Rattle.eo_show.specs.Walking.{IsLower}
+use Rattle.eo_show.proofs.Lower.{parts-below}
 use Rattle.eo_show.specs.Written.{Ordered}
 use Rattle.eo_show.proofs.Leaves.{AreDigits, decimal-digits, length-small_decimal}
-use Rattle.eo_show.proofs.Sizes.{measured-same, IsNoLarger, with_parts-smaller}
+use Rattle.eo_show.proofs.Depths.{measured-same, IsNoLarger, with_parts-smaller}
 
 -- ---- the names of lines
 
@@ -97,7 +98,7 @@ module _ (S : Signature) (all : List Tree) (t : Tree) (N : Tree → Option (List
         with_parts-smaller S _ _ (form S m)
         (λ k x lt. part (slice_index_or (parts_of S m) k x) ((inside m c).parts_in k x lt) (parts-below S m (inside m c).value k x lt) (no-larger d (slice_index_or (parts_of S m) k x)))
       where
-        part : (p : Tree) → Contains all p → IsBelow (height m) p → (Contains all p → height p ≤ d → IsNoLarger (written S d N p) (measured S all d p)) → IsNoLarger (name_or (N p) (written S d N p)) (stood d p)
+        part : (p : Tree) → Contains all p → IsLower (height m) p → (Contains all p → height p ≤ d → IsNoLarger (written S d N p) (measured S all d p)) → IsNoLarger (name_or (N p) (written S d N p)) (stood d p)
         part p i b h = part-smaller d p i (omega (arith, b.lower)) (omega (arith, b.lower, low m c)) (h i (omega (arith, b.lower)))
 
     -- a part, as it is written in the line of a member

@@ -9,7 +9,8 @@ use Rattle.eo_sig.specs.Signature.{Signature}
 use Rattle.eo_show.specs.Members.{parts_of, with_members, members}
 use Rattle.eo_show.specs.Written.{IsNext, Ordered}
 use Rattle.eo_show.proofs.FormFacts.{some_height}
-use Rattle.eo_show.proofs.Lower.{IsBelow, parts-below}
+use Rattle.eo_show.specs.Walking.{IsLower}
+use Rattle.eo_show.proofs.Lower.{parts-below}
 
 -- ---- what a list of trees holds
 
@@ -57,13 +58,13 @@ module _ (S : Signature) where
   abbrev VisitsAt : ℕ → Type 0
   VisitsAt d = (found : List Tree) (t : Tree) → is_value t ≡ true → height t ≤ d → Ordered S [] found → Visited found t (with_members S d found t)
 
-  visit-all : (d h : ℕ) → VisitsAt d → h ≤ suc d → (found ts : List Tree) → All (IsBelow h) ts → Ordered S [] found → AllVisited h found ts (fold (with_members S d) found ts)
+  visit-all : (d h : ℕ) → VisitsAt d → h ≤ suc d → (found ts : List Tree) → All (IsLower h) ts → Ordered S [] found → AllVisited h found ts (fold (with_members S d) found ts)
   visit-all d h visit le found [] all o = record { ordered = o; keeps = λ m k. k; have = All-nil (Contains found); lower = λ m k. inl k }
   visit-all d h visit le found (t ∷ ts) all o =
-      let b = All-head (IsBelow h) t ts all in
+      let b = All-head (IsLower h) t ts all in
       let first = visit found t b.value (omega (arith, b.lower)) o in
       let new = with_members S d found t in
-      let rest = visit-all d h visit le new ts (All-tail (IsBelow h) t ts all) first.ordered in
+      let rest = visit-all d h visit le new ts (All-tail (IsLower h) t ts all) first.ordered in
       record {
         ordered = rest.ordered;
         keeps = λ m k. rest.keeps m (first.keeps m k);

@@ -22,7 +22,7 @@ use Rattle.eo_term.specs.Ranges.{IsInRange}
 use Rattle.eo_show.proofs.Leaves.{literal-word, length-literal, width_of, string-body}
 use Rattle.eo_show.proofs.FormFacts.{is_this-is}
 use Rattle.eo_show.proofs.PartsHold.{spelled-is}
-use Rattle.eo_show.proofs.Sizes.{IsSound, AllSound}
+use Rattle.eo_show.proofs.Depths.{IsSound, AllSound}
 
 module _ (S : Signature) where
   -- the atoms of a form can be printed, and it is not too wide

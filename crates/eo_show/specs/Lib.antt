@@ -3,3 +3,10 @@ pub mod Members
 pub mod Lines
 pub mod Printable
 pub mod Written
+pub mod Plan
+pub mod Walking
+pub mod Numbers
+pub mod Places
+pub mod Sizes
+pub mod Unwritten
+pub mod Kept

@@ -10,7 +10,8 @@ use Rattle.eo_sig.specs.Signature.{Signature}
 use Rattle.eo_show.specs.Forms.{Form, Leaf, Folded, Plainly, Function, Variable, form, parts, with_parts, list, symbol, name_of}
 use Rattle.eo_show.specs.Members.{nesting, nesting_all, stand_in, wants_line, measured}
 use Rattle.eo_show.proofs.FormFacts.{some_height}
-use Rattle.eo_show.proofs.Lower.{IsBelow, parts-below}
+use Rattle.eo_show.specs.Walking.{IsLower}
+use Rattle.eo_show.proofs.Lower.{parts-below}
 
 -- ---- the same parts give the same
 
@@ -30,7 +31,7 @@ pub measured-same : (S : Signature) (all : List Tree) (d e : ℕ) (t : Tree) →
 measured-same S all zero e t v h k = absurd (omega (arith, some_height t))
 measured-same S all (suc d) zero t v h k = absurd (omega (arith, some_height t))
 measured-same S all (suc d) (suc e) t v h k =
-    with_parts-same S _ _ (form S t) (All-weaker (IsBelow (height t)) _ (λ p b. part p (measured-same S all d e p b.value (omega (arith, b.lower)) (omega (arith, b.lower)))) (parts S (form S t)) (parts-below S t v))
+    with_parts-same S _ _ (form S t) (All-weaker (IsLower (height t)) _ (λ p b. part p (measured-same S all d e p b.value (omega (arith, b.lower)) (omega (arith, b.lower)))) (parts S (form S t)) (parts-below S t v))
   where
     part : (p : Tree) → measured S all d p ≡ measured S all e p → (if wants_line S all p (measured S all d p) then stand_in else measured S all d p) ≡ (if wants_line S all p (measured S all e p) then stand_in else measured S all e p)
     part p same = ap (λ s. if wants_line S all p s then stand_in else s) same
