@@ -1,39 +1,28 @@
 -- What a declaring command does to what is held.
-use Rattle.std.proofs.Common.{◌≡◌, ℕ, Bool, true, false, not, ◌&&◌, ◌||◌, List, [], ◌∷◌, length, map, refl, sym, ap, subst, ◌∙◌, true≢false}
-use Rattle.std.specs.Prelude.{Option, Some, None, option_map, is_none, slice_get, Result, Ok, Err, nat_eq, if◌then◌else◌}
+use Rattle.std.proofs.Common.{◌≡◌, ℕ, Bool, true, false, not, ◌&&◌, ◌||◌, List, [], ◌∷◌, length, map, refl, sym, ap, ◌∙◌, true≢false}
+use Rattle.std.specs.Prelude.{Option, Some, None, option_map, is_none, slice_get, Ok, Err, nat_eq, if◌then◌else◌}
 use Rattle.std.specs.Option.{option_map_or}
-use Rattle.std.specs.Result.{IsErrAnd}
 use Rattle.std.proofs.lemmas.List.{length-map}
 use Rattle.eo_base.specs.declared.FaultName.{FaultName}
 use Rattle.eo_base.specs.declared.FaultName.TheVariants.{Redeclared, ProofDeclares}
-use Rattle.eo_base.specs.Answers.{Tells}
 use Rattle.eo_base.specs.Checks.{Checked, Passed, ◌>>=◌, require, no_fault}
 use Rattle.eo_base.proofs.Tests.{both}
-use Rattle.eo_base.proofs.ChecksLemmas.{ok_injective, bind_ok, bind_step, bind_fails, require_then}
+use Rattle.eo_base.proofs.ChecksLemmas.{ok_injective, bind_ok, require_then}
 use Rattle.eo_sig.specs.declared.records.Entry.{Entry}
-use Rattle.eo_sig.specs.declared.refused.SigRefused.{SigRefused}
-use Rattle.eo_sig.specs.declared.refused.SigRefused.TheVariants as sig
-use Rattle.eo_sig.specs.Refused.{Tells as SigTells}
-use Rattle.eo_sig.specs.Reading.{signature, macros, read_named}
+use Rattle.eo_sig.specs.Reading.{IsFree, signature, macros, read_named}
 use Rattle.eo_sig.specs.Signature.{Signature, Constant, Macro, Named, NamesConstant, NamesMacro, IsConstant, Attribute, Plain, lookup, constant_at, is_free, is_reserved, may_type, may_fold, argument_types, implicit_occur, first_wrong, constant_may_hold, constant_fault}
 use Rattle.eo_term.specs.Tree.{Tree, Con, Num, Bits, Str, Par, Var, App, Arr, Qar, Op, tree_eq, is_value, may_be_type}
-use Rattle.eo_names.specs.declared.refused.ElabRefused.{ElabRefused}
-use Rattle.eo_names.specs.Refused.{told as elab_told}
 use Rattle.eo_names.specs.Contexts.{Context}
 use Rattle.eo_elab.specs.Meaning.{meaning}
 use Rattle.eo_declare.specs.Declarations.{is_named_by_reference, is_reference_name, is_free_or_reference, meanings, attribute, constant, plain_constant, function_type, sort_type, not_tall, declared_const, declared_fun, declared_sort}
 use Rattle.eo_declare.specs.Declaring.{MayRepeat}
 use Rattle.eo_session.specs.declared.held.Held.{Held}
 use Rattle.eo_session.specs.Held.{state_of}
-use Rattle.eo_session.specs.declared.refused.Refused.{Refused}
-use Rattle.eo_session.specs.Stepping.{of_elab, of_sig, Refuses, Does}
 use Rattle.eo_sexp.specs.Sexp.{Sexp}
 use Rattle.eo_shape.specs.Shapes.{AttributeShape, ProgramShape}
 use Rattle.eo_session.specs.Origin.{Origin}
 use Rattle.eo_session.specs.State.{State, context, with_entry, with_macro}
 use Rattle.eo_session.specs.Step.{is_plain, repeats_constant, repeats_macro, type_value, added_constant, checked_constant, typed_constant, added_macro, is_in_proof, added_program, define_program}
-use Rattle.eo_base.proofs.Answering.{at_exit}
-use Rattle.eo_session.proofs.Sessions.{refuses_on, refuses_elab}
 use Rattle.std.proofs.lemmas.Bool.{and_parts}
 
 -- ---- checks
@@ -46,18 +35,6 @@ module _ {A : Type 0} (fault : Option FaultName) (go : Passed → Checked A) whe
   pub no_fault-passes : fault ≡ None → (no_fault fault >>= go) ≡ go tt
   unfolding no_fault ◌>>=◌
   no_fault-passes e = ap (λ f. no_fault f >>= go) e
-
--- ---- refusals
-
--- A refused declaration refuses the command, where the fault is that of the whole.
-pub does-sig : (X : Type 0) (m : Checked State) (fault : Option FaultName) (r : Result (Unit {0}) Refused) (x : SigRefused) (new : Held) → IsErrAnd r (λ e. e ≡ of_sig x) → SigTells {X = X} (Err x) fault → ((name : FaultName) → fault ≡ Some name → m ≡ Err name) → Does r m new
-does-sig X m fault r x new e t h = at_exit (λ (r : Result (Unit {0}) Refused). Does r m new) r (of_sig x) e (by x t)
-  where
-    by : (x : SigRefused) → SigTells {X = X} (Err x) fault → Refuses m (of_sig x)
-    by sig.Redeclared t = (h _ t, λ q. absurd cc)
-    by sig.BadPattern t = (h _ t, λ q. absurd cc)
-    by sig.UnboundParam t = (h _ t, λ q. absurd cc)
-    by (sig.Memory e) t = (tt, tt)
 
 -- ---- names
 
@@ -96,6 +73,16 @@ module _ (h : Held) (name bytes : List ℕ) (same : bytes ≡ name) (o : Option 
 
   pub found-some : (x : Entry) → o ≡ Some x → found (state_of h) name ≡ Some (read_named x)
   found-some x e = found_is ∙ ap (option_map read_named) e
+
+  -- a name that is not found, and may be declared, is free
+  pub found-free : o ≡ None → is_free_or_reference (context (state_of h)) name ≡ true → IsFree h.signature name
+  found-free e may =
+      let none = sym (told [] ∙ ap (lookup (signature [] h.signature) (macros [] h.signature)) same) ∙ ap (option_map read_named) e in
+      ap (λ (o : Option Named). not (is_reserved name) && is_none o) none ∙ or_none (not (is_reserved name) && true) (sym (ap (by_found (state_of h) name) (found-none e)) ∙ may)
+    where
+      or_none : (a : Bool) → (a || false) ≡ true → a ≡ true
+      or_none true e = refl
+      or_none false e = e
 
 -- ---- constants
 
@@ -258,20 +245,6 @@ repeats_macro_found st d old k n r e at from count h =
     )
 
 -- ---- what is declared
-
--- an answer for a state is one for what is the same
-pub does-same : (m n : Checked State) (r : Result (Unit {0}) Refused) (new : Held) → m ≡ n → Does r n new → Does r m new
-does-same m n r new e h = subst (λ k. Does r k new) (sym e) h
-
-module _ {A : Type 0} (m : Checked A) (f : State → A → Checked State) (st : State) (r : Result (Unit {0}) Refused) (new : Held) where
-  -- a declaration that is refused refuses the command
-  pub declared-refused : (x : ElabRefused) → IsErrAnd r (λ e. e ≡ of_elab x) → Tells elab_told x m → Does r (m >>= f st) new
-  declared-refused x e h =
-      at_exit (λ (r : Result (Unit {0}) Refused). Does r (m >>= f st) new) r (of_elab x) e (refuses_on m (m >>= f st) (of_elab x) (refuses_elab m x h) (bind_fails m (f st)))
-
-  -- what is declared is added in a state that is the same
-  pub declared-added : (mid : State) (d : A) → mid ≡ st → m ≡ Ok d → Does r (f mid d) new → Does r (m >>= f st) new
-  declared-added mid d same e h = does-same (m >>= f st) (f mid d) r new (bind_step m (f st) d e ∙ ap (λ (z : State). f z d) (sym same)) h
 
 -- ---- programs
 

@@ -1,9 +1,9 @@
 -- What steps do to a state.
-use Rattle.std.proofs.Common.{◌≡◌, refl, ℕ, Bool, true, false, not, ◌&&◌, ◌||◌, List, [], ◌∷◌, ◌++◌, Option, None, Some, sym, ap, ◌∙◌}
+use Rattle.std.proofs.Common.{◌≡◌, refl, ℕ, Bool, true, false, not, ◌&&◌, List, [], ◌∷◌, ◌++◌, Option, None, Some, sym, ap, ◌∙◌}
 use Rattle.std.specs.Prelude.{Ok, Err}
 use Rattle.std.specs.Option.{option_map_or}
 use Rattle.std.proofs.lemmas.List.{append-nil}
-use Rattle.eo_base.proofs.ChecksLemmas.{behind, behind-first, err_is_not_ok, ok_injective, require_then}
+use Rattle.eo_base.proofs.ChecksLemmas.{behind, behind-first}
 use Rattle.eo_base.specs.declared.FaultName.{FaultName}
 use Rattle.eo_base.specs.declared.FaultName.TheVariants.{Redeclared, ProofDeclares, NoScope, UnknownRule, UnknownPremise}
 use Rattle.eo_base.specs.Checks.{Checked, ◌>>=◌, require, value_or}
@@ -14,9 +14,9 @@ use Rattle.eo_shape.specs.Shapes.{RuleShape, StepShape}
 use Rattle.eo_sig.specs.Signature.{Rule, rule_named, rule_at}
 use Rattle.eo_term.specs.Tree.{Tree}
 use Rattle.eo_session.specs.Origin.{Origin}
-use Rattle.eo_session.specs.State.{State, with_fact, without_scope}
+use Rattle.eo_session.specs.State.{State, without_scope}
 use Rattle.eo_session.specs.Step.{Concluded, is_free_fact, is_free_outer_fact, is_sorry, with_conclusion, value, values, optional_value, premises, use_of, concluded_by, concluded, step_plain, step_pop, is_in_proof, added_rule, declare_rule}
-use Rattle.eo_session.specs.Using.{added_conclusion, added_fact, concluded_from, conclusion_outside}
+use Rattle.eo_session.specs.Using.{concluded_from, conclusion_outside}
 
 -- ---- steps
 
@@ -45,28 +45,6 @@ module _ (st : State) (s : StepShape) where
     pop-free h = ap with_assumption e ∙ ap (with_outer_name a) h
 
 -- ---- what is concluded
-
--- two checks that fail alike
-refused_alike : {A B : Type 0} (b : Bool) (x : A) (y : B) (fault : FaultName) → (require b Redeclared >>= λ _. Ok x) ≡ Err fault → (require b Redeclared >>= λ _. Ok y) ≡ Err fault
-unfolding ◌>>=◌ require
-refused_alike true x y fault e = absurd (err_is_not_ok fault x (sym e))
-refused_alike {A} false x y fault e = ap (λ (m : Checked A). m >>= λ _. Ok y) e
-
-module _ (st : State) (name : List ℕ) (k : Concluded) where
-  abbrev by_name : Bool → Checked State
-  by_name b = require b Redeclared >>= λ _. Ok (with_conclusion st name k)
-
-  pub concluding-free : is_free_fact st name ≡ true → added_conclusion st name k ≡ Ok (with_conclusion st name k)
-  unfolding ◌>>=◌ require
-  concluding-free e = ap by_name e
-
-  pub concluding-fact : (new : State) → added_fact st name k.formula ≡ Ok new → added_conclusion st name k ≡ Ok (record new { sorry = new.sorry || k.sorry })
-  concluding-fact new e =
-      let parts = require_then (is_free_fact st name) Redeclared (λ _. Ok (with_fact st name k.formula)) new e in
-      concluding-free parts.0 ∙ ap (λ (s : State). Ok (record s { sorry = s.sorry || k.sorry })) (ok_injective _ _ parts.1)
-
-  pub concluding-refused : (fault : FaultName) → added_fact st name k.formula ≡ Err fault → added_conclusion st name k ≡ Err fault
-  concluding-refused fault e = refused_alike (is_free_fact st name) (with_fact st name k.formula) (with_conclusion st name k) fault e
 
 module _ (st : State) (s : StepShape) where
   module _ (a : Tree) where

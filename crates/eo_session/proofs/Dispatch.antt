@@ -12,15 +12,14 @@ use Rattle.eo_shape.specs.declared.ShapeRefused.{ShapeRefused}
 use Rattle.eo_shape.specs.declared.ShapeRefused.TheVariants as shape
 use Rattle.eo_session.specs.State.{State, is_in_scope}
 use Rattle.eo_session.specs.Step.{is_in_reference}
-use Rattle.eo_session.specs.Commands.{by_command, may_be_in_scope, next_by, scoped_command, placed_command, uncounted}
-use Rattle.eo_session.specs.Stepping.{Refuses, Gives, Does, DoesNext, Standing, StepsTo}
-use Rattle.eo_session.specs.Held.{state_of}
+use Rattle.eo_session.specs.Commands.{may_be_in_scope, scoped_command, placed_command, uncounted}
+use Rattle.eo_session.specs.Stepping.{Refuses, DoesNext, Standing, StepsTo}
 use Rattle.eo_session.specs.declared.Next.{Next}
 use Rattle.eo_session.specs.declared.held.Held.{Held}
 use Rattle.eo_session.specs.declared.refused.Refused.{Refused}
 use Rattle.eo_session.specs.declared.refused.Refused.TheVariants as refused
 use Rattle.eo_base.proofs.Answering.{at_exit}
-use Rattle.eo_session.proofs.Sessions.{shape-fault, shape-ok, scope-fault, scope-ok, placed-fault, placed-stops, placed-ok, refuses_on}
+use Rattle.eo_session.proofs.Sessions.{shape-fault, shape-ok, scope-fault}
 use Rattle.eo_session.specs.Origin.{Origin}
 
 -- ---- each command
@@ -36,22 +35,8 @@ module _ (st : State) (from : Origin) (s : Sexp) (b : Bool) (e : b ≡ is_in_ref
   pub does-command : (k : Command) → command_of b s ≡ Ok k → DoesNext r (placed_command st from k) new → DoesNext r (uncounted st from s) new
   does-command k h d = subst (λ (m : Checked (State × Next)). DoesNext r m new) (sym (shape-ok st from s b e k h)) d
 
-module _ (st : State) (from : Origin) (k : Command) where
-  -- the state is refused
-  pub does-stops : (r : Result Next Refused) (x : Refused) (new : Held) → Refuses (scoped_command st from k) x → IsErrAnd r (λ y. y ≡ x) → DoesNext r (placed_command st from k) new
-  does-stops r x new h i = at_exit (λ (r : Result Next Refused). DoesNext r (placed_command st from k) new) r x i (refuses_on (scoped_command st from k) (placed_command st from k) x h (placed-fault st from k))
-
-  -- what is done next
-  pub does-next : (r : Result Next Refused) (new : Held) → scoped_command st from k ≡ Ok (state_of new) → Gives r (next_by (state_of new) k) → DoesNext r (placed_command st from k) new
-  does-next (Ok what) new e g = placed-ok st from k (state_of new) e what g
-  does-next (Err x) new e g = refuses_on (next_by (state_of new) k) (placed_command st from k) x g (placed-stops st from k (state_of new) e)
-
 pub does-in_scope : (st : State) (from : Origin) (k : Command) (b : Bool) → b ≡ (not (is_in_scope st) || may_be_in_scope k) → b ≡ false → Refuses (scoped_command st from k) (refused.Fault InScope)
 does-in_scope st from k b e h = (scope-fault st from k (sym e ∙ h), λ q. absurd cc)
-
-module _ (st : State) (from : Origin) (k : Command) (r : Result (Unit {0}) Refused) (new : Held) where
-  pub does-placed : (b : Bool) → b ≡ (not (is_in_scope st) || may_be_in_scope k) → b ≡ true → Does r (by_command st from k) new → Does r (scoped_command st from k) new
-  does-placed b e h d = subst (λ (m : Checked State). Does r m new) (sym (scope-ok st from k (sym e ∙ h))) d
 
 -- ---- what ends a session
 

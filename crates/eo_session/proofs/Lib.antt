@@ -4,7 +4,10 @@ pub mod Counting
 pub mod Members
 pub mod Rooted
 pub mod Assertions
+pub mod Carried
 pub mod Concluding
+pub mod Decided
+pub mod Decisions
 pub mod Dispatch
 pub mod Faults
 pub mod Fitting

@@ -2,7 +2,7 @@
 use Rattle.std.proofs.Common.{◌≡◌, refl, sym, ap, subst, ◌∙◌, inl, inr, ℕ, suc, ◌<◌, ◌≤◌, Bool, true, false, List, [], ◌∷◌, ◌++◌, length, map, take, drop, get_or, Contains, All, arith}
 use Rattle.std.specs.Prelude.{flat_map, filter_map, nat_eq, not, if◌then◌else◌}
 use Rattle.std.proofs.Math.Seq.{take-length}
-use Rattle.std.proofs.lemmas.List.{append-nil, length-take-le, length-take, length-map, length-append, get_or-map, ext_get_or}
+use Rattle.std.proofs.lemmas.List.{append-nil, drop_all, length-take-le, length-take, length-map, length-append, get_or-map, ext_get_or}
 use Rattle.std.proofs.lemmas.List.Elements.{All-nil, All-cons, All-head, All-tail, All-from_get_or, Contains-append_left, filter_map-append}
 use Rattle.std.proofs.lemmas.Bool.{cases_lt}
 use Rattle.std.proofs.lemmas.Bool.Decides.{nat_tests}
@@ -29,17 +29,17 @@ use Rattle.eo_proof.specs.Scopes.{Scopes, depth, no_facts}
 use Rattle.eo_type.specs.Known.{FitsCut, Lasts}
 use Rattle.eo_session.specs.declared.held.Held.{Held}
 use Rattle.eo_reclaim.specs.declared.ScopeMark.{ScopeMark}
-use Rattle.eo_session.specs.Held.{state_of, macro_marks, AreValues, IsHeld, IsExact, IsWhole, IsSettled, HoldsOnly, Carries, label_trees}
+use Rattle.eo_session.specs.Held.{state_of, macro_marks, AreValues, IsHeld, IsExact, IsWhole, IsSettled, HoldsOnly, Leaves, Carries, label_trees}
 use Rattle.eo_names.specs.Names.{Binding, with_terms}
 use Rattle.eo_names.specs.Readers.{Label}
 use Rattle.eo_elab.specs.Worlds.{labels_in}
 use Rattle.eo_reclaim.specs.Trees.{macro_trees}
-use Rattle.eo_session.specs.Roots.{roots}
+use Rattle.eo_session.specs.Roots.{own_trees, roots}
 use Rattle.eo_session.specs.State as state
 use Rattle.eo_session.specs.State.{State, context, is_in_scope, is_asserted, with_assertion}
 use Rattle.eo_session.specs.Step.{label_macro, with_labels}
 use Rattle.eo_session.proofs.Counting.{first}
-use Rattle.eo_session.proofs.Rooted.{own_trees, entry_stays, entry_comes_in, macros_stay_in, macros_come_in, fact_stays, fact_comes, scope_stays, scope_comes, assertion_stays, assertion_comes}
+use Rattle.eo_session.proofs.Rooted.{entry_stays, entry_comes_in, macros_stay_in, macros_come_in, fact_stays, fact_comes, scope_stays, scope_comes, assertion_stays, assertion_comes}
 use Rattle.eo_session.proofs.Alive.{front, grown_cut, grown_front, now, own_mark, kept_mark, kept_exact, live_table, all_alive, constants_there, live_alone, live_facts, live_begun, live_macros, named_outside, carried_only}
 use Rattle.eo_session.proofs.Scoping.{map_grown, scopes_grown, below_more}
 
@@ -327,6 +327,21 @@ module _ (h : Held) (whole : IsWhole h) (stays : (k : Kept) → StaysSince k) wh
               }) whole.held.marks (ap (λ (s : Kept). s.entries) is) (d ∷ []) (ap (λ (s : Kept). s.macros) is);
         }
 
+    -- nothing
+    pub whole_put_none : HoldsOnly [] h → IsWhole (record h { kept = now h.table })
+    unfolding roots
+    whole_put_none only = record {
+      held = refit h (now h.table) whole.held;
+      live =
+          live_macros h whole.live mark h.signature (record {
+            declared = whole.held.signature;
+            assertions = whole.held.assertions;
+            facts = whole.held.facts;
+            constants = constants_there h whole.live stays;
+            live = all_alive h whole.live stays [] (roots (state_of h)) only (λ u c. c) (λ u c. contains_none u c);
+          }) whole.held.marks refl [] (sym (append-nil h.signature.macros));
+    }
+
     -- an assertion and names of its terms, outside all scopes
     pub whole_put_asserted : ((x y : Tree) → tree_eq x y ≡ true → x ≡ y) → is_in_scope (state_of h) ≡ false → (new : Held) → IsHeld new → new.table ≡ h.table → (t : Tree) (labels : List Label) → state_of new ≡ with_labels (with_assertion (state_of h) t) labels → HoldsOnly (t ∷ label_trees labels) h → IsWhole (record new { kept = now new.table })
     whole_put_asserted exact alone new held table t labels st only =
@@ -425,3 +440,40 @@ terms_put [] [] l = refl
 terms_put [] (i ∷ is) l = absurd (omega (arith, l))
 terms_put (b ∷ bs) [] l = absurd (omega (arith, l))
 terms_put (b ∷ bs) (i ∷ is) l = ap (λ (js : List ℕ). i ∷ js) (terms_put bs is (omega (arith, l)))
+
+-- ---- nothing is carried
+
+-- where all terms are alive there are none behind the mark
+pub settled_leaves : (h new : Held) → IsSettled new → state_of new ≡ state_of h → new.signature ≡ h.signature → Leaves h [] new
+settled_leaves h new settled same signature = record {
+  whole = settled.whole;
+  same = same;
+  signature = signature;
+  only = subst (All (Contains (flat_map subtrees []))) (sym (drop_all new.kept.0 new.table.trees (omega (arith, settled.settled)))) (All-nil (Contains (flat_map subtrees [])));
+}
+
+-- all terms are kept from now on
+pub settled_now : (h : Held) (k : ℕ × ℕ) → k ≡ now h.table → IsWhole (record h { kept = now h.table }) → IsSettled (record h { kept = k })
+settled_now h k at whole = subst (λ (k : ℕ × ℕ). IsSettled (record h { kept = k })) (sym at) (record { whole = whole; settled = refl })
+
+-- so they are where a step used a rule that is marked as unproved
+pub settled_sorry : (h : Held) (b : Bool) → IsSettled h → IsSettled (record h { sorry = b })
+settled_sorry h b is =
+    let w = is.whole in
+    record {
+      whole = record {
+        held = record {
+          types = w.held.types;
+          lasts = w.held.lasts;
+          usable = w.held.usable;
+          signature = w.held.signature;
+          assertions = w.held.assertions;
+          facts = w.held.facts;
+          values = w.held.values;
+          marks = w.held.marks;
+          terms = w.held.terms;
+        };
+        live = record { exact = w.live.exact; marked = w.live.marked; scopes = w.live.scopes };
+      };
+      settled = is.settled;
+    }

@@ -21,7 +21,7 @@ use Rattle.eo_proof.specs.Scopes.{Fact, Scope, Scopes, opened_facts, formulas, w
 use Rattle.eo_reclaim.specs.Moving.{constant_ids, macro_ids, program_ids, rule_ids}
 use Rattle.eo_reclaim.specs.Trees.{constant_trees, macro_trees, program_trees, rule_trees}
 use Rattle.eo_reclaim.proofs.Moved.{constant_read, constant_terms, macro_read, macro_terms, program_read, program_terms, rule_read, rule_terms}
-use Rattle.eo_session.specs.Roots.{entry_trees, roots_of, roots}
+use Rattle.eo_session.specs.Roots.{entry_trees, own_trees, roots_of, roots}
 use Rattle.eo_session.specs.State as state
 use Rattle.eo_session.specs.State.{State, with_entry, with_assertion, is_asserted}
 use Rattle.eo_session.proofs.Counting.{first}
@@ -105,13 +105,6 @@ module _ (ts : List Tree) (n : ℕ) (P : Tree → Type 0) (each : (i : ℕ) → 
       (of_scopes k f)
 
 -- ---- what is added is held
-
--- the trees of an entry, where the next constant has number k
-abbrev pub own_trees : ℕ → SignatureEntry → List Tree
-own_trees k (IsConstant c) = Con k ∷ constant_trees c
-own_trees k (IsProgram p) = program_trees p
-own_trees k (IsRule r) = rule_trees r
-own_trees k (IsLiteralType class t) = t ∷ []
 
 own_held : (k : ℕ) (e : SignatureEntry) (t : Tree) → Contains (own_trees k e) t → Contains (entry_trees k (e ∷ [])) t
 own_held k (IsConstant c) t h = Contains-append_left (Con k ∷ constant_trees c) [] t h

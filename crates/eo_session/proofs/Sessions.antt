@@ -1,6 +1,6 @@
 -- What each command does to a state.
 use Rattle.std.proofs.Common.{◌≡◌, refl, ℕ, ◌<◌, Bool, true, false, not, List, [], sym, ap, subst, ◌∙◌, true≢false, arith}
-use Rattle.std.specs.Prelude.{◌≢◌, Option, Some, None, Result, Ok, Err, nat_lt, if◌then◌else◌, ◌&&◌, ◌||◌}
+use Rattle.std.specs.Prelude.{Option, Some, None, Result, Ok, Err, nat_lt, if◌then◌else◌, ◌&&◌, ◌||◌}
 use Rattle.eo_base.specs.declared.FaultName.{FaultName}
 use Rattle.eo_base.specs.declared.FaultName.TheVariants.{Redeclared, IllTyped, NotBool, NotAsserted, NoReference, NoRefutation, SecondReference, InScope, ScopeOpen, ScopeDepth}
 use Rattle.eo_base.specs.Answers.{Tells}
@@ -22,15 +22,10 @@ use Rattle.eo_names.specs.Refused.{told as elab_told}
 use Rattle.eo_session.specs.declared.held.Held.{Held}
 use Rattle.eo_session.specs.declared.refused.Refused.{Refused}
 use Rattle.eo_session.specs.declared.refused.Refused.TheVariants as refused
-use Rattle.eo_session.specs.Stepping.{of_elab, of_fact, Refuses, GivesTerm}
+use Rattle.eo_session.specs.Stepping.{of_elab, Refuses, GivesTerm}
 use Rattle.std.proofs.lemmas.Bool.Decides.{nat_tests}
-use Rattle.eo_base.proofs.ChecksLemmas.{bind_fails}
-use Rattle.eo_sig.specs.Signature.{is_reserved}
-use Rattle.eo_session.specs.Using.{added_fact, asserted_formula, NameFirst}
-use Rattle.eo_proof.specs.Scopes.{Scopes, depth, has_false, is_live, scope_limit}
-use Rattle.eo_proof.specs.Outcomes.{Added, Pushed}
-use Rattle.eo_proof.specs.declared.facts.FactRefused.{FactRefused}
-use Rattle.eo_proof.specs.declared.facts.FactRefused.TheVariants as fact
+use Rattle.eo_session.specs.Using.{asserted_formula}
+use Rattle.eo_proof.specs.Scopes.{depth, has_false, scope_limit}
 use Rattle.eo_session.specs.State.{State, context, with_fact, with_scope, with_command, is_asserted, is_in_scope, begin_reference, end_fault}
 use Rattle.eo_session.specs.Step.{is_in_reference, is_free_fact, evaluated, value, typed, type_value, formula_of, formula, assume, assume_push}
 use Rattle.eo_session.specs.Commands.{by_command, may_be_in_scope, next_by, scoped_command, placed_command, uncounted, step}
@@ -185,38 +180,6 @@ pub assume-is : (st : State) (name : List ℕ) (s : Sexp) → assume st name s �
 unfolding assume
 assume-is st name s = ap (λ (m : Checked State). require (is_free_fact st name) Redeclared >>= λ _. m) (regrouped (formula st s) st.has_reference (is_asserted st) (with_fact st name))
 
--- ---- names that are looked up last
-
-pub name-refused : {A : Type 0} (free : Bool) (m : Checked A) (go : A → Checked State) (e r : Refused) → Refuses m e → NameFirst free e r → Refuses (require free Redeclared >>= λ _. m >>= go) r
-unfolding ◌>>=◌ require
-name-refused true m go e r h n = subst (λ (x : Refused). Refuses (m >>= go) x) (sym n) (refuses_on m (m >>= go) e h (bind_fails m go))
-name-refused false m go e r h n = subst (λ (x : Refused). Refuses {A = State} (Err Redeclared) x) (sym n) (refl, λ q. absurd cc)
-
-pub name-ok : {A : Type 0} (free : Bool) (m : Checked A) (go : A → Checked State) (x : A) → m ≡ Ok x → (require free Redeclared >>= λ _. m >>= go) ≡ (require free Redeclared >>= λ _. go x)
-unfolding ◌>>=◌
-name-ok {A = A} free m go x e = ap (λ (n : Checked A). require free Redeclared >>= λ _. n >>= go) e
-
-module _ (st : State) (name : List ℕ) (t : Tree) where
-  abbrev by_name : Bool → Checked State
-  by_name b = require b Redeclared >>= λ _. Ok (with_fact st name t)
-
-  pub added-taken : is_free_fact st name ≡ false → added_fact st name t ≡ Err Redeclared
-  unfolding ◌>>=◌ require
-  added-taken e = ap by_name e
-
-  pub added-free : is_free_fact st name ≡ true → added_fact st name t ≡ Ok (with_fact st name t)
-  unfolding ◌>>=◌ require
-  added-free e = ap by_name e
-
-  -- a name that is not reserved is free if no fact has it
-  pub added-live : (live : Bool) → is_reserved name ≡ false → is_live st.scopes name ≡ live → is_free_fact st name ≡ not live
-  added-live live u l = λ i. not (u i) && not (l i)
-
-  pub fact-refused : (e : FactRefused) (old new : Scopes) (u : Tree) → is_reserved name ≡ false → old ≡ st.scopes → Added (Err e) old name u new → Refuses (added_fact st name t) (of_fact e)
-  fact-refused fact.Redeclared old new u r is h = (added-taken (added-live true r (ap (λ (s : Scopes). is_live s name) (sym is) ∙ h)), λ q. absurd cc)
-  fact-refused fact.ScopeDepth old new u r is h = absurd h
-  fact-refused (fact.Memory e) old new u r is h = (tt, tt)
-
 -- ---- pushed assumptions
 
 pub is_less : (n m : ℕ) → nat_lt n m ≡ true → n < m
@@ -322,12 +285,6 @@ refuses_elab m elab.Tall h = (h, λ q. absurd cc)
 refuses_elab m elab.Parameters h = (h, λ q. absurd cc)
 refuses_elab m elab.BadPattern h = (h, λ q. absurd cc)
 refuses_elab m (elab.Memory e) h = (tt, tt)
-
--- a scope is not refused where there are few, and its name is free
-pub refuses_pushed : {B : Type 0} (m : Checked B) (x : FactRefused) (old new : Scopes) (name : List ℕ) (t : Tree) → depth old < scope_limit → is_live old name ≡ false → Pushed (Err x) old name t new → Refuses m (of_fact x)
-refuses_pushed m fact.Redeclared old new name t few free h = absurd (true≢false (sym h.1 ∙ free))
-refuses_pushed m fact.ScopeDepth old new name t few free h = absurd (omega (arith, few, h))
-refuses_pushed m (fact.Memory e) old new name t few free h = (tt, tt)
 
 -- an answer for a term is one for what is the same
 pub gives-same : (h : Held) (r : Result ℕ Refused) (m n : Checked Tree) → m ≡ n → GivesTerm h r n → GivesTerm h r m

@@ -10,3 +10,6 @@ pub mod Roots
 pub mod Beginning
 pub mod StateCode
 pub mod Using
+pub mod Effects
+pub mod Deciding
+pub mod Decisions

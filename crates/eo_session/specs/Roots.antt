@@ -1,7 +1,7 @@
 -- The trees that a state holds.
 use Rattle.std.specs.Prelude.{ℕ, suc, not, List, [], ◌∷◌, ◌++◌, flat_map, filter, length}
 use Rattle.eo_term.specs.Tree.{Tree, Con, subtrees, tree_eq}
-use Rattle.eo_sig.specs.Signature.{Signature, IsConstant, IsProgram, IsRule, IsLiteralType, Macro}
+use Rattle.eo_sig.specs.Signature.{Signature, SignatureEntry, IsConstant, IsProgram, IsRule, IsLiteralType, Macro}
 use Rattle.eo_proof.specs.Scopes.{Scopes, formulas}
 use Rattle.eo_reclaim.specs.Trees.{constant_trees, macro_trees, program_trees, rule_trees}
 use Rattle.eo_session.specs.State.{State}
@@ -13,6 +13,13 @@ entry_trees k (IsConstant c ∷ es) = Con k ∷ constant_trees c ++ entry_trees 
 entry_trees k (IsProgram p ∷ es) = program_trees p ++ entry_trees k es
 entry_trees k (IsRule r ∷ es) = rule_trees r ++ entry_trees k es
 entry_trees k (IsLiteralType class t ∷ es) = t ∷ entry_trees k es
+
+-- the trees of an entry, where the next constant has number k
+abbrev pub own_trees : ℕ → SignatureEntry → List Tree
+own_trees k (IsConstant c) = Con k ∷ constant_trees c
+own_trees k (IsProgram p) = program_trees p
+own_trees k (IsRule r) = rule_trees r
+own_trees k (IsLiteralType class t) = t ∷ []
 
 -- the trees of declarations, macros, assertions and facts
 abbrev pub roots_of : Signature → List Macro → List Tree → Scopes → List Tree

@@ -1,9 +1,9 @@
 -- What a session does with a step, with numbers of terms.
-use Rattle.std.specs.Prelude.{◌≡◌, ℕ, ◌<◌, Bool, true, false, List, length, All, Option, Some, Result, Ok, Err, option_map, option_to_list}
+use Rattle.std.specs.Prelude.{◌≡◌, ℕ, ◌<◌, true, List, length, All, Option, Some, Result, Ok, Err, option_map, option_to_list}
 use Rattle.std.specs.List.{list_all}
 use Rattle.eo_base.specs.Answers.{IsGiven}
 use Rattle.eo_base.specs.Checks.{Checked, ◌>>=◌, require}
-use Rattle.eo_base.specs.declared.FaultName.TheVariants.{Redeclared, NoReference, NotAsserted}
+use Rattle.eo_base.specs.declared.FaultName.TheVariants.{NoReference, NotAsserted}
 use Rattle.eo_eval.specs.Outcomes.{IsValueOf}
 use Rattle.eo_rule.specs.Reading.{AreValuesIn, UseBelow, read_use}
 use Rattle.eo_rule.specs.Uses.{Use, conclusion}
@@ -14,12 +14,11 @@ use Rattle.eo_sig.specs.Reading.{SomeBelow}
 use Rattle.eo_term.specs.Growth.{tree_in, trees_in}
 use Rattle.eo_term.specs.Terms.{Terms}
 use Rattle.eo_term.specs.Tree.{Tree, is_value}
-use Rattle.eo_session.specs.State.{State, is_asserted, with_fact, without_scope}
-use Rattle.eo_session.specs.Step.{Concluded, concluded, formula, is_free_fact, is_sorry, with_conclusion}
+use Rattle.eo_session.specs.State.{State, is_asserted, without_scope}
+use Rattle.eo_session.specs.Step.{Concluded, concluded, formula, is_sorry, with_conclusion}
 use Rattle.eo_session.specs.Stepping.{Refuses}
 use Rattle.eo_session.specs.declared.held.Held.{Held}
 use Rattle.eo_session.specs.declared.refused.Refused.{Refused}
-use Rattle.eo_session.specs.declared.refused.Refused.TheVariants as refused
 use Rattle.eo_session.specs.declared.steps.Conclusion.{Conclusion}
 
 -- ---- terms
@@ -71,18 +70,6 @@ concluded_from st number given = do
   f ← conclusion st.signature number given
   Ok (record { formula = f; sorry = is_sorry st number })
 
--- a fact is added, by a name that is free
-abbrev pub added_fact : State → List ℕ → Tree → Checked State
-added_fact st name t = do
-  _ ← require (is_free_fact st name) Redeclared
-  Ok (with_fact st name t)
-
--- so is what a rule concludes
-abbrev pub added_conclusion : State → List ℕ → Concluded → Checked State
-added_conclusion st name k = do
-  _ ← require (is_free_fact st name) Redeclared
-  Ok (with_conclusion st name k)
-
 -- the value of a term, which is a formula that is asserted
 abbrev pub asserted_formula : State → Sexp → Checked Tree
 asserted_formula st s = do
@@ -90,11 +77,6 @@ asserted_formula st s = do
   _ ← require st.has_reference NoReference
   _ ← require (is_asserted st v) NotAsserted
   Ok v
-
--- what refuses a command with a name, if the rest of it is refused
-abbrev pub NameFirst : (is_free : Bool) → Refused → Refused → Type 0
-NameFirst true e r = r ≡ e
-NameFirst false e r = r ≡ refused.Fault Redeclared
 
 -- a step out of the innermost scope, which has this assumption. Its name is free outside
 abbrev pub conclusion_outside : State → Tree → StepShape → Checked State

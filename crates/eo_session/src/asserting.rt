@@ -1,37 +1,38 @@
 //! What a reference file asserts.
-ghost use Rattle.std.specs.Prelude.{◌≡◌, ◌<◌, [], ◌∷◌, false, map, Ok, length, IfOk, OnOk};
+ghost use Rattle.std.specs.Prelude.{◌≡◌, ◌<◌, [], ◌∷◌, false, map, length, IfOk, OnOk};
 ghost use Rattle.eo_elab.specs.Worlds.{labels_in};
 ghost use Rattle.eo_names.specs.Names.{BindingsBelow};
 ghost use Rattle.eo_term.specs.Growth.{tree_in, IsTerm};
 ghost use Rattle.eo_session.specs.Asserting.{read_assertion, asserted_as, named_term, GivesAssertion, MayBeName, MayBeNames};
-ghost use Rattle.eo_session.specs.Held.{state_of, label_trees, IsHeld, IsWhole, HoldsOnly, Leaves, Keeps};
+ghost use Rattle.eo_session.specs.Held.{state_of, label_trees, IsHeld, IsWhole, Leaves, Keeps};
 ghost use Rattle.eo_session.specs.State.{is_in_scope, with_assertion, with_macro};
 ghost use Rattle.eo_session.specs.Step.{assert as asserted, label_macro, with_labels};
-ghost use Rattle.eo_session.specs.Stepping.{Does};
+ghost use Rattle.eo_session.specs.Deciding.{Decides};
 
 use crate::Refused;
+use crate::effects::Effect;
 use crate::held::Held;
-use eo_base::Name;
+use eo_base::{Name, both};
 use eo_elab::{Locals, Names, labels_law, reference_term};
 use eo_reclaim::push_ids;
 use eo_sexp::Sexp;
-use eo_sig::{MacroDecl, Params, growth_law};
-use eo_term::{Id, equality_law};
+use eo_sig::{MacroDecl, Params, SigRefused};
+use eo_term::Id;
 use std::alloc::{AllocError, Global};
 
 impl Held {
-    /// Asserts the value of a formula. Then the names that its terms give themselves are macros of
+    /// The value of a formula is asserted. Then the names that its terms give themselves are macros of
     /// the reference file.
-    pub(crate) fn assert(&mut self, formula: &Sexp<'_>) -> Result<(), Refused>
+    pub(crate) fn decide_assert<'c>(&mut self, formula: &Sexp<'_>) -> Result<Effect<'c>, Refused>
         requires whole { IsWhole self.old }
         requires outside { is_in_scope (state_of self.old) ≡ false }
-        ensures whole { OnOk result (IsWhole self.new) }
-        ensures does { Does result (asserted (state_of self.old) formula.now) self.new }
+        ensures decides { Decides self.new result (asserted (state_of self.old) formula.now) }
+        ensures keeps { Keeps self.old self.new }
     {
         labels_law();
         let mut names = Names::new(self.alloc);
         let id = self.read_assertion(formula, &mut names)?;
-        self.assert_as(id, &mut names)
+        self.decide_asserted(id, names)
     }
 
     // The formula of an assertion, and the names that its terms give themselves.
@@ -55,24 +56,22 @@ impl Held {
         Ok(id)
     }
 
-    // Asserts the value of a formula, with names for some of its terms.
-    fn assert_as(&mut self, id: Id, names: &mut Names) -> Result<(), Refused>
+    // The value of a formula is asserted, with names for some of its terms.
+    fn decide_asserted<'c>(&mut self, id: Id, names: Names) -> Result<Effect<'c>, Refused>
         requires whole { IsWhole self.old }
         requires outside { is_in_scope (state_of self.old) ≡ false }
         requires live { id < length self.old.table.trees }
-        requires below { BindingsBelow (length self.old.table.trees) names.old }
-        requires new { MayBeNames (state_of self.old) (labels_in self.old.table names.old) }
-        ensures whole { OnOk result (IsWhole self.new) }
-        ensures does { Does result
-            (asserted_as (state_of self.old) (tree_in self.old.table id) (labels_in self.old.table names.old)) self.new }
+        requires below { BindingsBelow (length self.old.table.trees) names }
+        requires new { MayBeNames (state_of self.old) (labels_in self.old.table names) }
+        ensures decides { Decides self.new result (asserted_as (state_of self.old) (tree_in self.old.table id) (labels_in self.old.table names)) }
+        ensures keeps { Keeps self.old self.new }
     {
-        let value = self.formula_of(id)?;
-        let carried = self.carry_named(value, names)?;
-        self.put_asserted(carried, names)
+        let (formula, names) = both(self.formula_of(id), names)?;
+        Ok(Effect::Assert { formula, names })
     }
 
-    // Carries a value and the terms of names, which are then those of the carried ones.
-    fn carry_named(&mut self, value: Id, names: &mut Names) -> Result<Id, AllocError>
+    /// Carries a value and the terms of names, which are then those of the carried ones.
+    pub(crate) fn carry_named(&mut self, value: Id, names: &mut Names) -> Result<Id, AllocError>
         requires whole { IsWhole self.old }
         requires live { value < length self.old.table.trees }
         requires below { BindingsBelow (length self.old.table.trees) names.old }
@@ -89,35 +88,31 @@ impl Held {
         Ok(carried)
     }
 
-    // A value is asserted, and names of terms are macros of the reference file. All are carried.
-    fn put_asserted(&mut self, value: Id, names: &Names) -> Result<(), Refused>
-        requires whole { IsWhole self.old }
-        requires outside { is_in_scope (state_of self.old) ≡ false }
+    /// A value is asserted, and names of terms are macros of the reference file.
+    pub(crate) fn put_asserted(&mut self, value: Id, names: &Names) -> Result<(), AllocError>
+        requires whole { IsHeld self.old }
         requires live { value < length self.old.table.trees }
         requires below { BindingsBelow (length self.old.table.trees) names.now }
         requires new { MayBeNames (with_assertion (state_of self.old) (tree_in self.old.table value))
             (labels_in self.old.table names.now) }
-        requires only { HoldsOnly (tree_in self.old.table value ∷ label_trees (labels_in self.old.table names.now)) self.old }
-        ensures whole { OnOk result (IsWhole self.new) }
-        ensures does { Does result
-            (Ok (with_labels (with_assertion (state_of self.old) (tree_in self.old.table value))
-            (labels_in self.old.table names.now))) self.new }
+        ensures whole { OnOk result (IsHeld self.new) }
+        ensures does { OnOk result (state_of self.new ≡
+            with_labels (with_assertion (state_of self.old) (tree_in self.old.table value)) (labels_in self.old.table names.now)) }
+        ensures table { self.new.table ≡ self.old.table }
+        ensures kept { self.new.kept ≡ self.old.kept }
     {
-        equality_law();
-        growth_law();
         self.add_assertion(value)?;
-        self.add_names(names)?;
-        self.kept = self.table.mark();
-        Ok(())
+        self.add_names(names)
     }
 
     // A value is asserted.
-    fn add_assertion(&mut self, value: Id) -> Result<(), Refused>
+    fn add_assertion(&mut self, value: Id) -> Result<(), AllocError>
         requires whole { IsHeld self.old }
         requires live { value < length self.old.table.trees }
         ensures whole { OnOk result (IsHeld self.new) }
-        ensures does { Does result (Ok (with_assertion (state_of self.old) (tree_in self.old.table value))) self.new }
+        ensures does { OnOk result (state_of self.new ≡ with_assertion (state_of self.old) (tree_in self.old.table value)) }
         ensures table { self.new.table ≡ self.old.table }
+        ensures kept { self.new.kept ≡ self.old.kept }
     {
         self.table.laws();
         self.assertions.add(value)?;
@@ -125,13 +120,14 @@ impl Held {
     }
 
     // Names of terms are macros of the reference file.
-    fn add_names(&mut self, names: &Names) -> Result<(), Refused>
+    fn add_names(&mut self, names: &Names) -> Result<(), AllocError>
         requires whole { IsHeld self.old }
         requires below { BindingsBelow (length self.old.table.trees) names.now }
         requires new { MayBeNames (state_of self.old) (labels_in self.old.table names.now) }
         ensures whole { OnOk result (IsHeld self.new) }
-        ensures does { Does result (Ok (with_labels (state_of self.old) (labels_in self.old.table names.now))) self.new }
+        ensures does { OnOk result (state_of self.new ≡ with_labels (state_of self.old) (labels_in self.old.table names.now)) }
         ensures table { self.new.table ≡ self.old.table }
+        ensures kept { self.new.kept ≡ self.old.kept }
     {
         for i in 0..names.len() {
             let (name, tree) = names.get(i);
@@ -141,13 +137,14 @@ impl Held {
     }
 
     // The name of a term is a macro of the reference file.
-    fn add_name(&mut self, name: &[u8], tree: Id) -> Result<(), Refused>
+    fn add_name(&mut self, name: &[u8], tree: Id) -> Result<(), AllocError>
         requires whole { IsHeld self.old }
         requires live { tree < length self.old.table.trees }
         requires new { MayBeName (state_of self.old) (named_term self.old name.now tree) }
         ensures whole { OnOk result (IsHeld self.new) }
-        ensures does { Does result (Ok (with_macro (state_of self.old) (label_macro (named_term self.old name.now tree)))) self.new }
+        ensures does { OnOk result (state_of self.new ≡ with_macro (state_of self.old) (label_macro (named_term self.old name.now tree))) }
         ensures table { self.new.table ≡ self.old.table }
+        ensures kept { self.new.kept ≡ self.old.kept }
     {
         prove!(self.signature.is_free(name));
         let d = MacroDecl {
@@ -156,8 +153,11 @@ impl Held {
             tree,
             from_reference: true,
         };
-        self.signature.define(d)?;
-        Ok(())
+        match self.signature.define(d) {
+            Ok(_) => Ok(()),
+            Err(SigRefused::Memory(e)) => Err(e),
+            Err(_) => unreachable!(),
+        }
     }
 }
 

@@ -1,9 +1,10 @@
 //! Terms that are carried and given back.
 ghost use Rattle.std.specs.Prelude.{◌≡◌, ◌<◌, [], ◌∷◌, length, All, Contains, IfOk, OnOk};
+ghost use Rattle.eo_session.specs.Deciding.{EntryIsThere, MayDeclare};
 ghost use Rattle.eo_session.specs.Held.{state_of, next_constant, IsWhole, IsSettled, Leaves, Carries, Keeps};
 ghost use Rattle.eo_reclaim.specs.Trees.{constant_trees, macro_trees, program_trees, rule_trees};
-ghost use Rattle.eo_session.specs.Roots.{live_count};
-ghost use Rattle.eo_sig.specs.Reading.{read_constant, read_macro, read_program, read_rule};
+ghost use Rattle.eo_session.specs.Roots.{live_count, own_trees};
+ghost use Rattle.eo_sig.specs.Reading.{constants_of, read_constant, read_entry, read_macro, read_program, read_rule};
 ghost use Rattle.eo_sig.specs.Reading.{ConstBelow, MacroBelow, ProgramBelow, RuleBelow};
 ghost use Rattle.eo_term.specs.Growth.{IsTerm};
 
@@ -12,7 +13,7 @@ use eo_reclaim::{
     Handed, move_constant, move_macro, move_program, move_rule, push_constant, push_macro,
     push_program, push_rule,
 };
-use eo_sig::{ConstDecl, MacroDecl, ProgramDecl, RuleDecl, growth_law};
+use eo_sig::{ConstDecl, Declared, MacroDecl, ProgramDecl, RuleDecl, growth_law};
 use eo_term::{Id, Node, TermRefused, equality_law};
 use std::alloc::AllocError;
 
@@ -22,6 +23,7 @@ impl Held {
         requires { IsWhole self.old }
         ensures settled { IsSettled self.new }
         ensures same { state_of self.new ≡ state_of self.old }
+        ensures signature { self.new.signature ≡ self.old.signature }
     {
         growth_law();
         self.types.forget(self.kept);
@@ -75,8 +77,39 @@ impl Held {
         Ok(Handed::new(ids))
     }
 
-    /// Gives back what a command made, but for the terms of a constant, and the next constant.
-    pub(crate) fn carry_constant(&mut self, d: &mut ConstDecl) -> Result<(), AllocError>
+    /// Gives back what a command made, but for the terms of a declaration, among them a constant
+    /// itself, and hands the declaration out with their new numbers.
+    pub(crate) fn carried_entry(&mut self, d: Declared) -> Result<Declared, AllocError>
+        requires whole { IsWhole self.old }
+        requires may { MayDeclare self.old d }
+        ensures leaves { OnOk result (Leaves self.old
+            (own_trees (length (constants_of self.old.signature)) (read_entry self.old.table.trees d)) self.new) }
+        ensures read { IfOk result (λ e. read_entry self.new.table.trees e ≡ read_entry self.old.table.trees d) }
+        ensures may { IfOk result (MayDeclare self.new) }
+        ensures itself { IfOk result (EntryIsThere self.new) }
+    {
+        match d {
+            Declared::Const(mut d) => {
+                self.carry_constant(&mut d)?;
+                Ok(Declared::Const(d))
+            }
+            Declared::Program(mut d) => {
+                self.carry_program(&mut d)?;
+                Ok(Declared::Program(d))
+            }
+            Declared::Rule(mut d) => {
+                self.carry_rule(&mut d)?;
+                Ok(Declared::Rule(d))
+            }
+            Declared::Literal { class, ty } => {
+                let ty = self.carry_one(ty)?;
+                Ok(Declared::Literal { class, ty })
+            }
+        }
+    }
+
+    // Gives back what a command made, but for the terms of a constant, and the next constant.
+    fn carry_constant(&mut self, d: &mut ConstDecl) -> Result<(), AllocError>
         requires whole { IsWhole self.old }
         requires below { ConstBelow (length self.old.table.trees) d.old }
         ensures leaves { OnOk result (Leaves self.old
@@ -111,8 +144,8 @@ impl Held {
         Ok(())
     }
 
-    /// Gives back what a command made, but for the terms of a program.
-    pub(crate) fn carry_program(&mut self, d: &mut ProgramDecl) -> Result<(), AllocError>
+    // Gives back what a command made, but for the terms of a program.
+    fn carry_program(&mut self, d: &mut ProgramDecl) -> Result<(), AllocError>
         requires whole { IsWhole self.old }
         requires below { ProgramBelow (length self.old.table.trees) d.old }
         ensures leaves { OnOk result (Leaves self.old (program_trees (read_program self.old.table.trees d.old)) self.new) }
@@ -126,8 +159,8 @@ impl Held {
         Ok(())
     }
 
-    /// Gives back what a command made, but for the terms of a rule.
-    pub(crate) fn carry_rule(&mut self, d: &mut RuleDecl) -> Result<(), AllocError>
+    // Gives back what a command made, but for the terms of a rule.
+    fn carry_rule(&mut self, d: &mut RuleDecl) -> Result<(), AllocError>
         requires whole { IsWhole self.old }
         requires below { RuleBelow (length self.old.table.trees) d.old }
         ensures leaves { OnOk result (Leaves self.old (rule_trees (read_rule self.old.table.trees d.old)) self.new) }

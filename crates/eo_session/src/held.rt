@@ -1,15 +1,15 @@
 //! What a session holds between two commands.
-ghost use Rattle.std.specs.Prelude.{◌≡◌, ◌<◌, [], ◌∷◌, false, not, length, IfOk, OnOk};
+ghost use Rattle.std.specs.Prelude.{◌≡◌, ◌<◌, [], false, not, length, IfOk};
 ghost use Rattle.eo_term.specs.Growth.{tree_in};
 ghost use Rattle.eo_elab.specs.Meaning.{meaning};
 ghost use Rattle.eo_eval.specs.Outcomes.{IsValueOf};
 ghost use Rattle.eo_proof.specs.Scopes as proof;
-ghost use Rattle.eo_session.specs.Held.{state_of, IsWhole, Keeps, HoldsOnly};
+ghost use Rattle.eo_session.specs.Held.{state_of, IsWhole, Keeps};
 ghost use Rattle.eo_sig.specs.Signature.{is_reserved as reserved};
 ghost use Rattle.eo_session.specs.State.{context, is_asserted, is_in_scope};
-ghost use Rattle.eo_session.specs.Step.{is_free_fact, value, formula, assume as assumed};
-ghost use Rattle.eo_session.specs.Stepping.{GivesTerm, Does};
-ghost use Rattle.eo_session.specs.Using.{added_fact, asserted_formula, NameFirst};
+ghost use Rattle.eo_session.specs.Step.{is_free_fact, value, formula};
+ghost use Rattle.eo_session.specs.Stepping.{GivesTerm};
+ghost use Rattle.eo_session.specs.Using.{asserted_formula};
 
 use crate::Refused;
 use eo_base::FaultName;
@@ -20,7 +20,7 @@ use eo_proof::Facts;
 use eo_reclaim::Marks;
 use eo_ref::Reference;
 use eo_sexp::Sexp;
-use eo_sig::{Signature, growth_law, is_reserved};
+use eo_sig::{Signature, is_reserved};
 use eo_term::{Id, Mark, Table};
 use eo_type::Types;
 use std::alloc::Global;
@@ -62,20 +62,8 @@ pub(crate) struct Held {
 }
 
 impl Held {
-    /// Adds a formula that is asserted to the facts, by a name that is free.
-    pub(crate) fn assume(&mut self, name: &[u8], formula: &Sexp<'_>) -> Result<(), Refused>
-        requires { IsWhole self.old }
-        ensures whole { OnOk result (IsWhole self.new) }
-        ensures does { Does result (assumed (state_of self.old) name.now formula.now) self.new }
-    {
-        match self.asserted_formula(formula) {
-            Ok(value) => self.add_fact(name, value),
-            Err(e) => Err(self.name_first(name, e)),
-        }
-    }
-
-    // The value of a term, which is a formula that the reference file asserts.
-    fn asserted_formula(&mut self, s: &Sexp<'_>) -> Result<Id, Refused>
+    /// The value of a term, which is a formula that the reference file asserts.
+    pub(crate) fn asserted_formula(&mut self, s: &Sexp<'_>) -> Result<Id, Refused>
         requires { IsWhole self.old }
         ensures gives { GivesTerm self.new result (asserted_formula (state_of self.old) s.now) }
         ensures value { IfOk result (IsValueOf self.new.table) }
@@ -89,48 +77,6 @@ impl Held {
             return Err(Refused::Fault(FaultName::NotAsserted));
         }
         Ok(value)
-    }
-
-    /// What refuses a command whose fact has this name: that the name is taken, and else what refuses
-    /// the rest. The name is looked up here and where the fact is added, and not before that.
-    pub(crate) fn name_first(&self, name: &[u8], e: Refused) -> Refused
-        ensures { NameFirst (is_free_fact (state_of self.now) name.now) e result }
-    {
-        if self.is_taken(name) {
-            Refused::Fault(FaultName::Redeclared)
-        } else {
-            e
-        }
-    }
-
-    /// Carries a value, and adds it to the facts of the innermost scope, by a name that is free.
-    pub(crate) fn add_fact(&mut self, name: &[u8], formula: Id) -> Result<(), Refused>
-        requires whole { IsWhole self.old }
-        requires value { IsValueOf self.old.table formula }
-        ensures whole { OnOk result (IsWhole self.new) }
-        ensures does { Does result (added_fact (state_of self.old) name.now (tree_in self.old.table formula)) self.new }
-    {
-        let formula = self.carry_one(formula)?;
-        if is_reserved(name) {
-            return Err(Refused::Fault(FaultName::Redeclared));
-        }
-        self.put_fact(name, formula)
-    }
-
-    // Adds a value that is carried to the facts, by a name that is not reserved.
-    fn put_fact(&mut self, name: &[u8], formula: Id) -> Result<(), Refused>
-        requires whole { IsWhole self.old }
-        requires value { IsValueOf self.old.table formula }
-        requires unreserved { reserved name.now ≡ false }
-        requires only { HoldsOnly (tree_in self.old.table formula ∷ []) self.old }
-        ensures whole { OnOk result (IsWhole self.new) }
-        ensures does { Does result (added_fact (state_of self.old) name.now (tree_in self.old.table formula)) self.new }
-    {
-        growth_law();
-        self.facts.laws();
-        self.facts.add(name, formula)?;
-        self.kept = self.table.mark();
-        Ok(())
     }
 
     /// Whether `false` is a fact outside all scopes.

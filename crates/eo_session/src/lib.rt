@@ -8,7 +8,10 @@
 mod asserting;
 mod beginning;
 mod carrying;
+mod committing;
+mod deciding;
 mod declaring;
+mod effects;
 mod evaluating;
 mod held;
 mod naming;

@@ -8,10 +8,10 @@ ghost use Rattle.eo_session.specs.Numbered.{origin_of, number_of};
 ghost use Rattle.eo_session.specs.State.{first_state, begin_reference, end_fault, is_in_scope};
 ghost use Rattle.eo_names.specs.Scopes.{read_setting};
 ghost use Rattle.eo_session.specs.Step.{is_in_proof, is_in_reference, setting_of};
-ghost use Rattle.eo_session.specs.Commands.{by_command, scoped_command, placed_command, uncounted, step};
+ghost use Rattle.eo_session.specs.Commands.{placed_command, uncounted, step};
 ghost use Rattle.eo_session.specs.Commands as definition;
 ghost use Rattle.eo_shape.specs.Reading.{read_command};
-ghost use Rattle.eo_session.specs.Stepping.{Does, DoesNext, Steps, StepsTo, EndsWith};
+ghost use Rattle.eo_session.specs.Stepping.{DoesNext, Steps, StepsTo, EndsWith};
 
 use crate::held::Held;
 use crate::{Next, Origin, Refused};
@@ -266,39 +266,24 @@ fn run_command(held: &mut Held, s: &Sexp<'_>, from: Origin) -> Result<Next, Refu
 {
     let read = command_of(s, from.is_reference());
     match &read {
-        Ok(command) => {
-            let next = run_placed(held, command, from)?;
-            held.release();
-            Ok(next)
-        }
+        Ok(command) => run_decided(held, command, from),
         Err(e) => Err(Refused::from(*e)),
     }
 }
 
-// Does what a command says, and answers what is done next.
-fn run_placed(held: &mut Held, command: &Command<'_>, from: Origin) -> Result<Next, Refused>
+// Decides what a command does, and does it.
+fn run_decided(held: &mut Held, command: &Command<'_>, from: Origin) -> Result<Next, Refused>
     requires { IsWhole held.old }
-    ensures whole { OnOk result (IsWhole held.new) }
+    ensures settled { OnOk result (IsSettled held.new) }
     ensures does { DoesNext result (placed_command (state_of held.old) (origin_of from) (read_command command.now)) held.new }
 {
-    run_scoped(held, command, from)?;
-    held.next_by(command)
+    let decided = held.decide(command, from)?;
+    held.commit(decided.effect)?;
+    Ok(decided.next)
 }
 
-// Does what a command says, where it may stand.
-fn run_scoped(held: &mut Held, command: &Command<'_>, from: Origin) -> Result<(), Refused>
-    requires { IsWhole held.old }
-    ensures whole { OnOk result (IsWhole held.new) }
-    ensures does { Does result (scoped_command (state_of held.old) (origin_of from) (read_command command.now)) held.new }
-{
-    if !may_stand(held, command) {
-        return Err(Refused::Fault(FaultName::InScope));
-    }
-    run_shape(held, command, from)
-}
-
-// Whether a command may stand here: no scope is open, or it may stand in one.
-fn may_stand(held: &Held, command: &Command<'_>) -> bool
+/// Whether a command may stand here: no scope is open, or it may stand in one.
+pub(crate) fn may_stand(held: &Held, command: &Command<'_>) -> bool
     ensures { result ≡ (not (is_in_scope (state_of held.now)) || definition.may_be_in_scope (read_command command.now)) }
 {
     !held.is_in_scope() || may_be_in_scope(command)
@@ -314,53 +299,5 @@ fn may_be_in_scope(command: &Command<'_>) -> bool
         Command::Step(_) => true,
         Command::StepPop(_) => true,
         _ => false,
-    }
-}
-
-// Does what a command says, which may stand here.
-fn run_shape(held: &mut Held, command: &Command<'_>, from: Origin) -> Result<(), Refused>
-    requires whole { IsWhole held.old }
-    requires stands { (not (is_in_scope (state_of held.old)) || definition.may_be_in_scope (read_command command.now)) ≡ true }
-    ensures whole { OnOk result (IsWhole held.new) }
-    ensures does { Does result (by_command (state_of held.old) (origin_of from) (read_command command.now)) held.new }
-{
-    match command {
-        Command::DeclareConst {
-            name,
-            ty,
-            attribute,
-        } => held.declare_const(from.setting(), name, ty, attribute),
-        Command::DeclareFun {
-            name,
-            inputs,
-            output,
-        } => held.declare_fun(from.setting(), name, inputs, output),
-        Command::DeclareSort { name, arity } => held.declare_sort(from.setting(), name, *arity),
-        Command::DeclareParameterized {
-            name,
-            params,
-            ty,
-            attribute,
-        } => held.declare_parameterized(name, params, ty, attribute),
-        Command::DeclareLiterals { class, ty } => held.declare_literals(*class, ty),
-        Command::Define { name, params, body } => held.define(name, params, body),
-        Command::Program(shape) => held.define_program(from, shape),
-        Command::DeclareRule(shape) => held.declare_rule(from, shape),
-        Command::Assume { name, formula } => held.assume(name, formula),
-        Command::AssumePush { name, formula } => held.assume_push(name, formula),
-        Command::Step(shape) => held.step(shape),
-        Command::StepPop(shape) => held.step_pop(shape),
-        Command::Include { .. } => Ok(()),
-        Command::Refer { .. } => Ok(()),
-        Command::DefineFun {
-            name,
-            params,
-            output,
-            body,
-        } => held.define_fun(name, params, output, body),
-        Command::DefineSort { name, params, ty } => held.define_sort(name, params, ty),
-        Command::Assert { formula } => held.assert(formula),
-        Command::Exit => Ok(()),
-        Command::Skip => Ok(()),
     }
 }

@@ -1,7 +1,6 @@
 //! Steps, which add what a rule concludes to the facts.
-ghost use Rattle.std.specs.Prelude.{◌≡◌, ◌<◌, length, true, Some, IfOk, option_map, OnOk};
+ghost use Rattle.std.specs.Prelude.{◌≡◌, ◌<◌, length, Some, IfOk, option_map};
 ghost use Rattle.eo_eval.specs.Outcomes.{IsValueOf};
-ghost use Rattle.eo_proof.specs.Scopes.{innermost_hypothesis};
 ghost use Rattle.eo_rule.specs.Answers.{GivesTerm as GivesConclusion};
 ghost use Rattle.eo_rule.specs.Reading.{AreValuesIn, UseBelow, conclusion_in, read_use};
 ghost use Rattle.eo_shape.specs.Reading.{read_step};
@@ -9,10 +8,8 @@ ghost use Rattle.eo_sig.specs.Reading.{rules_of};
 ghost use Rattle.eo_term.specs.Growth.{tree_in};
 ghost use Rattle.eo_session.specs.Held.{state_of, IsWhole, Keeps};
 ghost use Rattle.eo_session.specs.Step as step;
-ghost use Rattle.eo_session.specs.Step.{step_plain, step_pop as popped, is_free_outer_fact};
-ghost use Rattle.eo_session.specs.Stepping.{Does};
-ghost use Rattle.eo_session.specs.Using.{MayDischarge, GivesConcluded, concluded_from, read_conclusion};
-ghost use Rattle.eo_session.specs.Using.{added_conclusion, conclusion_outside};
+ghost use Rattle.eo_session.specs.Step.{is_free_outer_fact};
+ghost use Rattle.eo_session.specs.Using.{MayDischarge, GivesConcluded, concluded_from};
 
 use crate::Refused;
 use crate::held::Held;
@@ -32,71 +29,16 @@ pub(crate) struct Conclusion {
 }
 
 impl Held {
-    /// Adds what a rule concludes to the facts of the innermost scope, by a name that is free.
-    pub(crate) fn step(&mut self, shape: &StepShape<'_>) -> Result<(), Refused>
-        requires { IsWhole self.old }
-        ensures whole { OnOk result (IsWhole self.new) }
-        ensures does { Does result (step_plain (state_of self.old) (read_step shape.now)) self.new }
-    {
-        match self.concluded(None, shape) {
-            Ok(concluded) => self.add_conclusion(shape.name, concluded),
-            Err(e) => Err(self.name_first(shape.name, e)),
-        }
-    }
-
-    /// Closes the innermost scope, and adds what a rule concludes from its assumption to the facts
-    /// around it, by a name that is free there.
-    pub(crate) fn step_pop(&mut self, shape: &StepShape<'_>) -> Result<(), Refused>
-        requires { IsWhole self.old }
-        ensures whole { OnOk result (IsWhole self.new) }
-        ensures does { Does result (popped (state_of self.old) (read_step shape.now)) self.new }
-    {
-        let Some(assumed) = self.facts.hypothesis() else {
-            return Err(Refused::Fault(FaultName::NoScope));
-        };
-        if !self.is_free_outside(shape.name) {
-            return Err(Refused::Fault(FaultName::Redeclared));
-        }
-        self.step_outside(assumed, shape)
-    }
-
-    // A step out of the innermost scope, which has this assumption. Its name is free outside.
-    fn step_outside(&mut self, assumed: Id, shape: &StepShape<'_>) -> Result<(), Refused>
-        requires whole { IsWhole self.old }
-        requires live { assumed < length self.old.table.trees }
-        requires assumed { innermost_hypothesis (state_of self.old).scopes ≡ Some (tree_in self.old.table assumed) }
-        requires free { is_free_outer_fact (state_of self.old) shape.now.name.now ≡ true }
-        ensures whole { OnOk result (IsWhole self.new) }
-        ensures does { Does result
-            (conclusion_outside (state_of self.old) (tree_in self.old.table assumed) (read_step shape.now)) self.new }
-    {
-        let concluded = self.concluded(Some(assumed), shape)?;
-        self.close_scope();
-        self.add_conclusion(shape.name, concluded)
-    }
-
-    // Whether a fact may get the name once the innermost scope is closed: it is not reserved, and
-    // no fact outside has it.
-    fn is_free_outside(&self, name: &[u8]) -> bool
+    /// Whether a fact may get the name once the innermost scope is closed: it is not reserved, and
+    /// no fact outside has it.
+    pub(crate) fn is_free_outside(&self, name: &[u8]) -> bool
         ensures { result ≡ is_free_outer_fact (state_of self.now) name.now }
     {
         !is_reserved(name) && self.facts.is_free_outside(name)
     }
 
-    // Adds a conclusion to the facts, by a name that is free.
-    fn add_conclusion(&mut self, name: &[u8], concluded: Conclusion) -> Result<(), Refused>
-        requires whole { IsWhole self.old }
-        requires value { IsValueOf self.old.table concluded.formula }
-        ensures whole { OnOk result (IsWhole self.new) }
-        ensures does { Does result (added_conclusion (state_of self.old) name.now (read_conclusion self.old.table concluded)) self.new }
-    {
-        self.add_fact(name, concluded.formula)?;
-        self.sorry |= concluded.sorry;
-        Ok(())
-    }
-
-    // What a step's rule concludes, from the assumption that it discharges, if it does.
-    fn concluded(
+    /// What a step's rule concludes, from the assumption that it discharges, if it does.
+    pub(crate) fn concluded(
         &mut self,
         assumed: Option<Id>,
         shape: &StepShape<'_>,

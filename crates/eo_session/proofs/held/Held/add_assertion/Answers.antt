@@ -1,5 +1,3 @@
-use Rattle.std.proofs.Common.{sym, ap}
-use Rattle.std.specs.Prelude.{Ok}
 use Rattle.eo_session.proofs.Holding.{whole_assertion, state_assertion}
 use Rattle.eo_session.proofs.held.Held.add_assertion.Goals as goal
 
@@ -9,4 +7,4 @@ returns-clause-whole c =
 
 pub returns-clause-does : goal.returns-clause-does
 returns-clause-does c =
-    ap (λ x. Ok x) (sym (state_assertion c.args.self.now c.requires.whole c.laws.ensures.equals c.args.value c.requires.live c.add.new.self c.in_ok-add.ensures.added))
+    state_assertion c.args.self.now c.requires.whole c.laws.ensures.equals c.args.value c.requires.live c.add.new.self c.in_ok-add.ensures.added

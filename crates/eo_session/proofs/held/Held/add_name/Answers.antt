@@ -7,11 +7,11 @@ use Rattle.eo_term.specs.Tree.{uses_only}
 use Rattle.eo_session.proofs.Holding.{whole_macro}
 use Rattle.eo_session.proofs.held.Held.add_name.Goals as goal
 
-pub returns-clause-whole : goal.returns-clause-whole
-returns-clause-whole c =
+pub returns-in-Ok-clause-whole : goal.returns-in-Ok-clause-whole
+returns-in-Ok-clause-whole c =
     let h = c.args.self.now in
     let ts = h.table.trees in
     let d : MacroDecl = record { name = c.in_ok-new.field-0; params = c.new-2.result; tree = c.args.tree; from_reference = true } in
-    let below = c.in_ok-define.ensures.below (length ts) c.requires.whole.signature (search rules) in
+    let below = c.in-Ok.ensures.below (length ts) c.requires.whole.signature (search rules) in
     let bound = (λ i. uses_only (λ j. nat_lt j (length (map (read_parameter ts) (c.new-2.ensures i)))) (tree_at ts c.args.tree)) ∙ c.requires.new.closed in
-    whole_macro h c.requires.whole c.define.new.self below (read_macro ts d) (c.in_ok-define.ensures.adds ts) bound
+    whole_macro h c.requires.whole c.define.new.self below (read_macro ts d) (c.in-Ok.ensures.adds ts) bound

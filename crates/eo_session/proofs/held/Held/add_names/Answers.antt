@@ -1,5 +1,4 @@
 use Rattle.std.proofs.Common.{◌≡◌, ◌+◌, suc, drop, sym, ap, subst, ◌∙◌, add-one}
-use Rattle.eo_base.proofs.ChecksLemmas.{ok_injective}
 use Rattle.eo_elab.specs.Worlds.{labels_in}
 use Rattle.eo_names.specs.Names.{Binding}
 use Rattle.eo_term.specs.Terms.{Terms}
@@ -28,11 +27,12 @@ loop-i-preserved c =
     let b : Binding = (c.get-tree.result.0.now, c.get-tree.result.1) in
     let next = next_label t c.args.names.now i b c.get-tree.ensures in
     let own : with_macro st (label_macro (label_of t b)) ≡ state_of c.add_name.new.self =
-    ap (λ (t : Terms). with_macro st (label_macro (label_of t b))) (sym c.loop-i.invariant.table) ∙ ok_injective _ _ c.in_ok-add_name.ensures.does in
+    ap (λ (t : Terms). with_macro st (label_macro (label_of t b))) (sym c.loop-i.invariant.table) ∙ sym c.in_ok-add_name.ensures.does in
     let rest = (subst (MayBeNames st) next c.loop-i.invariant.may).1 in
     record {
       whole = c.in_ok-add_name.ensures.whole;
       table = c.in_ok-add_name.ensures.table ∙ c.loop-i.invariant.table;
+      kept = c.in_ok-add_name.ensures.kept ∙ c.loop-i.invariant.kept;
       left =
           (λ j. with_labels (sym own j) (drop (add-one i j) labels))
           ∙ one_labelled st (label_of t b) (drop (suc i) labels)

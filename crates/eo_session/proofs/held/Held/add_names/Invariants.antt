@@ -11,6 +11,7 @@ invariant-loop-i l =
     record {
       whole : IsHeld l.self;
       table : l.self.table ≡ l.fn.self.table;
+      kept : l.self.kept ≡ l.fn.self.kept;
       left : with_labels (state_of l.self) (drop l.i (labels_in l.fn.self.table l.names)) ≡ with_labels (state_of l.fn.self) (labels_in l.fn.self.table l.names);
       may : MayBeNames (state_of l.self) (drop l.i (labels_in l.fn.self.table l.names));
     }

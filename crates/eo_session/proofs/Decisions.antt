@@ -1,0 +1,80 @@
+-- A command is what is decided of it, and then done.
+use Rattle.std.proofs.Common.{◌≡◌, refl, Bool, true, false, ap, ◌∙◌}
+use Rattle.std.specs.Prelude.{Ok, Err, Option, if◌then◌else◌}
+use Rattle.eo_base.specs.declared.FaultName.{FaultName}
+use Rattle.eo_base.specs.declared.FaultName.TheVariants.{Redeclared}
+use Rattle.eo_base.specs.Checks.{Checked, Passed, ◌>>=◌, require, no_fault}
+use Rattle.eo_sig.specs.Signature.{SignatureEntry, IsConstant, Constant, Macro, lookup}
+use Rattle.eo_shape.specs.Shapes.{Command, DeclareConst, DeclareFun, DeclareSort, DeclareParameterized, DeclareLiterals, Define, DefineProgram, DeclareRule, Assume, AssumePush, Step, StepPop, Include, Refer, DefineFun, DefineSort, Assert, Exit, Skip}
+use Rattle.eo_declare.specs.Declarations.{is_reference_name}
+use Rattle.eo_session.specs.Commands.{by_command}
+use Rattle.eo_session.specs.Decisions.{constant_effect, typed_effect, macro_effect, declares, decided, done}
+use Rattle.eo_session.specs.Effects.{Effect, Declares, Defines, Nothing, after}
+use Rattle.eo_session.specs.Origin.{Origin}
+use Rattle.eo_session.specs.State.{State, context, with_entry, with_macro}
+use Rattle.eo_session.specs.Step.{repeats_constant, repeats_macro, type_value, added_constant, typed_constant, added_macro, assume, assume_push, step_plain, step_pop, assert, define_program, declare_rule}
+use Rattle.eo_session.proofs.Decided.{assumed_after}
+
+module _ (st : State) where
+  -- a check before both
+  behind : {A : Type 0} (m : Checked A) (f : A → Checked Effect) (g : A → Checked State) → ((a : A) → g a ≡ done st (f a)) → (m >>= g) ≡ done st (m >>= f)
+  unfolding ◌>>=◌
+  behind (Ok a) f g h = h a
+  behind (Err fault) f g h = refl
+
+  -- nothing is left to check
+  ok-done : (e : Effect) → ◌≡◌ {A = Checked State} (Ok (after st e)) (done st (Ok e))
+  unfolding ◌>>=◌
+  ok-done e = refl
+
+  declared-done : (fault : Option FaultName) (entry : SignatureEntry) → (no_fault fault >>= λ _. Ok (with_entry st entry)) ≡ done st (declares fault entry)
+  declared-done fault entry = behind (no_fault fault) _ _ (λ _. ok-done (Declares entry))
+
+  constant-done : (d : Constant) → added_constant st d ≡ done st (constant_effect st d)
+  unfolding added_constant
+  constant-done d = by (is_reference_name (context st) d.name)
+    where
+      r : Checked Passed
+      r = require (repeats_constant st d (lookup st.signature st.macros d.name)) Redeclared
+
+      by : (b : Bool) → (if b then (r >>= λ _. Ok st) else Ok (with_entry st (IsConstant d))) ≡ done st (if b then (r >>= λ _. Ok Nothing) else Ok (Declares (IsConstant d)))
+      by true = behind r _ _ (λ _. ok-done Nothing)
+      by false = ok-done (Declares (IsConstant d))
+
+  typed-done : (d : Constant) → typed_constant st d ≡ done st (typed_effect st d)
+  unfolding typed_constant
+  typed-done d = behind (type_value st d.type) _ _ (λ v. constant-done (record d { type = v }))
+
+  macro-done : (m : Macro) → added_macro st m ≡ done st (macro_effect st m)
+  unfolding added_macro
+  macro-done m = by (is_reference_name (context st) m.name)
+    where
+      r : Checked Passed
+      r = require (repeats_macro st m (lookup st.signature st.macros m.name)) Redeclared
+
+      by : (b : Bool) → (if b then (r >>= λ _. Ok st) else Ok (with_macro st m)) ≡ done st (if b then (r >>= λ _. Ok Nothing) else Ok (Defines m))
+      by true = behind r _ _ (λ _. ok-done Nothing)
+      by false = ok-done (Defines m)
+
+  -- each kind of command
+  pub command_done : (from : Origin) (k : Command) → by_command st from k ≡ done st (decided st from k)
+  unfolding define_program declare_rule assume assume_push step_plain step_pop assert
+  command_done from (DeclareConst name type shape) = behind _ _ _ typed-done
+  command_done from (DeclareFun name inputs output) = behind _ _ _ typed-done
+  command_done from (DeclareSort name arity) = behind _ _ _ typed-done
+  command_done from (DeclareParameterized name shapes type shape) = behind _ _ _ (λ d. declared-done _ _)
+  command_done from (DeclareLiterals class type) = behind _ _ _ (λ t. declared-done _ _)
+  command_done from (Define name shapes body) = behind _ _ _ macro-done
+  command_done from (DefineProgram shape) = behind _ _ _ (λ _. behind _ _ _ (λ p. declared-done _ _))
+  command_done from (DeclareRule shape) = behind _ _ _ (λ _. behind _ _ _ (λ r. declared-done _ _))
+  command_done from (Assume name s) = behind _ _ _ (λ _. behind _ _ _ (λ v. behind _ _ _ (λ _. behind _ _ _ (λ _. ap Ok (assumed_after st name v) ∙ ok-done _))))
+  command_done from (AssumePush name s) = behind _ _ _ (λ _. behind _ _ _ (λ _. behind _ _ _ (λ v. ok-done _)))
+  command_done from (Step shape) = behind _ _ _ (λ _. behind _ _ _ (λ k. ok-done _))
+  command_done from (StepPop shape) = behind _ _ _ (λ a. behind _ _ _ (λ _. behind _ _ _ (λ k. ok-done _)))
+  command_done from (Include written) = ok-done Nothing
+  command_done from (Refer written) = ok-done Nothing
+  command_done from (DefineFun name shapes output body) = behind _ _ _ macro-done
+  command_done from (DefineSort name names type) = behind _ _ _ macro-done
+  command_done from (Assert s) = behind _ _ _ (λ r. behind _ _ _ (λ v. ok-done _))
+  command_done from Exit = ok-done Nothing
+  command_done from Skip = ok-done Nothing

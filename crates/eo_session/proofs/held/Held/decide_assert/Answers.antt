@@ -1,0 +1,44 @@
+use Rattle.std.proofs.Common.{sym, ap, subst, ◌∙◌}
+use Rattle.eo_elab.specs.Fitting.{FitsTerms}
+use Rattle.eo_elab.specs.Worlds.{labels_in}
+use Rattle.eo_names.specs.Contexts.{InAssert}
+use Rattle.eo_term.specs.Growth.{tree_in}
+use Rattle.eo_session.specs.Asserting.{asserted_as, MayBeNames}
+use Rattle.eo_session.specs.Held.{state_of}
+use Rattle.eo_session.specs.State.{State, context_in}
+use Rattle.eo_session.proofs.Decided.{decides-refused, decides-same}
+use Rattle.eo_session.proofs.Used.{keeps_on}
+use Rattle.eo_session.proofs.Assertions.{assert-fault, assert-is}
+use Rattle.eo_session.proofs.Labels.{assertion_names}
+use Rattle.eo_session.proofs.held.Held.decide_assert.Goals as goal
+
+pub returns-in_err-id-clause-decides : goal.returns-in_err-id-clause-decides
+returns-in_err-id-clause-decides c =
+    decides-refused _ _ c.from_residual.result c.in_err-id.field-0.0 c.read_assertion.new.self c.from_residual.ensures.1 c.in_err-id.ensures.gives (assert-fault (state_of c.args.self.now) c.args.formula.now)
+
+pub decide_asserted-requires-clause-new : goal.decide_asserted-requires-clause-new
+decide_asserted-requires-clause-new c =
+    let st = state_of c.args.self.now in
+    let s = c.args.formula.now in
+    let mid = c.read_assertion.new.self in
+    let t = tree_in mid.table c.in_ok-id.id in
+    let labels = labels_in mid.table c.read_assertion.new.names in
+    let is = c.in_ok-id.ensures.gives.is in
+    let fits : FitsTerms (context_in st InAssert) = record { folds = c.requires.whole.held.terms.folds; macros = c.requires.whole.held.terms.macros } in
+    let closed = c.labels_law.ensures.labels (context_in st InAssert) s t labels fits is in
+    let free = c.labels_law.ensures.free (context_in st InAssert) s t labels fits is in
+    subst (λ (z : State). MayBeNames z labels) (sym c.in_ok-id.ensures.keeps.same) (assertion_names st labels free closed)
+
+pub returns-clause-decides : goal.returns-clause-decides
+returns-clause-decides c =
+    let st = state_of c.args.self.now in
+    let s = c.args.formula.now in
+    let mid = c.read_assertion.new.self in
+    let t = tree_in mid.table c.in_ok-id.id in
+    let labels = labels_in mid.table c.read_assertion.new.names in
+    decides-same c.decide_asserted.new.self c.decide_asserted.result _ _
+    (assert-is st s t labels c.in_ok-id.ensures.gives.is ∙ ap (λ (z : State). asserted_as z t labels) (sym c.in_ok-id.ensures.keeps.same))
+    c.decide_asserted.ensures.decides
+
+pub returns-clause-keeps : goal.returns-clause-keeps
+returns-clause-keeps c = keeps_on _ _ _ c.in_ok-id.ensures.keeps c.decide_asserted.ensures.keeps
