@@ -1,10 +1,8 @@
 -- A command that is accepted keeps what is declared and asserted, and may add to it.
 use Rattle.std.specs.Prelude.{◌≡◌, ℕ, Bool, true, false, if◌then◌else◌, List, [], ◌∷◌, ◌++◌, Some, None, Ok, refl}
 use Rattle.std.proofs.Common.{sym, subst, append-nil}
-use Rattle.eo_base.proofs.ChecksLemmas.{ok_injective, err_is_not_ok, bind_ok, require_then}
-use Rattle.eo_base.specs.Checks.{Checked, Passed, ◌>>=◌, no_fault}
-use Rattle.eo_base.specs.declared.FaultName.{FaultName}
-use Rattle.std.specs.Prelude.{Option}
+use Rattle.eo_base.proofs.ChecksLemmas.{ok_injective, bind_ok, require_then, no_fault_then}
+use Rattle.eo_base.specs.Checks.{Checked, ◌>>=◌}
 use Rattle.eo_declare.specs.Declarations.{declared_const, declared_fun, declared_sort, declared_parameterized, declared_literals, defined, defined_fun, defined_sort, declared_program, declared_rule, is_reference_name}
 use Rattle.eo_lit.specs.declared.LiteralClass.{LiteralClass}
 use Rattle.eo_names.specs.Contexts.{InReference}
@@ -48,11 +46,6 @@ adds_nothing st new s a = record {
   more = [];
   assertions = subst (λ (ts : List Tree). ts ≡ st.assertions ++ []) (sym a) (sym (append-nil st.assertions));
 }
-
-no_fault_then : {B : Type 0} (o : Option FaultName) (f : Passed → Checked B) (y : B) → (no_fault o >>= f) ≡ Ok y → (o ≡ None) × (f tt ≡ Ok y)
-unfolding no_fault ◌>>=◌
-no_fault_then None f y e = (refl, e)
-no_fault_then (Some fault) f y e = absurd (err_is_not_ok fault y e)
 
 by_test : (st new : State) (b : Bool) (x y : Checked State) → (x ≡ Ok new → Adds st new) → (y ≡ Ok new → Adds st new) → (if b then x else y) ≡ Ok new → Adds st new
 by_test st new true x y f g e = f e

@@ -7,9 +7,8 @@ use Rattle.std.proofs.lemmas.List.{append-nil}
 use Rattle.std.proofs.lemmas.List.Elements.{filter_map-append}
 use Rattle.std.proofs.lemmas.Option.{none-some, same_Some}
 use Rattle.eo_session.proofs.Adding.{fold_of}
-use Rattle.eo_base.proofs.ChecksLemmas.{ok_injective, err_is_not_ok, bind_ok, require_then}
-use Rattle.eo_base.specs.Checks.{Checked, Passed, ◌>>=◌, no_fault}
-use Rattle.eo_base.specs.declared.FaultName.{FaultName}
+use Rattle.eo_base.proofs.ChecksLemmas.{ok_injective, bind_ok, require_then, no_fault_then}
+use Rattle.eo_base.specs.Checks.{Checked, ◌>>=◌}
 use Rattle.eo_declare.specs.Declarations.{constant, plain_constant, sort_type, declared_const, declared_fun, declared_sort, defined, defined_fun, defined_sort, declared_program, declared_rule, is_reference_name}
 use Rattle.eo_elab.specs.Fitting.{FitsTerms, macro_is_bound, label_is_closed}
 use Rattle.eo_elab.specs.Meaning.{means}
@@ -31,11 +30,6 @@ use Rattle.eo_term.specs.Tree.{Tree, bool_tree, is_value}
 use Rattle.eo_type.specs.Types.{Typed, type_of}
 
 -- ---- what a declaration without fault is
-
-pub no_fault_then : {B : Type 0} (o : Option FaultName) (f : Passed → Checked B) (y : B) → (no_fault o >>= f) ≡ Ok y → (o ≡ None) × (f tt ≡ Ok y)
-unfolding no_fault ◌>>=◌
-no_fault_then None f y e = (refl, e)
-no_fault_then (Some fault) f y e = absurd (err_is_not_ok fault y e)
 
 plain_folds : (c : Context) (name : List ℕ) (type : Tree) (a : Attribute) (d : Constant) → plain_constant c name type a ≡ Ok d → may_fold d.attribute ≡ true
 plain_folds c name type a d e =
