@@ -1,4 +1,4 @@
-//! The work of `crates/intern_bench` in plain Rust, over std's `HashMap`. Run it with
+//! The work of `crates/bench_intern` in plain Rust, over std's `HashMap`. Run it with
 //! `cargo build --release` and `target/release/intern 1000000`.
 use std::collections::HashMap;
 use std::time::{Duration, Instant};

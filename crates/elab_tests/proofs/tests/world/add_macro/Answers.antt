@@ -1,5 +1,0 @@
-use Rattle.std.proofs.Common.{length}
-use Rattle.elab_tests.proofs.tests.world.add_macro.Goals as goal
-
-pub returns-in-Ok : goal.returns-in-Ok
-returns-in-Ok c = record { ready = c.in-Ok.ensures.below (length c.args.table.now.trees) c.requires.ready c.requires.below }

@@ -1,5 +1,0 @@
-use Rattle.std.proofs.Common.{◌<◌, ◌≤◌, length, All}
-use Rattle.intern_bench.proofs.pass.Given as goal
-
-abbrev pub invariant-loop-i : goal.invariant-loop-i
-invariant-loop-i l = record { more : length l.fn.table.trees ≤ length l.table.trees; live : All (λ j. j < length l.table.trees) l.leaves }
