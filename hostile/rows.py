@@ -123,6 +123,12 @@ HALVES = (
     "(program $w ((a Int)) :signature (Int) Bool ((($w a) ($c 0 a))))",
 )
 
+# A string that is doubled so often.
+DOUBLING = (
+    "(program $d ((s String) (n Int)) :signature (String Int) Bool ((($d s 0) true) "
+    "(($d s n) ($d (eo::concat s s) (eo::add n -1)))))"
+)
+
 # Macros of a negation, of ten, of a hundred, and so on to 100,000.
 NEGATIONS = ("(define d0 ((x Bool)) (not x))",) + tuple(
     f"(define d{k} ((x Bool)) {f'(d{k - 1} ' * 10}x{')' * 11}" for k in range(1, 6)
@@ -142,8 +148,8 @@ def refused(fault, *rows):
     return CHECK, {"r.smt2": FORMULAS, "p.eo": text}, (2, f"refused {fault} p.eo:{len(rows)}:{at}\n")
 
 
-def value(term):
-    return f"(step @s (= {term} true) :rule refl :args (true))"
+def value(term, name="@s"):
+    return f"(step {name} (= {term} true) :rule refl :args (true))"
 
 
 def lets(name, count):
@@ -192,9 +198,14 @@ LIMITS = {
         *HALVES, value("(eo::and ($w 1000000) ($c 0 1))")),
     "different calls, one more": refused(
         "F20 EvalCalls", *HALVES, value("(eo::and ($w 1000000) ($w 1))")),
+    "steps over long strings": accepted(
+        DOUBLING, *(value(f'($d "{k:04}" 14)', f"@s{k}") for k in range(1_000))),
     "scopes in scopes": open_scope(*(f"(assume-push @a{k} p)" for k in range(1_000))),
     "files in files": includes(16),
 }
+
+# Runs that take less than so many megabytes: what a step evaluates to is given back with the step.
+MEMORY = {"steps over long strings": 64}
 
 
 def run(words, **settings):
@@ -248,8 +259,12 @@ def at_limit(name, words, files, due):
     _, status, used = os.wait4(process.pid, 0)
     got = os.waitstatus_to_exitcode(status), line
     seconds = used.ru_utime + used.ru_stime
-    print(f"hostile: {name}: {seconds:.2f} s, {used.ru_maxrss / 1024:.0f} MB")
-    return 0 if got == due else differs(name, got, due)
+    memory = used.ru_maxrss / 1024
+    print(f"hostile: {name}: {seconds:.2f} s, {memory:.0f} MB")
+    wrong = 0 if got == due else differs(name, got, due)
+    if memory >= MEMORY.get(name, memory + 1):
+        wrong += differs(name, f"{memory:.0f} MB", f"less than {MEMORY[name]}")
+    return wrong
 
 
 wrong = sum(at_limit(name, *row) for name, row in LIMITS.items())

@@ -314,10 +314,10 @@ has_at f (j ∷ js) zero l = first (f j) (map f js) (f j) refl
 has_at f (j ∷ js) (suc i) l = contains_later (f j) (map f js) (f (get_or js i 0)) (has_at f js i (omega (arith, l)))
 
 -- behind the mark there are only subtrees of what was carried
-pub carried_only : (old : Terms) (n : ℕ) (is js : List ℕ) (new : Terms) → Carried old n is js new → All (Contains (flat_map subtrees (map (tree_in old) is))) (drop n new.trees)
-carried_only old n is js new c =
+pub carried_only : (old : Terms) (m : ℕ × ℕ) (is js : List ℕ) (new : Terms) → Carried old m is js new → All (Contains (flat_map subtrees (map (tree_in old) is))) (drop m.0 new.trees)
+carried_only old m is js new c =
     All-weaker (λ t. (i : ℕ) × (i < length is) × IsSubtree t (tree_at old.trees (get_or is i 0))) (Contains (flat_map subtrees (map (tree_in old) is)))
-    (λ t h. in_flat subtrees (map (tree_in old) is) (tree_in old (get_or is h.0 0)) t (has_at (tree_in old) is h.0 h.1) h.2) (drop n new.trees) c.needed
+    (λ t h. in_flat subtrees (map (tree_in old) is) (tree_in old (get_or is h.0 0)) t (has_at (tree_in old) is h.0 h.1) h.2) (drop m.0 new.trees) c.needed
 
 -- ---- the first
 

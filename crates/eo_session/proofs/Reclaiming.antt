@@ -40,7 +40,7 @@ use Rattle.eo_session.specs.State.{State, context, is_in_scope, is_asserted, wit
 use Rattle.eo_session.specs.Step.{label_macro, with_labels}
 use Rattle.eo_session.proofs.Counting.{first}
 use Rattle.eo_session.proofs.Rooted.{entry_stays, entry_comes_in, macros_stay_in, macros_come_in, fact_stays, fact_comes, scope_stays, scope_comes, assertion_stays, assertion_comes}
-use Rattle.eo_session.proofs.Alive.{front, grown_cut, grown_front, now, own_mark, kept_mark, kept_exact, live_table, all_alive, constants_there, live_alone, live_facts, live_begun, live_macros, named_outside, carried_only}
+use Rattle.eo_session.proofs.Alive.{grown_cut, now, own_mark, kept_mark, kept_exact, live_table, all_alive, constants_there, live_alone, live_facts, live_begun, live_macros, named_outside, carried_only}
 use Rattle.eo_session.proofs.Scoping.{map_grown, scopes_grown, below_more}
 
 -- ---- a table that is cut at the mark of what is kept, and has grown from there
@@ -128,28 +128,35 @@ module _ (h : Held) (whole : IsWhole h) (stays : (k : Kept) → StaysSince k) wh
     released_state = state_cut t t p base self
 
   -- what is carried stays behind the mark
-  module _ (t : Terms) (types : List (ℕ × ℕ)) (is js : List ℕ) (carried : Carried h.table n is js t) where
+  module _ (t : Terms) (types : List (ℕ × ℕ)) (is js : List ℕ) (carried : Carried h.table h.kept is js t) where
     within : n ≤ length t.trees
     within =
         let cut : length (take n t.trees) ≡ n = ap length carried.kept ∙ length-take-le n ts mark.terms in
         omega (arith, length-take n t.trees, cut)
 
-    next : Since (front n h.table) t
+    -- the table that is cut at the mark
+    abbrev cut_table : Terms
+    cut_table = record { trees = take n ts; texts = take h.kept.1 h.table.texts }
+
+    kept_grown : Since cut_table h.table
+    kept_grown = grown_cut cut_table h.table n h.kept.1 refl refl mark.terms mark.texts
+
+    next : Since cut_table t
     next =
-        grown_cut (front n h.table) t n (length t.texts) (sym carried.kept) (sym carried.texts ∙ sym (take-length t.texts)) within (omega arith)
+        let cut : length (take h.kept.1 t.texts) ≡ h.kept.1 = ap length carried.kept_texts ∙ length-take-le h.kept.1 h.table.texts mark.texts in
+        grown_cut cut_table t n h.kept.1 (sym carried.kept) (sym carried.kept_texts) within (omega (arith, length-take h.kept.1 t.texts, cut))
 
     pub carries : FitsCut n h.types types → Lasts types → length js ≡ length is → Carries h is js (record h { table = t; types = types })
     carries fits lasts long =
-        let base = grown_front n h.table mark.terms in
         record {
           leaves = record {
             whole = record {
-              held = held_cut (front n h.table) t refl base next types fits lasts;
-              live = live_table h whole.live t types (front_cut (front n h.table) t refl base next) (λ m a b k. carried.marks m a k);
+              held = held_cut cut_table t refl kept_grown next types fits lasts;
+              live = live_table h whole.live t types (front_cut cut_table t refl kept_grown next) carried.marks;
             };
-            same = state_cut (front n h.table) t refl base next;
+            same = state_cut cut_table t refl kept_grown next;
             signature = refl;
-            only = carried_only h.table n is js t carried;
+            only = carried_only h.table h.kept is js t carried;
           };
           trees =
               ext_get_or (Con 0) (map (tree_in t) js) (map (tree_in h.table) is) (length-map js (tree_in t) ∙ long ∙ sym (length-map is (tree_in h.table)))

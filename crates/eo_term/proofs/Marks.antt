@@ -90,7 +90,7 @@ module _ (es : List (Root × Info)) (xs : List (List ℕ)) (m : ℕ × ℕ) (h :
   abbrev ts : List Tree
   ts = trees_of xs es
 
-  below : (i : ℕ) (e : Root × Info) → slice_get es i ≡ Some e → i < m.0 → TextsBelow m.1 e.0.node
+  pub below : (i : ℕ) (e : Root × Info) → slice_get es i ≡ Some e → i < m.0 → TextsBelow m.1 e.0.node
   below i e p l =
       let at = h.entries i e p in
       let within : i < length (take m.0 ts) = omega (arith, length-take-le m.0 ts k.terms) in

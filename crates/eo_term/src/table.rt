@@ -15,13 +15,14 @@ ghost use Rattle.eo_term.specs.Refused.{IsTall};
 ghost use Rattle.eo_term.specs.Held.{Tells, IsOver, HasRoot, tree_over, Lacks, AreFirst};
 ghost use Rattle.eo_term.specs.Keys.{entries_of, IsKept};
 
+use crate::carry::Texts;
 use crate::id::number_of;
 use crate::node::Info;
 use crate::nodes::Nodes;
 use crate::{Id, Mark, Node, OpCode, ParamSet, TextId};
 use indexmap::IndexSet;
 use std::alloc::{AllocError, Global};
-use std::hash::{BuildHasherDefault, DefaultHasher};
+use std::hash::BuildHasherDefault;
 use std::marker::Model;
 
 mod low;
@@ -62,8 +63,7 @@ pub struct Table {
     alloc: Global,
     // A term's number is its place, so terms are dropped from the end at a cost of what is dropped.
     nodes: Nodes,
-    // A file chooses texts freely, so they are hashed by SipHash.
-    texts: IndexSet<Vec<u32>, BuildHasherDefault<DefaultHasher>>,
+    texts: Texts,
 }
 
 impl Model for Table {

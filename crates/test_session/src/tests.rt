@@ -142,6 +142,55 @@ fn digit(i: u16) -> u8 {
 }
 
 #[test]
+fn steps_over_long_strings_leave_nothing_behind(rt: HostRuntime) -> Result<(), Fail> {
+    all_right(&rt, rt.alloc(), with_long_strings)
+}
+
+// A program that doubles a string as often as it is told.
+const DOUBLING: &[Row<'static>] = &[
+    (b"(declare-const Int Type)", &Done(5)),
+    (b"(declare-consts <numeral> Int)", &Done(5)),
+    (b"(declare-const String Type)", &Done(6)),
+    (b"(declare-consts <string> String)", &Done(6)),
+    (
+        b"(program $d ((s String) (n Int)) :signature (String Int) Bool ((($d s 0) true) (($d s n) ($d (eo::concat s s) (eo::add n -1)))))",
+        &Done(13),
+    ),
+    (
+        b"(declare-rule holds ((s String) (n Int)) :args (s n) :conclusion ($d s n))",
+        &Done(14),
+    ),
+];
+
+// Steps of which each doubles a string of its own and keeps `true`.
+fn with_long_strings(run: &mut Run) -> Result<Option<usize>, Fail> {
+    let first = run.wrong(DOUBLING)?;
+    if first.is_some() {
+        return Ok(first);
+    }
+    for i in 0..1_000_u16 {
+        if !run.is_right(&doubling(i), Done(14))? {
+            return Ok(Some(i as usize));
+        }
+    }
+    Ok(None)
+}
+
+// The step over a string of four digits, with a name of them.
+fn doubling(i: u16) -> [u8; 46] {
+    let mut text = *b"(step @0000 true :rule holds :args (\"0000\" 5))";
+    text[7] = digit(i / 1000);
+    text[8] = digit(i / 100);
+    text[9] = digit(i / 10);
+    text[10] = digit(i);
+    text[37] = digit(i / 1000);
+    text[38] = digit(i / 100);
+    text[39] = digit(i / 10);
+    text[40] = digit(i);
+    text
+}
+
+#[test]
 fn a_shared_term_is_counted_once(rt: HostRuntime) -> Result<(), Fail> {
     all_right(&rt, rt.alloc(), with_shared_terms)
 }

@@ -192,6 +192,19 @@ fn carry_keeps_one_tree(rt: HostRuntime) -> Result<(), Fail> {
     Ok(())
 }
 
+// Of the texts that were made for it, a carried string leaves its own alone, as the first.
+fn own_text_is_kept(world: &mut World) -> Result<bool, Fail> {
+    let text = world.carried_text()?;
+    let own = world.is_text(text, &[98])?;
+    Ok(own & (text.place() == 0) & (world.texts() == 1) & (world.len() == 5))
+}
+
+#[test]
+fn carry_keeps_the_texts_in_use(rt: HostRuntime) -> Result<(), Fail> {
+    assert!(rt; holds(rt.alloc(), own_text_is_kept)?);
+    Ok(())
+}
+
 // A term is there before a release and no more behind it, and a number that is then made reads back.
 fn newer_terms_are_dropped(world: &mut World) -> Result<bool, Fail> {
     let counts = world.released()?;

@@ -5,7 +5,7 @@ ghost use Rattle.eo_term.specs.Carry.{Carried};
 ghost use Rattle.eo_term.specs.Growth.{GoesBack};
 
 use super::Table;
-use crate::carry::{kept_entries, move_ids, needed_entries, new_places, put_entries};
+use crate::carry::{cut_texts, move_ids, planned, put_entries};
 use crate::{Id, Mark};
 use std::alloc::AllocError;
 
@@ -24,18 +24,19 @@ impl Table {
     }
 
     /// Releases to the mark, but keeps the trees of some terms, whose numbers are replaced by new ones.
-    /// It costs what was made after the mark, and nothing where nothing was. `Err` is want of memory,
-    /// and all stays as it is.
+    /// Of the newer texts those stay that the trees use. It costs what was made after the mark, and
+    /// nothing where nothing was. `Err` is out of memory, and all stays as it is.
     #[tactic(auto, using(crate::proofs::Carried::nothing_carried))]
     pub fn carry_all(&mut self, mark: Mark, ids: &mut [Id]) -> Result<(), AllocError>
         requires mark { IsMark self.old mark }
         requires live { All (λ j. j < length self.old.trees) ids.old }
-        ensures ok { OnOk result (Carried self.old mark.0 ids.old ids.new self.new) }
+        ensures ok { OnOk result (Carried self.old mark ids.old ids.new self.new) }
         ensures err { OnErr result (self.new ≡ self.old) }
         ensures ids_err { OnErr result (ids.new ≡ ids.old) }
     {
         self.laws();
         if self.nodes.len() == mark.terms {
+            self.release(mark);
             return Ok(());
         }
         self.carry_newer(mark, ids)
@@ -45,33 +46,26 @@ impl Table {
     fn carry_newer(&mut self, mark: Mark, ids: &mut [Id]) -> Result<(), AllocError>
         requires mark { IsMark self.old mark }
         requires live { All (λ j. j < length self.old.trees) ids.old }
-        ensures ok { OnOk result (Carried self.old mark.0 ids.old ids.new self.new) }
+        ensures ok { OnOk result (Carried self.old mark ids.old ids.new self.new) }
         ensures err { OnErr result (self.new ≡ self.old) }
         ensures ids_err { OnErr result (ids.new ≡ ids.old) }
     {
-        let start = mark.terms;
-        let needed = needed_entries(self.alloc, &self.nodes, start, ids)?;
-        let places = new_places(self.alloc, start, needed.as_slice())?;
-        let kept = kept_entries(
-            self.alloc,
-            &self.nodes,
-            start,
-            needed.as_slice(),
-            places.as_slice(),
-        )?;
-        self.nodes.reserve(kept.len())?;
+        let (start, first) = (mark.terms, mark.texts);
+        let plan = planned(self.alloc, &self.nodes, self.texts.len(), start, first, ids)?;
+        self.nodes.reserve(plan.entries.len())?;
+        cut_texts(&mut self.texts, first, plan.texts.as_slice())?;
         self.nodes.cut(start);
-        put_entries(&mut self.nodes, kept);
-        move_ids(ids, start, places.as_slice());
+        put_entries(&mut self.nodes, plan.entries);
+        move_ids(ids, &plan.places);
         Ok(())
     }
 
-    /// Releases to the mark, but keeps the tree of one term, and answers its new number. `Err` is want
-    /// of memory, and the table stays as it is.
+    /// Releases to the mark, but keeps the tree of one term, and returns its new number. `Err` is out of
+    /// memory, and the table stays as it is.
     pub fn carry(&mut self, mark: Mark, id: Id) -> Result<Id, AllocError>
         requires mark { IsMark self.old mark }
         requires live { id < length self.old.trees }
-        ensures carried { IfOk result (λ i. Carried self.old mark.0 (id ∷ []) (i ∷ []) self.new) }
+        ensures carried { IfOk result (λ i. Carried self.old mark (id ∷ []) (i ∷ []) self.new) }
         ensures live { IfOk result (λ i. i < length self.new.trees) }
         ensures tree { IfOk result (λ i. tree_at self.new.trees i ≡ tree_at self.old.trees id) }
         ensures err { OnErr result (self.new ≡ self.old) }

@@ -132,6 +132,16 @@ impl World {
         Ok(carried(&mut self.table)?)
     }
 
+    /// How many texts there are.
+    pub(super) fn texts(&self) -> usize {
+        self.table.mark().texts()
+    }
+
+    /// The text of a string, carried back to before it was made, with a string that it does not need.
+    pub(super) fn carried_text(&mut self) -> Result<TextId, Fail> {
+        carried_text(&mut self.table)
+    }
+
     /// How many terms there are before and after a text's term is released.
     pub(super) fn released(&mut self) -> Result<(usize, usize), Fail> {
         Ok(released(&mut self.table)?)
@@ -215,6 +225,27 @@ fn carried(table: &mut Table) -> Result<Id, TermRefused> {
     let mark = table.mark();
     let whole = make_more(table, TRUE)?;
     Ok(table.carry(mark, whole)?)
+}
+
+// A string, after one that it does not need.
+fn make_strings(table: &mut Table) -> Result<Id, TermRefused>
+    ensures live { IfOk result (λ i. i < length table.new.trees) }
+    ensures grows { Grows table.old table.new }
+{
+    let waste = table.text(&[97])?;
+    table.intern(Node::Str(waste))?;
+    let text = table.text(&[98])?;
+    table.intern(Node::Str(text))
+}
+
+fn carried_text(table: &mut Table) -> Result<TextId, Fail> {
+    let mark = table.mark();
+    let string = make_strings(table)?;
+    let kept = table.carry(mark, string)?;
+    match table.node(kept) {
+        Node::Str(text) => Ok(text),
+        _ => Err(Fail::new("no string")),
+    }
 }
 
 fn released(table: &mut Table) -> Result<(usize, usize), TermRefused> {
