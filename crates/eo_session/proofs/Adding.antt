@@ -21,8 +21,10 @@ use Rattle.eo_session.specs.Held.{state_of}
 use Rattle.eo_sexp.specs.Sexp.{Sexp}
 use Rattle.eo_shape.specs.Shapes.{AttributeShape, ProgramShape}
 use Rattle.eo_session.specs.Origin.{Origin}
-use Rattle.eo_session.specs.State.{State, context, with_entry, with_macro}
-use Rattle.eo_session.specs.Step.{is_plain, repeats_constant, repeats_macro, type_value, added_constant, checked_constant, typed_constant, added_macro, is_in_proof, added_program, define_program}
+use Rattle.eo_session.specs.Decisions.{constant_effect, typed_effect, macro_effect, added_program_effect, program_effect}
+use Rattle.eo_session.specs.Effects.{Effect, Declares, Defines, Nothing}
+use Rattle.eo_session.specs.State.{State, context}
+use Rattle.eo_session.specs.Step.{is_plain, repeats_constant, repeats_macro, type_value, is_in_proof}
 use Rattle.std.proofs.lemmas.Bool.{and_parts}
 
 -- ---- checks
@@ -87,39 +89,37 @@ module _ (h : Held) (name bytes : List ℕ) (same : bytes ≡ name) (o : Option 
 -- ---- constants
 
 module _ (st : State) (d : Constant) where
-  abbrev by_reference : Bool → Checked State
+  abbrev by_reference : Bool → Checked Effect
   by_reference b =
-      if b then (require (repeats_constant st d (lookup st.signature st.macros d.name)) Redeclared >>= λ _. Ok st) else Ok (with_entry st (IsConstant d))
+      if b then (require (repeats_constant st d (lookup st.signature st.macros d.name)) Redeclared >>= λ _. Ok Nothing) else Ok (Declares (IsConstant d))
 
-  abbrev by_repeat : Bool → Checked State
-  by_repeat b = require b Redeclared >>= λ _. Ok st
+  abbrev by_repeat : Bool → Checked Effect
+  by_repeat b = require b Redeclared >>= λ _. Ok Nothing
 
-  abbrev by_value : Checked Tree → Checked State
-  by_value m = m >>= λ v. added_constant st (record d { type = v })
+  abbrev by_value : Checked Tree → Checked Effect
+  by_value m = m >>= λ v. constant_effect st (record d { type = v })
 
-  pub typed-fault : (name : FaultName) → type_value st d.type ≡ Err name → typed_constant st d ≡ Err name
-  unfolding typed_constant ◌>>=◌
+  pub typed-fault : (name : FaultName) → type_value st d.type ≡ Err name → typed_effect st d ≡ Err name
+  unfolding ◌>>=◌
   typed-fault name e = ap by_value e
 
-  pub typed-added : (v : Tree) → type_value st d.type ≡ Ok v → typed_constant st d ≡ added_constant st (record d { type = v })
-  unfolding typed_constant ◌>>=◌
+  pub typed-added : (v : Tree) → type_value st d.type ≡ Ok v → typed_effect st d ≡ constant_effect st (record d { type = v })
+  unfolding ◌>>=◌
   typed-added v e = ap by_value e
 
   module _ (may : MayRepeat (context st) d) where
-    pub added-new : lookup st.signature st.macros d.name ≡ None → added_constant st d ≡ checked_constant st d
-    unfolding added_constant
-    added-new e = ap by_reference (not_reference st d.name e) ∙ sym (no_fault-passes (constant_fault d) (λ _. Ok (with_entry st (IsConstant d))) may.sound)
+    pub added-new : lookup st.signature st.macros d.name ≡ None → constant_effect st d ≡ Ok (Declares (IsConstant d))
+    added-new e = ap by_reference (not_reference st d.name e)
 
     module _ (n : Named) (is : lookup st.signature st.macros d.name ≡ Some n) where
-      added-found : (b : Bool) → repeats_constant st d (Some n) ≡ b → added_constant st d ≡ by_repeat b
-      unfolding added_constant
+      added-found : (b : Bool) → repeats_constant st d (Some n) ≡ b → constant_effect st d ≡ by_repeat b
       added-found b h = ap by_reference (is_reference st d.name n is may.name) ∙ ap (λ o. by_repeat (repeats_constant st d o)) is ∙ ap by_repeat h
 
-      pub added-repeat : repeats_constant st d (Some n) ≡ true → added_constant st d ≡ Ok st
+      pub added-repeat : repeats_constant st d (Some n) ≡ true → constant_effect st d ≡ Ok Nothing
       unfolding require ◌>>=◌
       added-repeat h = added-found true h
 
-      pub added-redeclared : repeats_constant st d (Some n) ≡ false → added_constant st d ≡ Err Redeclared
+      pub added-redeclared : repeats_constant st d (Some n) ≡ false → constant_effect st d ≡ Err Redeclared
       unfolding require ◌>>=◌
       added-redeclared h = added-found false h
 
@@ -193,28 +193,26 @@ none-read f (x ∷ xs) e = absurd cc
 -- ---- macros
 
 module _ (st : State) (d : Macro) where
-  abbrev macro_by_reference : Bool → Checked State
+  abbrev macro_by_reference : Bool → Checked Effect
   macro_by_reference b =
-      if b then (require (repeats_macro st d (lookup st.signature st.macros d.name)) Redeclared >>= λ _. Ok st) else Ok (with_macro st d)
+      if b then (require (repeats_macro st d (lookup st.signature st.macros d.name)) Redeclared >>= λ _. Ok Nothing) else Ok (Defines d)
 
-  abbrev macro_by_repeat : Bool → Checked State
-  macro_by_repeat b = require b Redeclared >>= λ _. Ok st
+  abbrev macro_by_repeat : Bool → Checked Effect
+  macro_by_repeat b = require b Redeclared >>= λ _. Ok Nothing
 
-  pub macro-new : lookup st.signature st.macros d.name ≡ None → added_macro st d ≡ Ok (with_macro st d)
-  unfolding added_macro
+  pub macro-new : lookup st.signature st.macros d.name ≡ None → macro_effect st d ≡ Ok (Defines d)
   macro-new e = ap macro_by_reference (not_reference st d.name e)
 
   module _ (n : Named) (is : lookup st.signature st.macros d.name ≡ Some n) (may : is_free_or_reference (context st) d.name ≡ true) where
-    macro-found : (b : Bool) → repeats_macro st d (Some n) ≡ b → added_macro st d ≡ macro_by_repeat b
-    unfolding added_macro
+    macro-found : (b : Bool) → repeats_macro st d (Some n) ≡ b → macro_effect st d ≡ macro_by_repeat b
     macro-found b h =
         ap macro_by_reference (is_reference st d.name n is may) ∙ ap (λ o. macro_by_repeat (repeats_macro st d o)) is ∙ ap macro_by_repeat h
 
-    pub macro-repeat : repeats_macro st d (Some n) ≡ true → added_macro st d ≡ Ok st
+    pub macro-repeat : repeats_macro st d (Some n) ≡ true → macro_effect st d ≡ Ok Nothing
     unfolding require ◌>>=◌
     macro-repeat h = macro-found true h
 
-    pub macro-redeclared : repeats_macro st d (Some n) ≡ false → added_macro st d ≡ Err Redeclared
+    pub macro-redeclared : repeats_macro st d (Some n) ≡ false → macro_effect st d ≡ Err Redeclared
     unfolding require ◌>>=◌
     macro-redeclared h = macro-found false h
 
@@ -250,13 +248,13 @@ repeats_macro_found st d old k n r e at from count h =
 
 -- whether a program may be declared here, and then what it is
 module _ (st : State) (from : Origin) (shape : ProgramShape) where
-  abbrev by_origin : Bool → Checked State
-  by_origin b = require b ProofDeclares >>= λ _. added_program st shape
+  abbrev by_origin : Bool → Checked Effect
+  by_origin b = require b ProofDeclares >>= λ _. added_program_effect st shape
 
-  pub program-closed : not (st.closed && is_in_proof from) ≡ false → define_program st from shape ≡ Err ProofDeclares
-  unfolding define_program require ◌>>=◌
+  pub program-closed : not (st.closed && is_in_proof from) ≡ false → program_effect st from shape ≡ Err ProofDeclares
+  unfolding require ◌>>=◌
   program-closed e = ap by_origin e
 
-  pub program-open : not (st.closed && is_in_proof from) ≡ true → define_program st from shape ≡ added_program st shape
-  unfolding define_program require ◌>>=◌
+  pub program-open : not (st.closed && is_in_proof from) ≡ true → program_effect st from shape ≡ added_program_effect st shape
+  unfolding require ◌>>=◌
   program-open e = ap by_origin e

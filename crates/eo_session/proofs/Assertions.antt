@@ -16,33 +16,35 @@ use Rattle.eo_sexp.specs.Sexp.{Sexp}
 use Rattle.eo_term.specs.Growth.{tree_in, Grows}
 use Rattle.eo_term.specs.Terms.{Terms}
 use Rattle.eo_term.specs.Tree.{Tree}
-use Rattle.eo_session.specs.Asserting.{read_assertion, asserted_as, MayBeNames}
+use Rattle.eo_session.specs.Asserting.{read_assertion, MayBeNames}
+use Rattle.eo_session.specs.Decisions.{assert_effect, asserted_effect}
+use Rattle.eo_session.specs.Effects.{Effect, Asserts}
 use Rattle.eo_session.specs.State.{State, context_in, is_asserted, with_macro, with_assertion}
-use Rattle.eo_session.specs.Step.{formula_of, label_macro, with_labels, assert}
+use Rattle.eo_session.specs.Step.{formula_of, label_macro, with_labels}
 
 -- ---- an assertion by its parts
 
 module _ (st : State) (s : Sexp) where
-  abbrev as_read : Tree × List Label → Checked State
-  as_read r = asserted_as st r.0 r.1
+  abbrev as_read : Tree × List Label → Checked Effect
+  as_read r = asserted_effect st r.0 r.1
 
-  pub assert-fault : (name : FaultName) → read_assertion st s ≡ Err name → assert st s ≡ Err name
-  unfolding assert ◌>>=◌
+  pub assert-fault : (name : FaultName) → read_assertion st s ≡ Err name → assert_effect st s ≡ Err name
+  unfolding ◌>>=◌
   assert-fault name e = ap (λ m. m >>= as_read) e
 
-  pub assert-is : (t : Tree) (labels : List Label) → read_assertion st s ≡ Ok (t, labels) → assert st s ≡ asserted_as st t labels
-  unfolding assert ◌>>=◌
+  pub assert-is : (t : Tree) (labels : List Label) → read_assertion st s ≡ Ok (t, labels) → assert_effect st s ≡ asserted_effect st t labels
+  unfolding ◌>>=◌
   assert-is t labels e = ap (λ m. m >>= as_read) e
 
 module _ (st : State) (t : Tree) (labels : List Label) where
-  abbrev with_value : Tree → Checked State
-  with_value v = Ok (with_labels (with_assertion st v) labels)
+  abbrev with_value : Tree → Checked Effect
+  with_value v = Ok (Asserts v labels)
 
-  pub asserted-fault : (name : FaultName) → formula_of st t ≡ Err name → asserted_as st t labels ≡ Err name
+  pub asserted-fault : (name : FaultName) → formula_of st t ≡ Err name → asserted_effect st t labels ≡ Err name
   unfolding ◌>>=◌
   asserted-fault name e = ap (λ m. m >>= with_value) e
 
-  pub asserted-is : (v : Tree) → formula_of st t ≡ Ok v → asserted_as st t labels ≡ Ok (with_labels (with_assertion st v) labels)
+  pub asserted-is : (v : Tree) → formula_of st t ≡ Ok v → asserted_effect st t labels ≡ Ok (Asserts v labels)
   unfolding ◌>>=◌
   asserted-is v e = ap (λ m. m >>= with_value) e
 

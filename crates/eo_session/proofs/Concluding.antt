@@ -14,47 +14,45 @@ use Rattle.eo_shape.specs.Shapes.{RuleShape, StepShape}
 use Rattle.eo_sig.specs.Signature.{Rule, rule_named, rule_at}
 use Rattle.eo_term.specs.Tree.{Tree}
 use Rattle.eo_session.specs.Origin.{Origin}
-use Rattle.eo_session.specs.State.{State, without_scope}
-use Rattle.eo_session.specs.Step.{Concluded, is_free_fact, is_free_outer_fact, is_sorry, with_conclusion, value, values, optional_value, premises, use_of, concluded_by, concluded, step_plain, step_pop, is_in_proof, added_rule, declare_rule}
-use Rattle.eo_session.specs.Using.{concluded_from, conclusion_outside}
+use Rattle.eo_session.specs.Decisions.{outside_effect, pop_effect, added_rule_effect, rule_effect}
+use Rattle.eo_session.specs.Effects.{Effect, Adds}
+use Rattle.eo_session.specs.State.{State}
+use Rattle.eo_session.specs.Step.{Concluded, is_free_outer_fact, is_sorry, value, values, optional_value, premises, use_of, concluded_by, concluded, is_in_proof}
+use Rattle.eo_session.specs.Using.{concluded_from}
 
 -- ---- steps
 
 module _ (st : State) (s : StepShape) where
-  pub step-is : step_plain st s ≡ (require (is_free_fact st s.name) Redeclared >>= λ _. concluded st None s >>= λ k. Ok (with_conclusion st s.name k))
-  unfolding step_plain
-  step-is = refl
+  abbrev with_outer_name : Tree → Bool → Checked Effect
+  with_outer_name a b = require b Redeclared >>= λ _. outside_effect st a s
 
-  abbrev with_outer_name : Tree → Bool → Checked State
-  with_outer_name a b = require b Redeclared >>= λ _. conclusion_outside st a s
-
-  abbrev with_assumption : Option Tree → Checked State
+  abbrev with_assumption : Option Tree → Checked Effect
   with_assumption o = value_or NoScope o >>= λ a. with_outer_name a (is_free_outer_fact st s.name)
 
-  pub pop-none : innermost_hypothesis st.scopes ≡ None → step_pop st s ≡ Err NoScope
-  unfolding step_pop ◌>>=◌ value_or
+  pub pop-none : innermost_hypothesis st.scopes ≡ None → pop_effect st s ≡ Err NoScope
+  unfolding ◌>>=◌ value_or
   pop-none e = ap with_assumption e
 
   module _ (a : Tree) (e : innermost_hypothesis st.scopes ≡ Some a) where
-    pub pop-redeclared : is_free_outer_fact st s.name ≡ false → step_pop st s ≡ Err Redeclared
-    unfolding step_pop ◌>>=◌ value_or require
+    pub pop-redeclared : is_free_outer_fact st s.name ≡ false → pop_effect st s ≡ Err Redeclared
+    unfolding ◌>>=◌ value_or require
     pop-redeclared h = ap with_assumption e ∙ ap (with_outer_name a) h
 
-    pub pop-free : is_free_outer_fact st s.name ≡ true → step_pop st s ≡ conclusion_outside st a s
-    unfolding step_pop ◌>>=◌ value_or require
+    pub pop-free : is_free_outer_fact st s.name ≡ true → pop_effect st s ≡ outside_effect st a s
+    unfolding ◌>>=◌ value_or require
     pop-free h = ap with_assumption e ∙ ap (with_outer_name a) h
 
 -- ---- what is concluded
 
 module _ (st : State) (s : StepShape) where
   module _ (a : Tree) where
-    pub outside-fault : (name : FaultName) → concluded st (Some a) s ≡ Err name → conclusion_outside st a s ≡ Err name
+    pub outside-fault : (name : FaultName) → concluded st (Some a) s ≡ Err name → outside_effect st a s ≡ Err name
     unfolding ◌>>=◌
-    outside-fault name e = ap (λ m. m >>= λ k. Ok (with_conclusion (without_scope st) s.name k)) e
+    outside-fault name e = ap (λ m. m >>= λ k. Ok (Adds s.name k true)) e
 
-    pub outside-ok : (k : Concluded) → concluded st (Some a) s ≡ Ok k → conclusion_outside st a s ≡ Ok (with_conclusion (without_scope st) s.name k)
+    pub outside-ok : (k : Concluded) → concluded st (Some a) s ≡ Ok k → outside_effect st a s ≡ Ok (Adds s.name k true)
     unfolding ◌>>=◌
-    outside-ok k e = ap (λ m. m >>= λ k. Ok (with_conclusion (without_scope st) s.name k)) e
+    outside-ok k e = ap (λ m. m >>= λ k. Ok (Adds s.name k true)) e
 
 module _ (st : State) (assumed : Option Tree) (s : StepShape) where
   abbrev by_number : Option ℕ → Checked Concluded
@@ -180,13 +178,13 @@ module _ (st : State) (s : Sexp) where
 
 -- whether a rule may be declared here, and then what it is
 module _ (st : State) (from : Origin) (shape : RuleShape) where
-  abbrev by_origin : Bool → Checked State
-  by_origin b = require b ProofDeclares >>= λ _. added_rule st shape
+  abbrev by_origin : Bool → Checked Effect
+  by_origin b = require b ProofDeclares >>= λ _. added_rule_effect st shape
 
-  pub rule-closed : not (st.closed && is_in_proof from) ≡ false → declare_rule st from shape ≡ Err ProofDeclares
-  unfolding declare_rule require ◌>>=◌
+  pub rule-closed : not (st.closed && is_in_proof from) ≡ false → rule_effect st from shape ≡ Err ProofDeclares
+  unfolding require ◌>>=◌
   rule-closed e = ap by_origin e
 
-  pub rule-open : not (st.closed && is_in_proof from) ≡ true → declare_rule st from shape ≡ added_rule st shape
-  unfolding declare_rule require ◌>>=◌
+  pub rule-open : not (st.closed && is_in_proof from) ≡ true → rule_effect st from shape ≡ added_rule_effect st shape
+  unfolding require ◌>>=◌
   rule-open e = ap by_origin e

@@ -8,7 +8,8 @@ use Rattle.eo_sexp.specs.Sexp.{Sexp}
 use Rattle.eo_shape.specs.Shapes.{StepShape, Command, DeclareConst, DeclareFun, DeclareSort, DeclareParameterized, DeclareLiterals, Define, DefineProgram, DeclareRule, Assume, AssumePush, Step, StepPop, Include, Refer, DefineFun, DefineSort, Assert, Exit, Skip}
 use Rattle.eo_term.specs.Tree.{Tree}
 use Rattle.eo_session.specs.State.{State, with_fact, is_asserted}
-use Rattle.eo_session.specs.Step.{Concluded, is_free_fact, assume, step_plain, concluded, with_conclusion}
+use Rattle.eo_session.specs.Step.{Concluded, is_free_fact, concluded}
+use Rattle.eo_session.specs.Decisions.{assume_effect, assumed_fact, step_effect}
 use Rattle.eo_session.specs.Effects.{Effect, Declares, Asserts, Defines, Opens, Adds, Nothing, after}
 use Rattle.eo_session.specs.Using.{asserted_formula}
 use Rattle.std.specs.Prelude.{Option, Some, Result}
@@ -21,12 +22,9 @@ use Rattle.eo_names.specs.Refused.{told as elab_told}
 use Rattle.eo_names.specs.declared.refused.ElabRefused.{ElabRefused}
 use Rattle.std.specs.Result.{IsErrAnd}
 use Rattle.eo_base.proofs.Answering.{at_exit}
-use Rattle.eo_session.specs.Commands.{path_of, reference_path, next_by, scoped_command, placed_command}
-use Rattle.eo_session.specs.Origin.{Origin}
-use Rattle.eo_session.specs.declared.Next.{Next}
+use Rattle.eo_session.specs.Commands.{path_of, reference_path, next_by}
 use Rattle.eo_session.specs.declared.Next.TheVariants as next
-use Rattle.eo_session.specs.Deciding.{Decides, MayCommit, read_effect}
-use Rattle.eo_session.specs.Held.{state_of, Keeps}
+use Rattle.eo_session.specs.Deciding.{Decides}
 use Rattle.eo_session.specs.Stepping.{Refuses, of_elab, of_sig}
 use Rattle.eo_session.specs.declared.effects.Effect as code
 use Rattle.eo_session.specs.declared.held.Held.{Held}
@@ -34,9 +32,8 @@ use Rattle.eo_session.specs.declared.refused.Refused.{Refused}
 use Rattle.eo_sig.specs.Adding.{entry_fault}
 use Rattle.eo_sig.specs.Signature.{Signature, SignatureEntry, IsConstant, IsProgram, IsRule, IsLiteralType}
 use Rattle.eo_session.proofs.Adding.{fold_of}
-use Rattle.eo_session.proofs.Concluding.{step-is}
 use Rattle.eo_session.proofs.Fitting.{MayFold}
-use Rattle.eo_session.proofs.Sessions.{assume-is, refuses_on, refuses_elab, placed-stops, placed-ok}
+use Rattle.eo_session.proofs.Sessions.{refuses_on, refuses_elab}
 
 -- ---- checks
 
@@ -60,12 +57,8 @@ module _ {A B : Type 0} (m : Checked A) (f : A → B) where
 
 -- ---- what is answered
 
--- an effect that may be committed, where the state is what it was
-pub decides-given : (old new : Held) → Keeps old new → (m : Checked State) (e : code.Effect) → MayCommit new e → m ≡ Ok (after (state_of old) (read_effect new.table e)) → Decides new (Ok e) m
-decides-given old new keeps m e may is = record { live = may; is = is ∙ ap (λ (st : State). Ok (after st (read_effect new.table e))) (sym keeps.same) }
-
 -- what refuses a part refuses the whole
-pub decides-refused : {B : Type 0} (part : Checked B) (m : Checked State) (r : Result code.Effect Refused) (x : Refused) (new : Held) → IsErrAnd r (λ y. y ≡ x) → Refuses part x → ((name : FaultName) → part ≡ Err name → m ≡ Err name) → Decides new r m
+pub decides-refused : {B : Type 0} (part : Checked B) (m : Checked Effect) (r : Result code.Effect Refused) (x : Refused) (new : Held) → IsErrAnd r (λ y. y ≡ x) → Refuses part x → ((name : FaultName) → part ≡ Err name → m ≡ Err name) → Decides new r m
 decides-refused part m r x new e given f = at_exit (λ (r : Result code.Effect Refused). Decides new r m) r x e (refuses_on part m x given f)
 
 -- ---- facts
@@ -75,47 +68,49 @@ or_false true = refl
 or_false false = refl
 
 -- a formula that is assumed is a fact of no rule
-pub assumed_after : (st : State) (name : List ℕ) (v : Tree) → with_fact st name v ≡ after st (Adds name (record { formula = v; sorry = false }) false)
+pub assumed_after : (st : State) (name : List ℕ) (v : Tree) → with_fact st name v ≡ after st (assumed_fact name v)
 assumed_after st name v = (λ i. record (with_fact st name v) { sorry = sym (or_false st.sorry) i })
 
 module _ (st : State) (name : List ℕ) (s : Sexp) where
-  pub assume-taken : is_free_fact st name ≡ false → assume st name s ≡ Err Redeclared
-  assume-taken e = assume-is st name s ∙ require-fails _ Redeclared _ e
+  pub assume-taken : is_free_fact st name ≡ false → assume_effect st name s ≡ Err Redeclared
+  assume-taken e = require-fails _ Redeclared _ e
 
   module _ (free : is_free_fact st name ≡ true) where
-    pub assume-fault : (fault : FaultName) → asserted_formula st s ≡ Err fault → assume st name s ≡ Err fault
-    assume-fault fault e = assume-is st name s ∙ require-passes _ Redeclared _ free ∙ then-fault (asserted_formula st s) (with_fact st name) fault e
+    pub assume-fault : (fault : FaultName) → asserted_formula st s ≡ Err fault → assume_effect st name s ≡ Err fault
+    assume-fault fault e = require-passes _ Redeclared _ free ∙ then-fault (asserted_formula st s) (assumed_fact name) fault e
 
-    pub assume-ok : (v : Tree) → asserted_formula st s ≡ Ok v → assume st name s ≡ Ok (after st (Adds name (record { formula = v; sorry = false }) false))
-    assume-ok v e =
-        assume-is st name s ∙ require-passes _ Redeclared _ free ∙ then-ok (asserted_formula st s) (with_fact st name) v e ∙ ap Ok (assumed_after st name v)
+    pub assume-ok : (v : Tree) → asserted_formula st s ≡ Ok v → assume_effect st name s ≡ Ok (assumed_fact name v)
+    assume-ok v e = require-passes _ Redeclared _ free ∙ then-ok (asserted_formula st s) (assumed_fact name) v e
 
 module _ (st : State) (s : StepShape) where
-  pub step-taken : is_free_fact st s.name ≡ false → step_plain st s ≡ Err Redeclared
-  step-taken e = step-is st s ∙ require-fails _ Redeclared _ e
+  abbrev step_fact : Concluded → Effect
+  step_fact k = Adds s.name k false
+
+  pub step-taken : is_free_fact st s.name ≡ false → step_effect st s ≡ Err Redeclared
+  step-taken e = require-fails _ Redeclared _ e
 
   module _ (free : is_free_fact st s.name ≡ true) where
-    pub step-fault : (fault : FaultName) → concluded st None s ≡ Err fault → step_plain st s ≡ Err fault
-    step-fault fault e = step-is st s ∙ require-passes _ Redeclared _ free ∙ then-fault (concluded st None s) (with_conclusion st s.name) fault e
+    pub step-fault : (fault : FaultName) → concluded st None s ≡ Err fault → step_effect st s ≡ Err fault
+    step-fault fault e = require-passes _ Redeclared _ free ∙ then-fault (concluded st None s) step_fact fault e
 
-    pub step-ok : (k : Concluded) → concluded st None s ≡ Ok k → step_plain st s ≡ Ok (after st (Adds s.name k false))
-    step-ok k e = step-is st s ∙ require-passes _ Redeclared _ free ∙ then-ok (concluded st None s) (with_conclusion st s.name) k e
+    pub step-ok : (k : Concluded) → concluded st None s ≡ Ok k → step_effect st s ≡ Ok (Adds s.name k false)
+    step-ok k e = require-passes _ Redeclared _ free ∙ then-ok (concluded st None s) step_fact k e
 
 -- ---- declarations
 
-module _ {A : Type 0} (m : Checked A) (f : State → A → Checked State) (st : State) (new : Held) where
+module _ {A : Type 0} (m : Checked A) (f : State → A → Checked Effect) (st : State) (new : Held) where
   -- a declaration that is refused refuses the command
   pub declared-refuses : (r : Result code.Effect Refused) (x : ElabRefused) → IsErrAnd r (λ e. e ≡ of_elab x) → Tells elab_told x m → Decides new r (m >>= f st)
   declared-refuses r x e h = decides-refused m (m >>= f st) r (of_elab x) new e (refuses_elab m x h) (bind_fails m (f st))
 
   -- what is declared is decided in a state that is the same
   pub declared-decides : (r : Result code.Effect Refused) (mid : State) (d : A) → mid ≡ st → m ≡ Ok d → Decides new r (f mid d) → Decides new r (m >>= f st)
-  declared-decides r mid d same e h = subst (λ (m : Checked State). Decides new r m) (sym (bind_step m (f st) d e ∙ ap (λ (z : State). f z d) (sym same))) h
+  declared-decides r mid d same e h = subst (λ (m : Checked Effect). Decides new r m) (sym (bind_step m (f st) d e ∙ ap (λ (z : State). f z d) (sym same))) h
 
 -- ---- what is done next
 
 -- an effect leaves whether there is a reference file
-reference-stays : (st : State) (e : Effect) → (after st e).has_reference ≡ st.has_reference
+pub reference-stays : (st : State) (e : Effect) → (after st e).has_reference ≡ st.has_reference
 reference-stays st (Declares entry) = refl
 reference-stays st (Defines m) = refl
 reference-stays st (Asserts t names) = by (is_asserted st t)
@@ -129,7 +124,7 @@ reference-stays st (Adds name k false) = refl
 reference-stays st Nothing = refl
 
 -- and that is all that counts for what is done next
-next-same : (a b : State) (k : Command) → a.has_reference ≡ b.has_reference → next_by a k ≡ next_by b k
+pub next-same : (a b : State) (k : Command) → a.has_reference ≡ b.has_reference → next_by a k ≡ next_by b k
 unfolding next_by reference_path
 next-same a b (DeclareConst name type shape) e = refl
 next-same a b (DeclareFun name inputs output) e = refl
@@ -151,20 +146,10 @@ next-same a b (Assert s) e = refl
 next-same a b Exit e = refl
 next-same a b Skip e = refl
 
-module _ (st : State) (from : Origin) (k : Command) (old : State) (e : Effect) (is : scoped_command st from k ≡ Ok (after old e)) where
-  next-is : next_by (after old e) k ≡ next_by old k
-  next-is = next-same (after old e) old k (reference-stays old e)
-
-  pub next-stops : (name : FaultName) → next_by old k ≡ Err name → placed_command st from k ≡ Err name
-  next-stops name h = placed-stops st from k (after old e) is name (next-is ∙ h)
-
-  pub next-decided : (what : Next) → next_by old k ≡ Ok what → placed_command st from k ≡ Ok (after old e, what)
-  next-decided what h = placed-ok st from k (after old e) is what (next-is ∙ h)
-
 -- ---- declarations that are checked
 
 -- a fault of a declaration is that of the whole
-pub entry-refused : (m : Checked State) (fault : Option FaultName) (s : Result (Unit {0}) SigRefused) (x : SigRefused) (r : Result code.Effect Refused) (new : Held) → SigTells s fault → s ≡ Err x → IsErrAnd r (λ e. e ≡ of_sig x) → ((name : FaultName) → fault ≡ Some name → m ≡ Err name) → Decides new r m
+pub entry-refused : (m : Checked Effect) (fault : Option FaultName) (s : Result (Unit {0}) SigRefused) (x : SigRefused) (r : Result code.Effect Refused) (new : Held) → SigTells s fault → s ≡ Err x → IsErrAnd r (λ e. e ≡ of_sig x) → ((name : FaultName) → fault ≡ Some name → m ≡ Err name) → Decides new r m
 entry-refused m fault s x r new t is e h = at_exit (λ (r : Result code.Effect Refused). Decides new r m) r (of_sig x) e (by x (subst (λ (s : Result (Unit {0}) SigRefused). SigTells s fault) is t))
   where
     by : (x : SigRefused) → SigTells {X = Unit {0}} (Err x) fault → Refuses m (of_sig x)
@@ -178,8 +163,8 @@ pub entry-sound : (fault : Option FaultName) (s : Result (Unit {0}) SigRefused) 
 entry-sound fault s x t is = subst (λ (s : Result (Unit {0}) SigRefused). SigTells s fault) is t
 
 -- a decision in the same state, over an equal definition
-pub decides-same : (new : Held) (r : Result code.Effect Refused) (m n : Checked State) → m ≡ n → Decides new r n → Decides new r m
-decides-same new r m n e h = subst (λ (m : Checked State). Decides new r m) (sym e) h
+pub decides-same : (new : Held) (r : Result code.Effect Refused) (m n : Checked Effect) → m ≡ n → Decides new r n → Decides new r m
+decides-same new r m n e h = subst (λ (m : Checked Effect). Decides new r m) (sym e) h
 
 -- an entry without a fault may fold
 pub fold_of_entry : (S : Signature) (e : SignatureEntry) → entry_fault S e ≡ None → MayFold e

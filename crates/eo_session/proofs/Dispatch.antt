@@ -12,7 +12,8 @@ use Rattle.eo_shape.specs.declared.ShapeRefused.{ShapeRefused}
 use Rattle.eo_shape.specs.declared.ShapeRefused.TheVariants as shape
 use Rattle.eo_session.specs.State.{State, is_in_scope}
 use Rattle.eo_session.specs.Step.{is_in_reference}
-use Rattle.eo_session.specs.Commands.{may_be_in_scope, scoped_command, placed_command, uncounted}
+use Rattle.eo_session.specs.Commands.{may_be_in_scope, placed_command, uncounted}
+use Rattle.eo_session.specs.Decisions.{scoped_decision}
 use Rattle.eo_session.specs.Stepping.{Refuses, DoesNext, Standing, StepsTo}
 use Rattle.eo_session.specs.declared.Next.{Next}
 use Rattle.eo_session.specs.declared.held.Held.{Held}
@@ -35,7 +36,7 @@ module _ (st : State) (from : Origin) (s : Sexp) (b : Bool) (e : b ≡ is_in_ref
   pub does-command : (k : Command) → command_of b s ≡ Ok k → DoesNext r (placed_command st from k) new → DoesNext r (uncounted st from s) new
   does-command k h d = subst (λ (m : Checked (State × Next)). DoesNext r m new) (sym (shape-ok st from s b e k h)) d
 
-pub does-in_scope : (st : State) (from : Origin) (k : Command) (b : Bool) → b ≡ (not (is_in_scope st) || may_be_in_scope k) → b ≡ false → Refuses (scoped_command st from k) (refused.Fault InScope)
+pub does-in_scope : (st : State) (from : Origin) (k : Command) (b : Bool) → b ≡ (not (is_in_scope st) || may_be_in_scope k) → b ≡ false → Refuses (scoped_decision st from k) (refused.Fault InScope)
 does-in_scope st from k b e h = (scope-fault st from k (sym e ∙ h), λ q. absurd cc)
 
 -- ---- what ends a session

@@ -26,9 +26,11 @@ use Rattle.eo_session.specs.Stepping.{of_elab, Refuses, GivesTerm}
 use Rattle.std.proofs.lemmas.Bool.Decides.{nat_tests}
 use Rattle.eo_session.specs.Using.{asserted_formula}
 use Rattle.eo_proof.specs.Scopes.{depth, has_false, scope_limit}
-use Rattle.eo_session.specs.State.{State, context, with_fact, with_scope, with_command, is_asserted, is_in_scope, begin_reference, end_fault}
-use Rattle.eo_session.specs.Step.{is_in_reference, is_free_fact, evaluated, value, typed, type_value, formula_of, formula, assume, assume_push}
-use Rattle.eo_session.specs.Commands.{by_command, may_be_in_scope, next_by, scoped_command, placed_command, uncounted, step}
+use Rattle.eo_session.specs.Decisions.{push_effect, decided, scoped_decision, placed_decision}
+use Rattle.eo_session.specs.Effects.{Effect, Opens}
+use Rattle.eo_session.specs.State.{State, context, with_fact, with_command, is_asserted, is_in_scope, begin_reference, end_fault}
+use Rattle.eo_session.specs.Step.{is_in_reference, is_free_fact, evaluated, value, typed, type_value, formula_of, formula, assume}
+use Rattle.eo_session.specs.Commands.{may_be_in_scope, next_by, placed_command, uncounted, step}
 use Rattle.eo_session.specs.Origin.{Origin}
 use Rattle.eo_session.specs.declared.Next.{Next}
 
@@ -186,31 +188,31 @@ pub is_less : (n m : ℕ) → nat_lt n m ≡ true → n < m
 is_less n m e = grind (arith, nat_tests, e)
 
 module _ (st : State) (name : List ℕ) (s : Sexp) where
-  abbrev pushed : Checked Tree → Checked State
-  pushed m = m >>= λ v. Ok (with_scope st name v)
+  abbrev pushed : Checked Tree → Checked Effect
+  pushed m = m >>= λ v. Ok (Opens name v)
 
-  abbrev push_free : Bool → Checked State
+  abbrev push_free : Bool → Checked Effect
   push_free b = require b Redeclared >>= λ _. pushed (formula st s)
 
-  abbrev push_few : Bool → Checked State
+  abbrev push_few : Bool → Checked Effect
   push_few b = require b ScopeDepth >>= λ _. push_free (is_free_fact st name)
 
-  pub push-deep : nat_lt (depth st.scopes) scope_limit ≡ false → assume_push st name s ≡ Err ScopeDepth
-  unfolding assume_push ◌>>=◌ require
+  pub push-deep : nat_lt (depth st.scopes) scope_limit ≡ false → push_effect st name s ≡ Err ScopeDepth
+  unfolding ◌>>=◌ require
   push-deep e = ap push_few e
 
   module _ (few : nat_lt (depth st.scopes) scope_limit ≡ true) where
-    pub push-redeclared : is_free_fact st name ≡ false → assume_push st name s ≡ Err Redeclared
-    unfolding assume_push ◌>>=◌ require
+    pub push-redeclared : is_free_fact st name ≡ false → push_effect st name s ≡ Err Redeclared
+    unfolding ◌>>=◌ require
     push-redeclared e = ap push_few few ∙ ap push_free e
 
     module _ (free : is_free_fact st name ≡ true) where
-      pub push-fault : (fault : FaultName) → formula st s ≡ Err fault → assume_push st name s ≡ Err fault
-      unfolding assume_push ◌>>=◌ require
+      pub push-fault : (fault : FaultName) → formula st s ≡ Err fault → push_effect st name s ≡ Err fault
+      unfolding ◌>>=◌ require
       push-fault fault h = ap push_few few ∙ ap push_free free ∙ ap pushed h
 
-      pub push-ok : (v : Tree) → formula st s ≡ Ok v → assume_push st name s ≡ Ok (with_scope st name v)
-      unfolding assume_push ◌>>=◌ require
+      pub push-ok : (v : Tree) → formula st s ≡ Ok v → push_effect st name s ≡ Ok (Opens name v)
+      unfolding ◌>>=◌ require
       push-ok v h = ap push_few few ∙ ap push_free free ∙ ap pushed h
 
 -- ---- each command
@@ -232,36 +234,40 @@ module _ (st : State) (from : Origin) (s : Sexp) (b : Bool) (e : b ≡ is_in_ref
   shape-ok k h = shaped (Ok k) h
 
 module _ (st : State) (from : Origin) (k : Command) where
-  abbrev by_place : Bool → Checked State
-  by_place b = require b InScope >>= λ _. by_command st from k
+  abbrev by_place : Bool → Checked Effect
+  by_place b = require b InScope >>= λ _. decided st from k
 
-  pub scope-fault : (not (is_in_scope st) || may_be_in_scope k) ≡ false → scoped_command st from k ≡ Err InScope
-  unfolding scoped_command require ◌>>=◌
+  pub scope-fault : (not (is_in_scope st) || may_be_in_scope k) ≡ false → scoped_decision st from k ≡ Err InScope
+  unfolding scoped_decision require ◌>>=◌
   scope-fault e = ap by_place e
 
-  pub scope-ok : (not (is_in_scope st) || may_be_in_scope k) ≡ true → scoped_command st from k ≡ by_command st from k
-  unfolding scoped_command require ◌>>=◌
+  pub scope-ok : (not (is_in_scope st) || may_be_in_scope k) ≡ true → scoped_decision st from k ≡ decided st from k
+  unfolding scoped_decision require ◌>>=◌
   scope-ok e = ap by_place e
 
 module _ (st : State) (from : Origin) (k : Command) where
-  abbrev by_next : State → Checked Next → Checked (State × Next)
-  by_next new m = m >>= λ what. Ok (new, what)
+  abbrev by_next : Effect → Checked Next → Checked (Effect × Next)
+  by_next e m = m >>= λ what. Ok (e, what)
 
-  abbrev by_state : Checked State → Checked (State × Next)
-  by_state m = m >>= λ new. by_next new (next_by new k)
+  abbrev by_effect : Checked Effect → Checked (Effect × Next)
+  by_effect m = m >>= λ e. by_next e (next_by st k)
 
-  pub placed-fault : (name : FaultName) → scoped_command st from k ≡ Err name → placed_command st from k ≡ Err name
-  unfolding placed_command ◌>>=◌
-  placed-fault name e = ap by_state e
+  pub placed-fault : (name : FaultName) → scoped_decision st from k ≡ Err name → placed_decision st from k ≡ Err name
+  unfolding placed_decision ◌>>=◌
+  placed-fault name e = ap by_effect e
 
-  module _ (new : State) (e : scoped_command st from k ≡ Ok new) where
-    pub placed-stops : (name : FaultName) → next_by new k ≡ Err name → placed_command st from k ≡ Err name
-    unfolding placed_command ◌>>=◌
-    placed-stops name h = ap by_state e ∙ ap (by_next new) h
+  -- what is done next is asked of a state that is the same
+  module _ (mid : State) (same : mid ≡ st) (e : Effect) (is : scoped_decision st from k ≡ Ok e) where
+    next-is : next_by st k ≡ next_by mid k
+    next-is = ap (λ (z : State). next_by z k) (sym same)
 
-    pub placed-ok : (what : Next) → next_by new k ≡ Ok what → placed_command st from k ≡ Ok (new, what)
-    unfolding placed_command ◌>>=◌
-    placed-ok what h = ap by_state e ∙ ap (by_next new) h
+    pub placed-stops : (name : FaultName) → next_by mid k ≡ Err name → placed_decision st from k ≡ Err name
+    unfolding placed_decision ◌>>=◌
+    placed-stops name h = ap by_effect is ∙ ap (by_next e) (next-is ∙ h)
+
+    pub placed-ok : (what : Next) → next_by mid k ≡ Ok what → placed_decision st from k ≡ Ok (e, what)
+    unfolding placed_decision ◌>>=◌
+    placed-ok what h = ap by_effect is ∙ ap (by_next e) (next-is ∙ h)
 
 module _ (st : State) (from : Origin) (s : Sexp) where
   pub step-fault : (name : FaultName) → uncounted st from s ≡ Err name → step st from s ≡ Err name

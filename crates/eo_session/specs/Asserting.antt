@@ -1,7 +1,7 @@
 -- What a session does with an assertion, with numbers of terms.
 use Rattle.std.specs.Prelude.{◌≡◌, ℕ, ◌<◌, length, true, List, [], ◌∷◌, ◌++◌, Result, Ok, Err}
 use Rattle.eo_base.specs.Answers.{IsGiven}
-use Rattle.eo_base.specs.Checks.{Checked, ◌>>=◌}
+use Rattle.eo_base.specs.Checks.{Checked}
 use Rattle.eo_elab.specs.Fitting.{label_is_closed}
 use Rattle.eo_elab.specs.Meaning.{means}
 use Rattle.eo_elab.specs.Worlds.{labels_in}
@@ -12,8 +12,8 @@ use Rattle.eo_sexp.specs.Sexp.{Sexp}
 use Rattle.eo_sig.specs.Signature.{Signature, Macro, is_free}
 use Rattle.eo_term.specs.Growth.{tree_in}
 use Rattle.eo_term.specs.Tree.{Tree}
-use Rattle.eo_session.specs.State.{State, context_in, with_assertion}
-use Rattle.eo_session.specs.Step.{formula_of, label_macro, with_labels}
+use Rattle.eo_session.specs.State.{State, context_in}
+use Rattle.eo_session.specs.Step.{label_macro}
 use Rattle.eo_session.specs.Stepping.{Refuses}
 use Rattle.eo_session.specs.declared.held.Held.{Held}
 use Rattle.eo_session.specs.declared.refused.Refused.{Refused}
@@ -21,12 +21,6 @@ use Rattle.eo_session.specs.declared.refused.Refused.{Refused}
 -- the formula of an assertion, and the names of its terms
 abbrev pub read_assertion : State → Sexp → Checked (Tree × List Label)
 read_assertion st s = means (context_in st InAssert) [] s []
-
--- a formula that was read is asserted, with the names of its terms
-abbrev pub asserted_as : State → Tree → List Label → Checked State
-asserted_as st t labels = do
-  v ← formula_of st t
-  Ok (with_labels (with_assertion st v) labels)
 
 -- the id of the formula, and the names with ids; or what refuses it
 abbrev pub GivesAssertion : Held → List Binding → Result ℕ Refused → Checked (Tree × List Label) → Type 0

@@ -1,15 +1,14 @@
 -- What is decided of a command, with numbers of terms.
 use Rattle.std.specs.Prelude.{◌≡◌, ℕ, ◌<◌, true, false, Contains, List, length, Result, Ok, Err}
 use Rattle.eo_base.specs.Answers.{IsGiven}
-use Rattle.eo_base.specs.Checks.{Checked, ◌>>=◌, no_fault}
+use Rattle.eo_base.specs.Checks.{Checked}
 use Rattle.eo_elab.specs.Fitting.{macro_is_bound}
 use Rattle.eo_elab.specs.Worlds.{labels_in}
 use Rattle.eo_eval.specs.Outcomes.{IsValueOf}
 use Rattle.eo_proof.specs.Scopes.{depth, scope_limit, is_live}
 use Rattle.eo_names.specs.Names.{Binding, BindingsBelow}
-use Rattle.eo_sig.specs.Adding.{EntryIsFree, EntryIsOrdered, EntryIsSound, entry_fault}
+use Rattle.eo_sig.specs.Adding.{EntryIsFree, EntryIsOrdered, EntryIsSound}
 use Rattle.eo_sig.specs.Reading.{constants_of, EntryBelow, MacroBelow, IsFree, read_entry, read_macro}
-use Rattle.eo_sig.specs.Signature.{SignatureEntry}
 use Rattle.eo_sig.specs.declared.records.Declared.{Declared}
 use Rattle.eo_sig.specs.declared.records.Declared.TheVariants as declared
 use Rattle.eo_sig.specs.declared.records.MacroDecl.{MacroDecl}
@@ -17,9 +16,9 @@ use Rattle.eo_term.specs.Growth.{tree_in}
 use Rattle.eo_term.specs.Terms.{Terms}
 use Rattle.eo_term.specs.Tree.{Tree}
 use Rattle.eo_session.specs.Asserting.{MayBeNames}
-use Rattle.eo_session.specs.State.{State, is_in_scope, with_entry}
+use Rattle.eo_session.specs.State.{State, is_in_scope}
 use Rattle.eo_session.specs.Step.{is_free_fact}
-use Rattle.eo_session.specs.Effects.{Effect, Declares, Defines, Asserts, Opens, Adds, Nothing, after, closed_if, trees_of}
+use Rattle.eo_session.specs.Effects.{Effect, Declares, Defines, Asserts, Opens, Adds, Nothing, closed_if, trees_of}
 use Rattle.eo_session.specs.Held.{state_of, next_constant}
 use Rattle.eo_session.specs.Stepping.{Refuses}
 use Rattle.eo_session.specs.Using.{read_conclusion}
@@ -111,18 +110,12 @@ HoldsItself h effect.Nothing = Unit {0}
 
 -- ---- what is decided
 
--- a declaration is added, unless it has a fault
-abbrev pub checked_entry : State → SignatureEntry → Checked State
-checked_entry st e = do
-  _ ← no_fault (entry_fault st.signature e)
-  Ok (with_entry st e)
-
--- The definition gives the state after an effect that may be committed, or the first fault.
-abbrev pub Decides : Held → Result code.Effect Refused → Checked State → Type 0
-Decides h (Ok e) m = IsGiven (MayCommit h) (λ e. after (state_of h) (read_effect h.table e)) m e
+-- The definition gives this effect, which may be committed, or the first fault.
+abbrev pub Decides : Held → Result code.Effect Refused → Checked Effect → Type 0
+Decides h (Ok e) m = IsGiven (MayCommit h) (read_effect h.table) m e
 Decides h (Err x) m = Refuses m x
 
 -- It gives what is done next, too.
-abbrev pub DecidesNext : Held → Result Decided Refused → Checked (State × Next) → Type 0
-DecidesNext h (Ok d) m = IsGiven (λ (d : Decided). MayCommit h d.effect) (λ d. (after (state_of h) (read_effect h.table d.effect), d.next)) m d
+abbrev pub DecidesNext : Held → Result Decided Refused → Checked (Effect × Next) → Type 0
+DecidesNext h (Ok d) m = IsGiven (λ (d : Decided). MayCommit h d.effect) (λ d. (read_effect h.table d.effect, d.next)) m d
 DecidesNext h (Err x) m = Refuses m x

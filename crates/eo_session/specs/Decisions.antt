@@ -1,25 +1,32 @@
 -- What is decided of a command: what it does, or its first fault.
-use Rattle.std.specs.Prelude.{◌≡◌, ℕ, true, false, nat_lt, if◌then◌else◌, List, [], Option, Some, None, Ok}
-use Rattle.eo_base.specs.declared.FaultName.{FaultName}
-use Rattle.eo_base.specs.declared.FaultName.TheVariants.{Redeclared, NotAsserted, NoReference, NoScope, ScopeDepth}
+use Rattle.std.specs.Prelude.{◌≡◌, ℕ, true, false, not, ◌||◌, nat_lt, if◌then◌else◌, List, [], Some, None, Ok}
+use Rattle.eo_base.specs.declared.FaultName.TheVariants.{Redeclared, NoScope, ScopeDepth, InScope}
 use Rattle.eo_base.specs.Checks.{Checked, ◌>>=◌, require, no_fault, value_or}
+use Rattle.eo_lit.specs.declared.LiteralClass.{LiteralClass}
 use Rattle.eo_sexp.specs.Sexp.{Sexp}
-use Rattle.eo_sig.specs.Signature.{SignatureEntry, IsConstant, IsProgram, IsRule, IsLiteralType, Constant, Macro, lookup, constant_fault, program_fault, rule_fault, literal_type_fault}
-use Rattle.eo_shape.specs.Shapes.{StepShape, Command, DeclareConst, DeclareFun, DeclareSort, DeclareParameterized, DeclareLiterals, Define, DefineProgram, DeclareRule, Assume, AssumePush, Step, StepPop, Include, Refer, DefineFun, DefineSort, Assert, Exit, Skip}
+use Rattle.eo_sig.specs.Adding.{entry_fault}
+use Rattle.eo_sig.specs.Signature.{SignatureEntry, IsConstant, IsProgram, IsRule, IsLiteralType, Constant, Macro, lookup}
+use Rattle.eo_shape.specs.Shapes.{ParameterShape, AttributeShape, ProgramShape, RuleShape, StepShape, Command, DeclareConst, DeclareFun, DeclareSort, DeclareParameterized, DeclareLiterals, Define, DefineProgram, DeclareRule, Assume, AssumePush, Step, StepPop, Include, Refer, DefineFun, DefineSort, Assert, Exit, Skip}
 use Rattle.eo_declare.specs.Declarations.{is_reference_name, declared_const, declared_fun, declared_sort, declared_parameterized, declared_literals, defined, defined_fun, defined_sort, declared_program, declared_rule}
 use Rattle.eo_elab.specs.Meaning.{means}
-use Rattle.eo_names.specs.Contexts.{InReference, InAssert}
+use Rattle.eo_names.specs.Contexts.{Setting, InReference, InAssert}
+use Rattle.eo_names.specs.Readers.{Label}
 use Rattle.eo_proof.specs.Scopes.{depth, scope_limit, innermost_hypothesis}
-use Rattle.eo_session.specs.Commands.{by_command}
+use Rattle.eo_term.specs.Tree.{Tree}
+use Rattle.eo_session.specs.Commands.{by_command, may_be_in_scope, next_by, placed_command}
 use Rattle.eo_session.specs.Effects.{Effect, Declares, Defines, Asserts, Opens, Adds, Nothing, after}
 use Rattle.eo_session.specs.Origin.{Origin}
-use Rattle.eo_session.specs.State.{State, context, context_in, is_asserted}
-use Rattle.eo_session.specs.Step.{setting_of, is_free_fact, is_free_outer_fact, repeats_constant, repeats_macro, type_value, may_declare, formula, formula_of, concluded}
+use Rattle.eo_session.specs.State.{State, context, context_in, is_in_scope}
+use Rattle.eo_session.specs.Step.{setting_of, is_free_fact, is_free_outer_fact, repeats_constant, repeats_macro, type_value, may_declare, formula_of, formula, concluded}
+use Rattle.eo_session.specs.Using.{asserted_formula}
+use Rattle.eo_session.specs.declared.Next.{Next}
+
+-- ---- declarations
 
 -- an entry, unless its declaration has a fault
-abbrev pub declares : Option FaultName → SignatureEntry → Checked Effect
-declares fault entry = do
-  _ ← no_fault fault
+abbrev pub entry_effect : State → SignatureEntry → Checked Effect
+entry_effect st entry = do
+  _ ← no_fault (entry_fault st.signature entry)
   Ok (Declares entry)
 
 -- a constant, whose type is a value; one of the reference file may be repeated
@@ -35,6 +42,39 @@ typed_effect st d = do
   v ← type_value st d.type
   constant_effect st (record d { type = v })
 
+abbrev pub const_effect : State → Setting → List ℕ → Sexp → AttributeShape → Checked Effect
+const_effect st setting name type shape = declared_const (context_in st setting) name type shape >>= typed_effect st
+
+abbrev pub fun_effect : State → Setting → List ℕ → List Sexp → Sexp → Checked Effect
+fun_effect st setting name inputs output = declared_fun (context_in st setting) name inputs output >>= typed_effect st
+
+abbrev pub sort_effect : State → Setting → List ℕ → ℕ → Checked Effect
+sort_effect st setting name arity = declared_sort (context_in st setting) name arity >>= typed_effect st
+
+abbrev pub parameterized_effect : State → List ℕ → List ParameterShape → Sexp → AttributeShape → Checked Effect
+parameterized_effect st name shapes type shape = declared_parameterized (context st) name shapes type shape >>= λ d. entry_effect st (IsConstant d)
+
+abbrev pub literals_effect : State → LiteralClass → Sexp → Checked Effect
+literals_effect st class type = declared_literals (context st) class type >>= λ t. entry_effect st (IsLiteralType class t)
+
+-- a program, which may be declared here
+abbrev pub added_program_effect : State → ProgramShape → Checked Effect
+added_program_effect st shape = declared_program (context st) shape >>= λ p. entry_effect st (IsProgram p)
+
+abbrev pub program_effect : State → Origin → ProgramShape → Checked Effect
+program_effect st from shape = do
+  _ ← may_declare st from
+  added_program_effect st shape
+
+-- a rule, which may be declared here
+abbrev pub added_rule_effect : State → RuleShape → Checked Effect
+added_rule_effect st shape = declared_rule (context st) shape >>= λ r. entry_effect st (IsRule r)
+
+abbrev pub rule_effect : State → Origin → RuleShape → Checked Effect
+rule_effect st from shape = do
+  _ ← may_declare st from
+  added_rule_effect st shape
+
 -- a macro; one of the reference file may be repeated
 abbrev pub macro_effect : State → Macro → Checked Effect
 macro_effect st m =
@@ -43,13 +83,26 @@ macro_effect st m =
       Ok Nothing
     ) else Ok (Defines m)
 
+abbrev pub define_effect : State → List ℕ → List ParameterShape → Sexp → Checked Effect
+define_effect st name shapes body = defined (context st) name shapes body >>= macro_effect st
+
+abbrev pub define_fun_effect : State → List ℕ → List ParameterShape → Sexp → Sexp → Checked Effect
+define_fun_effect st name shapes output body = defined_fun (context_in st InReference) name shapes output body >>= macro_effect st
+
+abbrev pub define_sort_effect : State → List ℕ → List (List ℕ) → Sexp → Checked Effect
+define_sort_effect st name names type = defined_sort (context_in st InReference) name names type >>= macro_effect st
+
+-- ---- facts
+
+-- a fact of no rule
+abbrev pub assumed_fact : List ℕ → Tree → Effect
+assumed_fact name v = Adds name (record { formula = v; sorry = false }) false
+
 abbrev pub assume_effect : State → List ℕ → Sexp → Checked Effect
 assume_effect st name s = do
   _ ← require (is_free_fact st name) Redeclared
-  v ← formula st s
-  _ ← require st.has_reference NoReference
-  _ ← require (is_asserted st v) NotAsserted
-  Ok (Adds name (record { formula = v; sorry = false }) false)
+  v ← asserted_formula st s
+  Ok (assumed_fact name v)
 
 abbrev pub push_effect : State → List ℕ → Sexp → Checked Effect
 push_effect st name s = do
@@ -64,40 +117,69 @@ step_effect st s = do
   k ← concluded st None s
   Ok (Adds s.name k false)
 
+-- a step out of the innermost scope, which has this assumption. Its name is free outside
+abbrev pub outside_effect : State → Tree → StepShape → Checked Effect
+outside_effect st a s = do
+  k ← concluded st (Some a) s
+  Ok (Adds s.name k true)
+
 abbrev pub pop_effect : State → StepShape → Checked Effect
 pop_effect st s = do
   a ← value_or NoScope (innermost_hypothesis st.scopes)
   _ ← require (is_free_outer_fact st s.name) Redeclared
-  k ← concluded st (Some a) s
-  Ok (Adds s.name k true)
+  outside_effect st a s
+
+-- ---- assertions
+
+-- a formula that was read, with the names of its terms
+abbrev pub asserted_effect : State → Tree → List Label → Checked Effect
+asserted_effect st t labels = do
+  v ← formula_of st t
+  Ok (Asserts v labels)
 
 abbrev pub assert_effect : State → Sexp → Checked Effect
 assert_effect st s = do
   r ← means (context_in st InAssert) [] s []
-  v ← formula_of st r.0
-  Ok (Asserts v r.1)
+  asserted_effect st r.0 r.1
+
+-- ---- commands
 
 -- What is decided of each kind of command.
 abbrev pub decided : State → Origin → Command → Checked Effect
-decided st from (DeclareConst name type shape) = declared_const (context_in st (setting_of from)) name type shape >>= typed_effect st
-decided st from (DeclareFun name inputs output) = declared_fun (context_in st (setting_of from)) name inputs output >>= typed_effect st
-decided st from (DeclareSort name arity) = declared_sort (context_in st (setting_of from)) name arity >>= typed_effect st
-decided st from (DeclareParameterized name shapes type shape) = declared_parameterized (context st) name shapes type shape >>= λ d. declares (constant_fault d) (IsConstant d)
-decided st from (DeclareLiterals class type) = declared_literals (context st) class type >>= λ t. declares (literal_type_fault st.signature class t) (IsLiteralType class t)
-decided st from (Define name shapes body) = defined (context st) name shapes body >>= macro_effect st
-decided st from (DefineProgram shape) = may_declare st from >>= λ _. declared_program (context st) shape >>= λ p. declares (program_fault p) (IsProgram p)
-decided st from (DeclareRule shape) = may_declare st from >>= λ _. declared_rule (context st) shape >>= λ r. declares (rule_fault st.signature r) (IsRule r)
+decided st from (DeclareConst name type shape) = const_effect st (setting_of from) name type shape
+decided st from (DeclareFun name inputs output) = fun_effect st (setting_of from) name inputs output
+decided st from (DeclareSort name arity) = sort_effect st (setting_of from) name arity
+decided st from (DeclareParameterized name shapes type shape) = parameterized_effect st name shapes type shape
+decided st from (DeclareLiterals class type) = literals_effect st class type
+decided st from (Define name shapes body) = define_effect st name shapes body
+decided st from (DefineProgram shape) = program_effect st from shape
+decided st from (DeclareRule shape) = rule_effect st from shape
 decided st from (Assume name s) = assume_effect st name s
 decided st from (AssumePush name s) = push_effect st name s
 decided st from (Step shape) = step_effect st shape
 decided st from (StepPop shape) = pop_effect st shape
 decided st from (Include written) = Ok Nothing
 decided st from (Refer written) = Ok Nothing
-decided st from (DefineFun name shapes output body) = defined_fun (context_in st InReference) name shapes output body >>= macro_effect st
-decided st from (DefineSort name names type) = defined_sort (context_in st InReference) name names type >>= macro_effect st
+decided st from (DefineFun name shapes output body) = define_fun_effect st name shapes output body
+decided st from (DefineSort name names type) = define_sort_effect st name names type
 decided st from (Assert s) = assert_effect st s
 decided st from Exit = Ok Nothing
 decided st from Skip = Ok Nothing
+
+-- the rule on scopes, and then the checks of its own
+unfoldable pub scoped_decision : State → Origin → Command → Checked Effect
+scoped_decision st from command = do
+  _ ← require (not (is_in_scope st) || may_be_in_scope command) InScope
+  decided st from command
+
+-- What a command does where it stands, and what is done next.
+unfoldable pub placed_decision : State → Origin → Command → Checked (Effect × Next)
+placed_decision st from command = do
+  e ← scoped_decision st from command
+  what ← next_by st command
+  Ok (e, what)
+
+-- ---- what is done
 
 -- The state after what is decided.
 abbrev pub done : State → Checked Effect → Checked State
@@ -108,3 +190,13 @@ done st m = do
 -- A command does what is decided of it.
 abbrev pub AreDecided : Type 0
 AreDecided = (st : State) (from : Origin) (k : Command) → by_command st from k ≡ done st (decided st from k)
+
+-- The state after what is decided, and what is done next.
+abbrev pub done_next : State → Checked (Effect × Next) → Checked (State × Next)
+done_next st m = do
+  r ← m
+  Ok (after st r.0, r.1)
+
+-- So it is where a command stands, too.
+abbrev pub AreDecidedPlaced : Type 0
+AreDecidedPlaced = (st : State) (from : Origin) (k : Command) → placed_command st from k ≡ done_next st (placed_decision st from k)

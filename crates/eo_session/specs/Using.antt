@@ -9,13 +9,12 @@ use Rattle.eo_rule.specs.Reading.{AreValuesIn, UseBelow, read_use}
 use Rattle.eo_rule.specs.Uses.{Use, conclusion}
 use Rattle.eo_rule.specs.declared.RuleUse.{RuleUse}
 use Rattle.eo_sexp.specs.Sexp.{Sexp}
-use Rattle.eo_shape.specs.Shapes.{StepShape}
 use Rattle.eo_sig.specs.Reading.{SomeBelow}
 use Rattle.eo_term.specs.Growth.{tree_in, trees_in}
 use Rattle.eo_term.specs.Terms.{Terms}
 use Rattle.eo_term.specs.Tree.{Tree, is_value}
-use Rattle.eo_session.specs.State.{State, is_asserted, without_scope}
-use Rattle.eo_session.specs.Step.{Concluded, concluded, formula, is_sorry, with_conclusion}
+use Rattle.eo_session.specs.State.{State, is_asserted}
+use Rattle.eo_session.specs.Step.{Concluded, formula, is_sorry}
 use Rattle.eo_session.specs.Stepping.{Refuses}
 use Rattle.eo_session.specs.declared.held.Held.{Held}
 use Rattle.eo_session.specs.declared.refused.Refused.{Refused}
@@ -77,9 +76,3 @@ asserted_formula st s = do
   _ ← require st.has_reference NoReference
   _ ← require (is_asserted st v) NotAsserted
   Ok v
-
--- a step out of the innermost scope, which has this assumption. Its name is free outside
-abbrev pub conclusion_outside : State → Tree → StepShape → Checked State
-conclusion_outside st a s = do
-  k ← concluded st (Some a) s
-  Ok (with_conclusion (without_scope st) s.name k)

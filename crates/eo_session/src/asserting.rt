@@ -3,11 +3,12 @@ ghost use Rattle.std.specs.Prelude.{◌≡◌, ◌<◌, [], ◌∷◌, false, ma
 ghost use Rattle.eo_elab.specs.Worlds.{labels_in};
 ghost use Rattle.eo_names.specs.Names.{BindingsBelow};
 ghost use Rattle.eo_term.specs.Growth.{tree_in, IsTerm};
-ghost use Rattle.eo_session.specs.Asserting.{read_assertion, asserted_as, named_term, GivesAssertion, MayBeName, MayBeNames};
+ghost use Rattle.eo_session.specs.Asserting.{read_assertion, named_term, GivesAssertion, MayBeName, MayBeNames};
 ghost use Rattle.eo_session.specs.Held.{state_of, label_trees, IsHeld, IsWhole, Leaves, Keeps};
 ghost use Rattle.eo_session.specs.State.{is_in_scope, with_assertion, with_macro};
-ghost use Rattle.eo_session.specs.Step.{assert as asserted, label_macro, with_labels};
+ghost use Rattle.eo_session.specs.Step.{label_macro, with_labels};
 ghost use Rattle.eo_session.specs.Deciding.{Decides};
+ghost use Rattle.eo_session.specs.Decisions.{assert_effect, asserted_effect};
 
 use crate::Refused;
 use crate::effects::Effect;
@@ -26,7 +27,7 @@ impl Held {
     pub(crate) fn decide_assert<'c>(&mut self, formula: &Sexp<'_>) -> Result<Effect<'c>, Refused>
         requires whole { IsWhole self.old }
         requires outside { is_in_scope (state_of self.old) ≡ false }
-        ensures decides { Decides self.new result (asserted (state_of self.old) formula.now) }
+        ensures decides { Decides self.new result (assert_effect (state_of self.old) formula.now) }
         ensures keeps { Keeps self.old self.new }
     {
         labels_law();
@@ -63,7 +64,7 @@ impl Held {
         requires live { id < length self.old.table.trees }
         requires below { BindingsBelow (length self.old.table.trees) names }
         requires new { MayBeNames (state_of self.old) (labels_in self.old.table names) }
-        ensures decides { Decides self.new result (asserted_as (state_of self.old) (tree_in self.old.table id) (labels_in self.old.table names)) }
+        ensures decides { Decides self.new result (asserted_effect (state_of self.old) (tree_in self.old.table id) (labels_in self.old.table names)) }
         ensures keeps { Keeps self.old self.new }
     {
         let (formula, names) = both(self.formula_of(id), names)?;

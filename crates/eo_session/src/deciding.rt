@@ -5,14 +5,13 @@ ghost use Rattle.eo_shape.specs.Reading.{read_step};
 ghost use Rattle.eo_term.specs.Growth.{tree_in};
 ghost use Rattle.eo_shape.specs.Reading.{read_command};
 ghost use Rattle.eo_session.specs.Commands as definition;
-ghost use Rattle.eo_session.specs.Commands.{by_command, scoped_command, placed_command};
 ghost use Rattle.eo_session.specs.Deciding.{Decides, DecidesNext};
 ghost use Rattle.eo_session.specs.Numbered.{origin_of};
-ghost use Rattle.eo_session.specs.Decisions.{AreDecided};
+ghost use Rattle.eo_session.specs.Decisions.{assume_effect, push_effect, step_effect, pop_effect, outside_effect};
+ghost use Rattle.eo_session.specs.Decisions.{decided, scoped_decision, placed_decision, AreDecided, AreDecidedPlaced};
 ghost use Rattle.eo_session.specs.Held.{state_of, IsWhole, Keeps};
 ghost use Rattle.eo_session.specs.State.{is_in_scope};
-ghost use Rattle.eo_session.specs.Step.{assume as assumed, assume_push as pushed, step_plain, step_pop as popped, is_free_outer_fact};
-ghost use Rattle.eo_session.specs.Using.{conclusion_outside};
+ghost use Rattle.eo_session.specs.Step.{is_free_outer_fact};
 
 use crate::effects::{Decided, Effect};
 use crate::held::Held;
@@ -33,7 +32,7 @@ impl Held {
         from: Origin,
     ) -> Result<Decided<'c>, Refused>
         requires whole { IsWhole self.old }
-        ensures decides { DecidesNext self.new result (placed_command (state_of self.old) (origin_of from) (read_command command.now)) }
+        ensures decides { DecidesNext self.new result (placed_decision (state_of self.old) (origin_of from) (read_command command.now)) }
         ensures keeps { Keeps self.old self.new }
     {
         let effect = self.decide_placed(command, from)?;
@@ -48,7 +47,7 @@ impl Held {
         from: Origin,
     ) -> Result<Effect<'c>, Refused>
         requires whole { IsWhole self.old }
-        ensures decides { Decides self.new result (scoped_command (state_of self.old) (origin_of from) (read_command command.now)) }
+        ensures decides { Decides self.new result (scoped_decision (state_of self.old) (origin_of from) (read_command command.now)) }
         ensures keeps { Keeps self.old self.new }
     {
         if !may_stand(self, command) {
@@ -61,7 +60,7 @@ impl Held {
     fn decide_own<'c>(&mut self, command: &Command<'c>, from: Origin) -> Result<Effect<'c>, Refused>
         requires whole { IsWhole self.old }
         requires stands { (not (is_in_scope (state_of self.old)) || definition.may_be_in_scope (read_command command.now)) ≡ true }
-        ensures decides { Decides self.new result (by_command (state_of self.old) (origin_of from) (read_command command.now)) }
+        ensures decides { Decides self.new result (decided (state_of self.old) (origin_of from) (read_command command.now)) }
         ensures keeps { Keeps self.old self.new }
     {
         match command {
@@ -112,7 +111,7 @@ impl Held {
         formula: &Sexp<'_>,
     ) -> Result<Effect<'c>, Refused>
         requires { IsWhole self.old }
-        ensures decides { Decides self.new result (assumed (state_of self.old) name.now formula.now) }
+        ensures decides { Decides self.new result (assume_effect (state_of self.old) name.now formula.now) }
         ensures keeps { Keeps self.old self.new }
     {
         if self.is_taken(name) {
@@ -136,7 +135,7 @@ impl Held {
         formula: &Sexp<'_>,
     ) -> Result<Effect<'c>, Refused>
         requires { IsWhole self.old }
-        ensures decides { Decides self.new result (pushed (state_of self.old) name.now formula.now) }
+        ensures decides { Decides self.new result (push_effect (state_of self.old) name.now formula.now) }
         ensures keeps { Keeps self.old self.new }
     {
         if !self.has_room() {
@@ -152,7 +151,7 @@ impl Held {
     /// What a rule concludes is a fact, by a name that is free.
     pub(crate) fn decide_step<'c>(&mut self, shape: &StepShape<'c>) -> Result<Effect<'c>, Refused>
         requires { IsWhole self.old }
-        ensures decides { Decides self.new result (step_plain (state_of self.old) (read_step shape.now)) }
+        ensures decides { Decides self.new result (step_effect (state_of self.old) (read_step shape.now)) }
         ensures keeps { Keeps self.old self.new }
     {
         if self.is_taken(shape.name) {
@@ -170,7 +169,7 @@ impl Held {
     /// it, by a name that is free there.
     pub(crate) fn decide_pop<'c>(&mut self, shape: &StepShape<'c>) -> Result<Effect<'c>, Refused>
         requires { IsWhole self.old }
-        ensures decides { Decides self.new result (popped (state_of self.old) (read_step shape.now)) }
+        ensures decides { Decides self.new result (pop_effect (state_of self.old) (read_step shape.now)) }
         ensures keeps { Keeps self.old self.new }
     {
         let Some(assumed) = self.facts.hypothesis() else {
@@ -192,7 +191,7 @@ impl Held {
         requires live { assumed < length self.old.table.trees }
         requires assumed { innermost_hypothesis (state_of self.old).scopes ≡ Some (tree_in self.old.table assumed) }
         requires free { is_free_outer_fact (state_of self.old) shape.now.name.now ≡ true }
-        ensures decides { Decides self.new result (conclusion_outside (state_of self.old) (tree_in self.old.table assumed) (read_step shape.now)) }
+        ensures decides { Decides self.new result (outside_effect (state_of self.old) (tree_in self.old.table assumed) (read_step shape.now)) }
         ensures keeps { Keeps self.old self.new }
     {
         let conclusion = self.concluded(Some(assumed), shape)?;
@@ -204,8 +203,10 @@ impl Held {
     }
 }
 
-/// A law: what a command does to a state is what is decided of it, and then done.
-#[tactic(auto, using(crate::proofs::Decisions::command_done))]
+/// A law: what a command does to a state is what is decided of it, and then done; and so it is where
+/// the command stands, with what is done next.
+#[tactic(auto, using(crate::proofs::Decisions::command_done, crate::proofs::Decisions::placed_done))]
 pub fn decision_law()
-    ensures { AreDecided }
+    ensures decided { AreDecided }
+    ensures placed { AreDecidedPlaced }
 {}

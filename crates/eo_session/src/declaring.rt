@@ -14,8 +14,11 @@ ghost use Rattle.eo_session.specs.Numbered.{origin_of};
 ghost use Rattle.eo_session.specs.Held.{state_of, IsWhole, Keeps};
 ghost use Rattle.eo_session.specs.State.{is_in_scope};
 ghost use Rattle.eo_session.specs.Step as step;
-ghost use Rattle.eo_session.specs.Step.{declare_parameterized as declared_over, define_program, added_program, is_in_proof};
-ghost use Rattle.eo_session.specs.Deciding.{Decides, checked_entry};
+ghost use Rattle.eo_session.specs.Step.{is_in_proof};
+ghost use Rattle.eo_session.specs.Deciding.{Decides};
+ghost use Rattle.eo_session.specs.Decisions.{const_effect, fun_effect, sort_effect, parameterized_effect, literals_effect};
+ghost use Rattle.eo_session.specs.Decisions.{define_effect, define_fun_effect, define_sort_effect, macro_effect};
+ghost use Rattle.eo_session.specs.Decisions.{program_effect, added_program_effect, entry_effect, typed_effect, constant_effect};
 
 use crate::effects::Effect;
 use crate::held::Held;
@@ -43,7 +46,7 @@ impl Held {
     ) -> Result<Effect<'c>, Refused>
         requires whole { IsWhole self.old }
         requires outside { is_in_scope (state_of self.old) ≡ false }
-        ensures decides { Decides self.new result (step.declare_const (state_of self.old) (read_setting setting) name.now ty.now (shape_of shape.now)) }
+        ensures decides { Decides self.new result (const_effect (state_of self.old) (read_setting setting) name.now ty.now (shape_of shape.now)) }
         ensures keeps { Keeps self.old self.new }
     {
         let d = declared_const(
@@ -68,7 +71,7 @@ impl Held {
     ) -> Result<Effect<'c>, Refused>
         requires whole { IsWhole self.old }
         requires outside { is_in_scope (state_of self.old) ≡ false }
-        ensures decides { Decides self.new result (step.declare_fun (state_of self.old) (read_setting setting) name.now inputs.now output.now) }
+        ensures decides { Decides self.new result (fun_effect (state_of self.old) (read_setting setting) name.now inputs.now output.now) }
         ensures keeps { Keeps self.old self.new }
     {
         let d = declared_fun(
@@ -93,7 +96,7 @@ impl Held {
     ) -> Result<Effect<'c>, Refused>
         requires whole { IsWhole self.old }
         requires outside { is_in_scope (state_of self.old) ≡ false }
-        ensures decides { Decides self.new result (step.declare_sort (state_of self.old) (read_setting setting) name.now arity) }
+        ensures decides { Decides self.new result (sort_effect (state_of self.old) (read_setting setting) name.now arity) }
         ensures keeps { Keeps self.old self.new }
     {
         let d = declared_sort(
@@ -117,7 +120,7 @@ impl Held {
     ) -> Result<Effect<'c>, Refused>
         requires whole { IsWhole self.old }
         requires outside { is_in_scope (state_of self.old) ≡ false }
-        ensures decides { Decides self.new result (declared_over (state_of self.old) name.now params.now ty.now (shape_of shape.now)) }
+        ensures decides { Decides self.new result (parameterized_effect (state_of self.old) name.now params.now ty.now (shape_of shape.now)) }
         ensures keeps { Keeps self.old self.new }
     {
         let d = declared_parameterized(
@@ -140,7 +143,7 @@ impl Held {
     ) -> Result<Effect<'c>, Refused>
         requires whole { IsWhole self.old }
         requires outside { is_in_scope (state_of self.old) ≡ false }
-        ensures decides { Decides self.new result (step.declare_literals (state_of self.old) class ty.now) }
+        ensures decides { Decides self.new result (literals_effect (state_of self.old) class ty.now) }
         ensures keeps { Keeps self.old self.new }
     {
         let ty = declared_literals(self.alloc, class, ty, &self.signature, &mut self.table)?;
@@ -156,7 +159,7 @@ impl Held {
         body: &Sexp<'_>,
     ) -> Result<Effect<'c>, Refused>
         requires { IsWhole self.old }
-        ensures decides { Decides self.new result (step.define (state_of self.old) name.now params.now body.now) }
+        ensures decides { Decides self.new result (define_effect (state_of self.old) name.now params.now body.now) }
         ensures keeps { Keeps self.old self.new }
     {
         if self.signature.is_free(name) {
@@ -183,7 +186,7 @@ impl Held {
     ) -> Result<Effect<'c>, Refused>
         requires whole { IsWhole self.old }
         requires free { (ts : List Tree) → is_free (signature ts self.old.signature) (macros ts self.old.signature) name.now ≡ true }
-        ensures decides { Decides self.new result (step.define (state_of self.old) name.now params.now body.now) }
+        ensures decides { Decides self.new result (define_effect (state_of self.old) name.now params.now body.now) }
         ensures keeps { Keeps self.old self.new }
     {
         ordering_law();
@@ -208,7 +211,7 @@ impl Held {
         body: &Sexp<'_>,
     ) -> Result<Effect<'c>, Refused>
         requires { IsWhole self.old }
-        ensures decides { Decides self.new result (step.define_fun (state_of self.old) name.now params.now output.now body.now) }
+        ensures decides { Decides self.new result (define_fun_effect (state_of self.old) name.now params.now output.now body.now) }
         ensures keeps { Keeps self.old self.new }
     {
         reference_law();
@@ -233,7 +236,7 @@ impl Held {
         ty: &Sexp<'_>,
     ) -> Result<Effect<'c>, Refused>
         requires { IsWhole self.old }
-        ensures decides { Decides self.new result (step.define_sort (state_of self.old) name.now params.now ty.now) }
+        ensures decides { Decides self.new result (define_sort_effect (state_of self.old) name.now params.now ty.now) }
         ensures keeps { Keeps self.old self.new }
     {
         reference_law();
@@ -256,7 +259,7 @@ impl Held {
     ) -> Result<Effect<'c>, Refused>
         requires whole { IsWhole self.old }
         requires outside { is_in_scope (state_of self.old) ≡ false }
-        ensures decides { Decides self.new result (define_program (state_of self.old) (origin_of from) (program_of shape.now)) }
+        ensures decides { Decides self.new result (program_effect (state_of self.old) (origin_of from) (program_of shape.now)) }
         ensures keeps { Keeps self.old self.new }
     {
         if !self.may_declare(from) {
@@ -276,7 +279,7 @@ impl Held {
     fn decide_added_program<'c>(&mut self, shape: &ProgramShape<'_>) -> Result<Effect<'c>, Refused>
         requires whole { IsWhole self.old }
         requires outside { is_in_scope (state_of self.old) ≡ false }
-        ensures decides { Decides self.new result (added_program (state_of self.old) (program_of shape.now)) }
+        ensures decides { Decides self.new result (added_program_effect (state_of self.old) (program_of shape.now)) }
         ensures keeps { Keeps self.old self.new }
     {
         let d = declared_program(self.alloc, shape, &self.signature, &mut self.table)?;
@@ -290,7 +293,7 @@ impl Held {
         requires below { EntryBelow (length self.now.table.trees) d }
         requires free { EntryIsFree self.now.signature d }
         requires ordered { EntryIsOrdered self.now.table.trees d }
-        ensures decides { Decides self.now result (checked_entry (state_of self.now) (read_entry self.now.table.trees d)) }
+        ensures decides { Decides self.now result (entry_effect (state_of self.now) (read_entry self.now.table.trees d)) }
     {
         let ((), d) = both(self.signature.check(&self.table, &d), d)?;
         Ok(Effect::Declare(d))
@@ -303,7 +306,7 @@ impl Held {
         requires below { ConstBelow (length self.old.table.trees) d }
         requires may { MayRepeat (context_in self.old.table self.old.signature) (read_constant self.old.table.trees d) }
         requires alone { d.params ≡ [] }
-        ensures decides { Decides self.new result (step.typed_constant (state_of self.old) (read_constant self.old.table.trees d)) }
+        ensures decides { Decides self.new result (typed_effect (state_of self.old) (read_constant self.old.table.trees d)) }
         ensures keeps { Keeps self.old self.new }
     {
         d.laws();
@@ -317,7 +320,7 @@ impl Held {
         requires outside { is_in_scope (state_of self.now) ≡ false }
         requires below { ConstBelow (length self.now.table.trees) d }
         requires may { MayRepeat (context_in self.now.table self.now.signature) (read_constant self.now.table.trees d) }
-        ensures decides { Decides self.now result (step.added_constant (state_of self.now) (read_constant self.now.table.trees d)) }
+        ensures decides { Decides self.now result (constant_effect (state_of self.now) (read_constant self.now.table.trees d)) }
     {
         match self.signature.lookup(d.name.as_bytes()) {
             None => Ok(Effect::Declare(Declared::Const(d))),
@@ -336,7 +339,7 @@ impl Held {
         requires below { MacroBelow (length self.now.table.trees) d }
         requires may { MayBeMacro (context_in self.now.table self.now.signature) (read_macro self.now.table.trees d) }
         requires bound { macro_is_bound (read_macro self.now.table.trees d) ≡ true }
-        ensures decides { Decides self.now result (step.added_macro (state_of self.now) (read_macro self.now.table.trees d)) }
+        ensures decides { Decides self.now result (macro_effect (state_of self.now) (read_macro self.now.table.trees d)) }
     {
         match self.signature.lookup(d.name.as_bytes()) {
             None => Ok(Effect::Define(d)),

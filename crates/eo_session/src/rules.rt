@@ -4,8 +4,8 @@ ghost use Rattle.eo_shape.specs.Reading.{read_rule as shape_of};
 ghost use Rattle.eo_session.specs.Numbered.{origin_of};
 ghost use Rattle.eo_session.specs.Held.{state_of, IsWhole, Keeps};
 ghost use Rattle.eo_session.specs.State.{is_in_scope};
-ghost use Rattle.eo_session.specs.Step.{declare_rule, added_rule};
 ghost use Rattle.eo_session.specs.Deciding.{Decides};
+ghost use Rattle.eo_session.specs.Decisions.{added_rule_effect, rule_effect};
 
 use crate::effects::Effect;
 use crate::held::Held;
@@ -24,7 +24,7 @@ impl Held {
     ) -> Result<Effect<'c>, Refused>
         requires whole { IsWhole self.old }
         requires outside { is_in_scope (state_of self.old) ≡ false }
-        ensures decides { Decides self.new result (declare_rule (state_of self.old) (origin_of from) (shape_of shape.now)) }
+        ensures decides { Decides self.new result (rule_effect (state_of self.old) (origin_of from) (shape_of shape.now)) }
         ensures keeps { Keeps self.old self.new }
     {
         if !self.may_declare(from) {
@@ -37,7 +37,7 @@ impl Held {
     fn decide_added_rule<'c>(&mut self, shape: &RuleShape<'_>) -> Result<Effect<'c>, Refused>
         requires whole { IsWhole self.old }
         requires outside { is_in_scope (state_of self.old) ≡ false }
-        ensures decides { Decides self.new result (added_rule (state_of self.old) (shape_of shape.now)) }
+        ensures decides { Decides self.new result (added_rule_effect (state_of self.old) (shape_of shape.now)) }
         ensures keeps { Keeps self.old self.new }
     {
         ordering_law();

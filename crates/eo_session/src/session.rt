@@ -1,5 +1,5 @@
 //! A run between two commands.
-ghost use Rattle.std.specs.Prelude.{◌≡◌, ◌≢◌, false, true, not, ◌||◌, IfOk, Err, OnOk};
+ghost use Rattle.std.specs.Prelude.{◌≡◌, ◌≢◌, false, true, not, ◌||◌, IfOk, Err, OnOk, OnErr};
 ghost use Rattle.eo_base.specs.declared.FaultName.TheVariants.{FileAbsent};
 ghost use Rattle.eo_session.specs.declared.refused.Refused.TheVariants.{Fault};
 ghost use Rattle.eo_session.specs.Held.{state_of, IsWhole, IsSettled};
@@ -131,6 +131,7 @@ impl Session {
     /// `SecondReference`: there is one. `Ended`: the session is ended.
     pub fn begin_reference(&mut self) -> Result<(), Refused>
         ensures steps { Steps result (begin_reference self.old.state) self.old self.new }
+        ensures counted { self.new.state.commands ≡ self.old.state.commands }
     {
         if self.ended {
             return Err(Refused::Ended);
@@ -199,20 +200,23 @@ impl Session {
     /// It answers what is done before the next command: a file that the command names is opened, or
     /// the file of the command ends, which is no part of this call.
     ///
-    /// `Ended`: an earlier call was refused. `Memory`: want of memory.
+    /// `Ended`: an earlier call was refused. `Memory`: want of memory. A refused command is not counted.
     pub fn command(&mut self, s: &Sexp<'_>, from: Origin) -> Result<Next, Refused>
         ensures steps { StepsTo result (step self.old.state (origin_of from) s.now) self.old self.new }
         ensures present { result ≢ Err (Fault FileAbsent) }
+        ensures counted { OnErr result (self.new.state.commands ≡ self.old.state.commands) }
     {
         if self.ended {
             return Err(Refused::Ended);
         }
+        let accepted = self.held.commands;
         match run_command(&mut self.held, s, from) {
             Ok(next) => {
                 self.held.commands = self.held.commands.saturating_add(1);
                 Ok(next)
             }
             Err(e) => {
+                self.held.commands = accepted;
                 self.ended = true;
                 Err(e)
             }
@@ -250,7 +254,8 @@ impl Session {
         self.held.live()
     }
 
-    /// How many commands were accepted, or 2^64 - 1 where there were more.
+    /// How many commands were accepted, or 2^64 - 1 where there were more. A call that is refused
+    /// leaves it as it is.
     pub fn commands(&self) -> u64
         ensures { result ≡ self.now.state.commands }
     {

@@ -1,5 +1,6 @@
 use Rattle.eo_session.specs.Held.{state_of}
-use Rattle.eo_session.specs.Step.{checked_program}
+use Rattle.eo_sig.specs.Signature.{IsProgram}
+use Rattle.eo_session.specs.Decisions.{entry_effect}
 use Rattle.eo_session.proofs.Decided.{declared-refuses, declared-decides}
 use Rattle.eo_session.proofs.Holding.{keeps_table}
 use Rattle.eo_sig.specs.Reading.{read_program}
@@ -9,7 +10,7 @@ use Rattle.eo_session.proofs.held.Held.decide_added_program.Goals as goal
 
 pub returns-in_err-d-clause-decides : goal.returns-in_err-d-clause-decides
 returns-in_err-d-clause-decides c =
-    declared-refuses _ checked_program (state_of c.args.self.now) _ c.from_residual.result c.in_err-d.field-0.0 c.from_residual.ensures.1 c.in_err-d.ensures.gives
+    declared-refuses _ (λ z d. entry_effect z (IsProgram d)) (state_of c.args.self.now) _ c.from_residual.result c.in_err-d.field-0.0 c.from_residual.ensures.1 c.in_err-d.ensures.gives
 
 pub decide_entry-requires-clause-whole : goal.decide_entry-requires-clause-whole
 decide_entry-requires-clause-whole c = (keeps_table c.args.self.now c.requires.whole c.declared_program.new.table c.in_ok-d.ensures.grows.stays c.in_ok-d.ensures.grows.table).whole
@@ -17,7 +18,7 @@ decide_entry-requires-clause-whole c = (keeps_table c.args.self.now c.requires.w
 pub returns-clause-decides : goal.returns-clause-decides
 returns-clause-decides c =
     let keeps = keeps_table c.args.self.now c.requires.whole c.declared_program.new.table c.in_ok-d.ensures.grows.stays c.in_ok-d.ensures.grows.table in
-    declared-decides _ checked_program (state_of c.args.self.now) _ c.decide_entry.result _ (read_program c.declared_program.new.table.trees c.in_ok-d.d) keeps.same c.in_ok-d.ensures.gives.is c.decide_entry.ensures.decides
+    declared-decides _ (λ z d. entry_effect z (IsProgram d)) (state_of c.args.self.now) _ c.decide_entry.result _ (read_program c.declared_program.new.table.trees c.in_ok-d.d) keeps.same c.in_ok-d.ensures.gives.is c.decide_entry.ensures.decides
 
 pub decide_entry-requires-clause-outside : goal.decide_entry-requires-clause-outside
 decide_entry-requires-clause-outside c =

@@ -3,7 +3,8 @@ use Rattle.eo_elab.specs.Fitting.{FitsTerms}
 use Rattle.eo_elab.specs.Worlds.{labels_in}
 use Rattle.eo_names.specs.Contexts.{InAssert}
 use Rattle.eo_term.specs.Growth.{tree_in}
-use Rattle.eo_session.specs.Asserting.{asserted_as, MayBeNames}
+use Rattle.eo_session.specs.Asserting.{MayBeNames}
+use Rattle.eo_session.specs.Decisions.{asserted_effect}
 use Rattle.eo_session.specs.Held.{state_of}
 use Rattle.eo_session.specs.State.{State, context_in}
 use Rattle.eo_session.proofs.Decided.{decides-refused, decides-same}
@@ -37,7 +38,7 @@ returns-clause-decides c =
     let t = tree_in mid.table c.in_ok-id.id in
     let labels = labels_in mid.table c.read_assertion.new.names in
     decides-same c.decide_asserted.new.self c.decide_asserted.result _ _
-    (assert-is st s t labels c.in_ok-id.ensures.gives.is ∙ ap (λ (z : State). asserted_as z t labels) (sym c.in_ok-id.ensures.keeps.same))
+    (assert-is st s t labels c.in_ok-id.ensures.gives.is ∙ ap (λ (z : State). asserted_effect z t labels) (sym c.in_ok-id.ensures.keeps.same))
     c.decide_asserted.ensures.decides
 
 pub returns-clause-keeps : goal.returns-clause-keeps

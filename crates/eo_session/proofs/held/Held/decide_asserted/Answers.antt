@@ -5,11 +5,13 @@ use Rattle.std.proofs.lemmas.List.Elements.{All-weaker}
 use Rattle.eo_elab.specs.Worlds.{labels_in}
 use Rattle.eo_names.specs.Names.{Binding}
 use Rattle.eo_term.specs.Growth.{tree_in}
-use Rattle.eo_session.specs.Asserting.{asserted_as, MayBeNames}
+use Rattle.eo_session.specs.Asserting.{MayBeNames}
+use Rattle.eo_session.specs.Decisions.{asserted_effect}
+use Rattle.eo_session.specs.Effects.{Asserts}
 use Rattle.eo_session.specs.Deciding.{Decides}
 use Rattle.eo_session.specs.Held.{state_of}
-use Rattle.eo_session.specs.State.{is_in_scope, with_assertion}
-use Rattle.eo_session.specs.Step.{formula_of, with_labels}
+use Rattle.eo_session.specs.State.{is_in_scope}
+use Rattle.eo_session.specs.Step.{formula_of}
 use Rattle.eo_session.specs.Stepping.{GivesTerm}
 use Rattle.eo_session.specs.declared.effects.Effect.TheVariants as effect
 use Rattle.eo_session.specs.declared.refused.Refused.{Refused}
@@ -38,7 +40,7 @@ returns-clause-decides c =
     let keeps = c.formula_of.ensures.keeps in
     let given = subst (λ (r : Result ℕ Refused). GivesTerm new r (formula_of st t)) c.in_ok-formula.ensures.called c.formula_of.ensures.gives in
     let labels = labels_later h.table new.table keeps.grows names c.requires.below in
-    subst (λ (n : List Binding). Decides new (Ok (effect.Assert i n)) (asserted_as st t (labels_in h.table names))) (sym c.in_ok-formula.ensures.other)
+    subst (λ (n : List Binding). Decides new (Ok (effect.Assert i n)) (asserted_effect st t (labels_in h.table names))) (sym c.in_ok-formula.ensures.other)
     (record {
       live = record {
         live = given.live;
@@ -46,5 +48,5 @@ returns-clause-decides c =
         new = transport (λ j. MayBeNames (sym keeps.same j) (sym labels j)) c.requires.new;
         outside = ap is_in_scope keeps.same ∙ c.requires.outside;
       };
-      is = asserted-is st t (labels_in h.table names) v given.is ∙ (λ j. Ok (with_labels (with_assertion (sym keeps.same j) v) (sym labels j)));
+      is = asserted-is st t (labels_in h.table names) v given.is ∙ (λ j. Ok (Asserts v (sym labels j)));
     })

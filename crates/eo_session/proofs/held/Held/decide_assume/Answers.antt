@@ -3,7 +3,7 @@ use Rattle.eo_term.specs.Growth.{tree_in}
 use Rattle.eo_session.specs.Held.{state_of}
 use Rattle.eo_session.specs.State.{State}
 use Rattle.eo_session.specs.Step.{is_free_fact}
-use Rattle.eo_session.proofs.Decided.{assume-taken, assume-fault, assume-ok, decides-given, decides-refused}
+use Rattle.eo_session.proofs.Decided.{assume-taken, assume-fault, assume-ok, decides-refused}
 use Rattle.eo_session.proofs.held.Held.decide_assume.Goals as goal
 
 pub returns-then-is_taken-clause-decides : goal.returns-then-is_taken-clause-decides
@@ -22,6 +22,7 @@ returns-clause-decides c =
     let new = c.asserted_formula.new.self in
     let told = c.in_ok-formula.ensures in
     let free = sym c.is_taken.ensures ∙ ap not c.if-is_taken.false in
-    decides-given c.args.self.now new told.keeps _ _
-    (record { value = told.value; free = ap (λ (z : State). is_free_fact z name) told.keeps.same ∙ free })
-    (assume-ok st name c.args.formula.now free (tree_in new.table c.in_ok-formula.formula) told.gives.is)
+    record {
+      live = record { value = told.value; free = ap (λ (z : State). is_free_fact z name) told.keeps.same ∙ free };
+      is = assume-ok st name c.args.formula.now free (tree_in new.table c.in_ok-formula.formula) told.gives.is;
+    }

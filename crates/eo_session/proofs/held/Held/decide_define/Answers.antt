@@ -1,6 +1,6 @@
 use Rattle.std.proofs.Common.{sym, ◌∙◌, subst}
 use Rattle.eo_session.specs.Held.{state_of}
-use Rattle.eo_session.specs.Step.{added_macro}
+use Rattle.eo_session.specs.Decisions.{macro_effect}
 use Rattle.eo_session.proofs.Decided.{declared-refuses, declared-decides}
 use Rattle.eo_session.proofs.Holding.{keeps_table}
 use Rattle.eo_session.specs.State.{State, context}
@@ -10,7 +10,7 @@ use Rattle.eo_session.proofs.held.Held.decide_define.Goals as goal
 
 pub returns-in_err-d-clause-decides : goal.returns-in_err-d-clause-decides
 returns-in_err-d-clause-decides c =
-    declared-refuses _ added_macro (state_of c.args.self.now) _ c.from_residual.result c.in_err-d.field-0.0 c.from_residual.ensures.1 c.in_err-d.ensures.gives
+    declared-refuses _ macro_effect (state_of c.args.self.now) _ c.from_residual.result c.in_err-d.field-0.0 c.from_residual.ensures.1 c.in_err-d.ensures.gives
 
 pub decide_macro-requires-clause-whole : goal.decide_macro-requires-clause-whole
 decide_macro-requires-clause-whole c = (keeps_table c.args.self.now c.requires c.defined.new.table c.in_ok-d.ensures.grows.stays c.in_ok-d.ensures.grows.table).whole
@@ -27,7 +27,7 @@ decide_macro-requires-clause-bound c =
 pub returns-clause-decides : goal.returns-clause-decides
 returns-clause-decides c =
     let keeps = keeps_table c.args.self.now c.requires c.defined.new.table c.in_ok-d.ensures.grows.stays c.in_ok-d.ensures.grows.table in
-    declared-decides _ added_macro (state_of c.args.self.now) _ c.decide_macro.result _ (read_macro c.defined.new.table.trees c.in_ok-d.d) keeps.same c.in_ok-d.ensures.gives.is c.decide_macro.ensures.decides
+    declared-decides _ macro_effect (state_of c.args.self.now) _ c.decide_macro.result _ (read_macro c.defined.new.table.trees c.in_ok-d.d) keeps.same c.in_ok-d.ensures.gives.is c.decide_macro.ensures.decides
 
 pub decide_free-requires-clause-free : goal.decide_free-requires-clause-free
 decide_free-requires-clause-free c = λ ts. sym (c.is_free.ensures ts) ∙ c.if-is_free.true

@@ -3,9 +3,10 @@ use Rattle.std.specs.Prelude.{Ok}
 use Rattle.eo_sig.specs.Adding.{entry_fault}
 use Rattle.eo_sig.specs.Reading.{read_entry, signature}
 use Rattle.eo_sig.specs.declared.records.Declared.{Declared}
-use Rattle.eo_session.specs.Deciding.{Decides, MayDeclare, checked_entry}
+use Rattle.eo_session.specs.Deciding.{Decides, MayDeclare}
+use Rattle.eo_session.specs.Decisions.{entry_effect}
+use Rattle.eo_session.specs.Effects.{Declares}
 use Rattle.eo_session.specs.Held.{state_of}
-use Rattle.eo_session.specs.State.{with_entry}
 use Rattle.eo_session.specs.declared.effects.Effect.TheVariants as effect
 use Rattle.eo_session.proofs.Adding.{no_fault-fails, no_fault-passes}
 use Rattle.eo_session.proofs.Decided.{entry-refused, entry-sound}
@@ -18,8 +19,8 @@ returns-in_err-d c =
     let fault = entry_fault (signature h.table.trees h.signature) e in
     record {
       decides =
-          entry-refused (checked_entry (state_of h) e) fault c.check.result _ c.from_residual.result h c.check.ensures.tells c.in_err-d.ensures.refused c.from_residual.ensures.1
-          (no_fault-fails fault (λ _. Ok (with_entry (state_of h) e)));
+          entry-refused (entry_effect (state_of h) e) fault c.check.result _ c.from_residual.result h c.check.ensures.tells c.in_err-d.ensures.refused c.from_residual.ensures.1
+          (no_fault-fails fault (λ _. Ok (Declares e)));
     }
 
 pub returns : goal.returns
@@ -30,9 +31,9 @@ returns c =
     let sound = entry-sound fault c.check.result _ c.check.ensures.tells c.in_ok-d.ensures.called in
     record {
       decides =
-          subst (λ (d : Declared). Decides h (Ok (effect.Declare d)) (checked_entry (state_of h) e)) (sym c.in_ok-d.ensures.other)
+          subst (λ (d : Declared). Decides h (Ok (effect.Declare d)) (entry_effect (state_of h) e)) (sym c.in_ok-d.ensures.other)
           (record {
             live = record { below = c.requires.below; free = c.requires.free; sound = sound; ordered = c.requires.ordered; outside = c.requires.outside };
-            is = no_fault-passes fault (λ _. Ok (with_entry (state_of h) e)) sound;
+            is = no_fault-passes fault (λ _. Ok (Declares e)) sound;
           });
     }

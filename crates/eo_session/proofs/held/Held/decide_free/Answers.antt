@@ -4,7 +4,7 @@ use Rattle.eo_elab.specs.Worlds.{context_in}
 use Rattle.eo_sig.specs.Reading.{read_macro, signature, macros, IsFree}
 use Rattle.eo_sig.specs.Signature.{is_free}
 use Rattle.eo_session.specs.Held.{state_of}
-use Rattle.eo_session.specs.Step.{added_macro}
+use Rattle.eo_session.specs.Decisions.{macro_effect}
 use Rattle.eo_session.proofs.Adding.{free-none, macro-new, found}
 use Rattle.eo_session.proofs.Decided.{declared-refuses, declared-decides}
 use Rattle.eo_session.proofs.Holding.{keeps_table}
@@ -19,7 +19,7 @@ defined_allowed-requires-clause-may c =
 
 pub returns-in_err-d-clause-decides : goal.returns-in_err-d-clause-decides
 returns-in_err-d-clause-decides c =
-    declared-refuses _ added_macro (state_of c.args.self.now) _ c.from_residual.result c.in_err-d.field-0.0 c.from_residual.ensures.1 c.in_err-d.ensures.gives
+    declared-refuses _ macro_effect (state_of c.args.self.now) _ c.from_residual.result c.in_err-d.field-0.0 c.from_residual.ensures.1 c.in_err-d.ensures.gives
 
 pub returns-clause-decides : goal.returns-clause-decides
 returns-clause-decides c =
@@ -32,7 +32,7 @@ returns-clause-decides c =
     let nothing : found mid d.name ≡ None = free-none (signature t.trees h.signature) (macros t.trees h.signature) d.name (subst (λ (n : List ℕ). is_free (signature t.trees h.signature) (macros t.trees h.signature) n ≡ true) (sym c.in_ok-d.ensures.named) (c.requires.free t.trees)) in
     let free = subst (λ (n : List ℕ). IsFree h.signature n) (sym c.in_ok-d.ensures.named) (c.requires.free []) in
     let bound = c.ordering_law.ensures.macros _ _ _ _ d c.requires.whole.held.terms c.in_ok-d.ensures.gives.is in
-    declared-decides _ added_macro (state_of h) new (Ok (effect.Define c.in_ok-d.d)) mid d keeps.same c.in_ok-d.ensures.gives.is
+    declared-decides _ macro_effect (state_of h) new (Ok (effect.Define c.in_ok-d.d)) mid d keeps.same c.in_ok-d.ensures.gives.is
     (record { live = record { below = c.in_ok-d.ensures.gives.live; free = free; bound = bound }; is = macro-new mid d nothing })
 
 pub returns-clause-keeps : goal.returns-clause-keeps

@@ -1,5 +1,6 @@
 use Rattle.eo_session.specs.Held.{state_of}
-use Rattle.eo_session.specs.Step.{checked_literals}
+use Rattle.eo_sig.specs.Signature.{IsLiteralType}
+use Rattle.eo_session.specs.Decisions.{entry_effect}
 use Rattle.eo_session.proofs.Decided.{declared-refuses, declared-decides}
 use Rattle.eo_session.proofs.Holding.{keeps_table}
 use Rattle.eo_term.specs.Terms.{tree_at}
@@ -9,7 +10,7 @@ use Rattle.eo_session.proofs.held.Held.decide_literals.Goals as goal
 
 pub returns-in_err-ty-clause-decides : goal.returns-in_err-ty-clause-decides
 returns-in_err-ty-clause-decides c =
-    declared-refuses _ (λ z. checked_literals z c.args.class) (state_of c.args.self.now) _ c.from_residual.result c.in_err-ty.field-0.0 c.from_residual.ensures.1 c.in_err-ty.ensures.gives
+    declared-refuses _ (λ z t. entry_effect z (IsLiteralType c.args.class t)) (state_of c.args.self.now) _ c.from_residual.result c.in_err-ty.field-0.0 c.from_residual.ensures.1 c.in_err-ty.ensures.gives
 
 pub decide_entry-requires-clause-whole : goal.decide_entry-requires-clause-whole
 decide_entry-requires-clause-whole c = (keeps_table c.args.self.now c.requires.whole c.declared_literals.new.table c.in_ok-ty.ensures.grows.stays c.in_ok-ty.ensures.grows.table).whole
@@ -17,7 +18,7 @@ decide_entry-requires-clause-whole c = (keeps_table c.args.self.now c.requires.w
 pub returns-clause-decides : goal.returns-clause-decides
 returns-clause-decides c =
     let keeps = keeps_table c.args.self.now c.requires.whole c.declared_literals.new.table c.in_ok-ty.ensures.grows.stays c.in_ok-ty.ensures.grows.table in
-    declared-decides _ (λ z. checked_literals z c.args.class) (state_of c.args.self.now) _ c.decide_entry.result _ (tree_at c.declared_literals.new.table.trees c.in_ok-ty.ty) keeps.same c.in_ok-ty.ensures.gives.is c.decide_entry.ensures.decides
+    declared-decides _ (λ z t. entry_effect z (IsLiteralType c.args.class t)) (state_of c.args.self.now) _ c.decide_entry.result _ (tree_at c.declared_literals.new.table.trees c.in_ok-ty.ty) keeps.same c.in_ok-ty.ensures.gives.is c.decide_entry.ensures.decides
 
 pub decide_entry-requires-clause-outside : goal.decide_entry-requires-clause-outside
 decide_entry-requires-clause-outside c =

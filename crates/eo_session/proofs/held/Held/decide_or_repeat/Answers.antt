@@ -1,10 +1,7 @@
 use Rattle.std.proofs.Common.{sym, ◌∙◌}
 use Rattle.eo_sig.specs.Reading.{read_constant, read_named}
-use Rattle.eo_sig.specs.Signature.{IsConstant, constant_fault}
-use Rattle.std.specs.Prelude.{Ok}
 use Rattle.eo_session.specs.Held.{state_of}
-use Rattle.eo_session.specs.State.{with_entry}
-use Rattle.eo_session.proofs.Adding.{found-none, found-some, found-free, added-new, added-repeat, added-redeclared, no_fault-passes}
+use Rattle.eo_session.proofs.Adding.{found-none, found-some, found-free, added-new, added-repeat, added-redeclared}
 use Rattle.eo_session.proofs.held.Held.decide_or_repeat.Goals as goal
 
 pub returns-in-None : goal.returns-in-None
@@ -16,7 +13,7 @@ returns-in-None c =
     record {
       decides = record {
         live = record { below = c.requires.below; free = free; sound = c.requires.may.sound; ordered = tt; outside = c.requires.outside };
-        is = added-new (state_of h) d c.requires.may is ∙ no_fault-passes (constant_fault d) (λ _. Ok (with_entry (state_of h) (IsConstant d))) c.requires.may.sound;
+        is = added-new (state_of h) d c.requires.may is;
       };
     }
 

@@ -6,7 +6,7 @@ use Rattle.eo_session.specs.State.{State, without_scope}
 use Rattle.eo_session.specs.Step.{is_free_fact}
 use Rattle.eo_session.specs.Using.{read_conclusion}
 use Rattle.eo_session.proofs.Concluding.{outside-fault, outside-ok}
-use Rattle.eo_session.proofs.Decided.{decides-given, decides-refused}
+use Rattle.eo_session.proofs.Decided.{decides-refused}
 use Rattle.eo_session.proofs.Used.{discharges_innermost, free_outside}
 use Rattle.eo_session.proofs.held.Held.decide_outside.Goals as goal
 
@@ -26,6 +26,7 @@ returns-clause-decides c =
     let s = read_step c.args.shape.now in
     let new = c.concluded.new.self in
     let told = c.in_ok-conclusion.ensures in
-    decides-given h new told.keeps _ _
-    (record { value = told.gives.live; free = ap (λ (z : State). is_free_fact (without_scope z) s.name) told.keeps.same ∙ free_outside st s.name c.requires.free })
-    (outside-ok st s (tree_in h.table c.args.assumed) (read_conclusion new.table c.in_ok-conclusion.conclusion) told.gives.is)
+    record {
+      live = record { value = told.gives.live; free = ap (λ (z : State). is_free_fact (without_scope z) s.name) told.keeps.same ∙ free_outside st s.name c.requires.free };
+      is = outside-ok st s (tree_in h.table c.args.assumed) (read_conclusion new.table c.in_ok-conclusion.conclusion) told.gives.is;
+    }

@@ -4,7 +4,7 @@ use Rattle.eo_shape.specs.Reading.{read_command}
 use Rattle.eo_session.specs.Deciding.{Decides}
 use Rattle.eo_session.specs.Held.{state_of}
 use Rattle.eo_session.specs.Numbered.{origin_of}
-use Rattle.eo_session.specs.State.{State}
+use Rattle.eo_session.specs.Effects.{Effect}
 use Rattle.eo_session.proofs.Dispatch.{does-in_scope}
 use Rattle.eo_session.proofs.Sessions.{scope-ok}
 use Rattle.eo_session.proofs.held.Held.decide_placed.Goals as goal
@@ -15,7 +15,7 @@ returns-then-not-may_stand-clause-decides c =
 
 pub returns-clause-decides : goal.returns-clause-decides
 returns-clause-decides c =
-    subst (λ (m : Checked State). Decides c.decide_own.new.self c.decide_own.result m)
+    subst (λ (m : Checked Effect). Decides c.decide_own.new.self c.decide_own.result m)
     (sym (scope-ok (state_of c.args.self.now) (origin_of c.args.from) (read_command c.args.command.now) (sym c.may_stand.ensures ∙ c.if-not-may_stand.false)))
     c.decide_own.ensures.decides
 

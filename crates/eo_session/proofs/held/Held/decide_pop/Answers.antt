@@ -4,7 +4,7 @@ use Rattle.eo_shape.specs.Reading.{read_step}
 use Rattle.eo_term.specs.Growth.{tree_in}
 use Rattle.eo_session.specs.Held.{state_of}
 use Rattle.eo_base.specs.Checks.{Checked}
-use Rattle.eo_session.specs.State.{State}
+use Rattle.eo_session.specs.Effects.{Effect}
 use Rattle.eo_session.specs.Deciding.{Decides}
 use Rattle.eo_session.proofs.Concluding.{pop-none, pop-redeclared, pop-free}
 use Rattle.eo_session.proofs.held.Held.decide_pop.Goals as goal
@@ -37,6 +37,6 @@ pub returns-clause-decides : goal.returns-clause-decides
 returns-clause-decides c =
     let h = c.args.self.now in
     let is = sym (c.hypothesis.ensures.innermost h.table.trees) ∙ ap (option_map (tree_in h.table)) c.in-Some.is in
-    subst (λ (m : Checked State). Decides c.decide_outside.new.self c.decide_outside.result m)
+    subst (λ (m : Checked Effect). Decides c.decide_outside.new.self c.decide_outside.result m)
     (sym (pop-free (state_of h) (read_step c.args.shape.now) (tree_in h.table c.in-Some.assumed) is (sym c.is_free_outside.ensures ∙ c.if-not-is_free_outside.false)))
     c.decide_outside.ensures.decides

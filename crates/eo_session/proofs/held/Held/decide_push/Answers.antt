@@ -6,7 +6,7 @@ use Rattle.eo_proof.specs.Scopes.{depth, is_live, scope_limit}
 use Rattle.eo_session.specs.Held.{state_of}
 use Rattle.eo_session.specs.State.{State}
 use Rattle.eo_session.specs.Step.{is_free_fact}
-use Rattle.eo_session.proofs.Decided.{decides-given, decides-refused}
+use Rattle.eo_session.proofs.Decided.{decides-refused}
 use Rattle.eo_session.proofs.Sessions.{not_taken, push-deep, push-redeclared, push-fault, push-ok, is_less}
 use Rattle.eo_session.proofs.held.Held.decide_push.Goals as goal
 
@@ -31,10 +31,11 @@ returns-clause-decides c =
     let told = c.in_ok-hypothesis.ensures in
     let few : nat_lt (depth st.scopes) scope_limit ≡ true = sym c.has_room.ensures ∙ c.if-not-has_room.false in
     let free : is_free_fact st name ≡ true = sym c.is_taken.ensures ∙ ap not c.if-is_taken.false in
-    decides-given c.args.self.now new told.keeps _ _
-    (record {
-      value = told.value;
-      few = is_less (depth (state_of new).scopes) scope_limit (ap (λ (z : State). nat_lt (depth z.scopes) scope_limit) told.keeps.same ∙ few);
-      free = ap (λ (z : State). is_live z.scopes name) told.keeps.same ∙ (not_taken (is_reserved name) (is_live st.scopes name) free).1;
-    })
-    (push-ok st name c.args.formula.now few free (tree_in new.table c.in_ok-hypothesis.hypothesis) told.gives.is)
+    record {
+      live = record {
+        value = told.value;
+        few = is_less (depth (state_of new).scopes) scope_limit (ap (λ (z : State). nat_lt (depth z.scopes) scope_limit) told.keeps.same ∙ few);
+        free = ap (λ (z : State). is_live z.scopes name) told.keeps.same ∙ (not_taken (is_reserved name) (is_live st.scopes name) free).1;
+      };
+      is = push-ok st name c.args.formula.now few free (tree_in new.table c.in_ok-hypothesis.hypothesis) told.gives.is;
+    }

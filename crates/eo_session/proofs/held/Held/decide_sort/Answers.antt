@@ -1,7 +1,7 @@
 use Rattle.eo_session.proofs.Used.{keeps_on}
 use Rattle.std.proofs.Common.{sym, subst, ap, ◌∙◌}
 use Rattle.eo_session.specs.Held.{state_of}
-use Rattle.eo_session.specs.Step.{typed_constant}
+use Rattle.eo_session.specs.Decisions.{typed_effect}
 use Rattle.eo_session.proofs.Adding.{sort-alone, none-read}
 use Rattle.eo_session.proofs.Decided.{declared-refuses, declared-decides}
 use Rattle.eo_session.proofs.Holding.{keeps_table}
@@ -12,7 +12,7 @@ use Rattle.eo_session.proofs.held.Held.decide_sort.Goals as goal
 
 pub returns-in_err-d-clause-decides : goal.returns-in_err-d-clause-decides
 returns-in_err-d-clause-decides c =
-    declared-refuses _ typed_constant (state_of c.args.self.now) _ c.from_residual.result c.in_err-d.field-0.0 c.from_residual.ensures.1 c.in_err-d.ensures.gives
+    declared-refuses _ typed_effect (state_of c.args.self.now) _ c.from_residual.result c.in_err-d.field-0.0 c.from_residual.ensures.1 c.in_err-d.ensures.gives
 
 pub decide_valued-requires-clause-whole : goal.decide_valued-requires-clause-whole
 decide_valued-requires-clause-whole c = (keeps_table c.args.self.now c.requires.whole c.declared_sort.new.table c.in_ok-d.ensures.grows.stays c.in_ok-d.ensures.grows.table).whole
@@ -25,7 +25,7 @@ decide_valued-requires-clause-may c =
 pub returns-clause-decides : goal.returns-clause-decides
 returns-clause-decides c =
     let keeps = keeps_table c.args.self.now c.requires.whole c.declared_sort.new.table c.in_ok-d.ensures.grows.stays c.in_ok-d.ensures.grows.table in
-    declared-decides _ typed_constant (state_of c.args.self.now) _ c.decide_valued.result _ (read_constant c.declared_sort.new.table.trees c.in_ok-d.d) keeps.same c.in_ok-d.ensures.gives.is c.decide_valued.ensures.decides
+    declared-decides _ typed_effect (state_of c.args.self.now) _ c.decide_valued.result _ (read_constant c.declared_sort.new.table.trees c.in_ok-d.d) keeps.same c.in_ok-d.ensures.gives.is c.decide_valued.ensures.decides
 
 pub decide_valued-requires-clause-alone : goal.decide_valued-requires-clause-alone
 decide_valued-requires-clause-alone c =

@@ -4,7 +4,7 @@ use Rattle.eo_session.specs.Held.{state_of}
 use Rattle.eo_session.specs.State.{State}
 use Rattle.eo_session.specs.Step.{is_free_fact}
 use Rattle.eo_session.specs.Using.{read_conclusion}
-use Rattle.eo_session.proofs.Decided.{step-taken, step-fault, step-ok, decides-given, decides-refused}
+use Rattle.eo_session.proofs.Decided.{step-taken, step-fault, step-ok, decides-refused}
 use Rattle.eo_session.proofs.Used.{nothing_discharged}
 use Rattle.eo_session.proofs.held.Held.decide_step.Goals as goal
 
@@ -27,6 +27,7 @@ returns-clause-decides c =
     let new = c.concluded.new.self in
     let told = c.in_ok-conclusion.ensures in
     let free = sym c.is_taken.ensures ∙ ap not c.if-is_taken.false in
-    decides-given c.args.self.now new told.keeps _ _
-    (record { value = told.gives.live; free = ap (λ (z : State). is_free_fact z s.name) told.keeps.same ∙ free })
-    (step-ok st s free (read_conclusion new.table c.in_ok-conclusion.conclusion) told.gives.is)
+    record {
+      live = record { value = told.gives.live; free = ap (λ (z : State). is_free_fact z s.name) told.keeps.same ∙ free };
+      is = step-ok st s free (read_conclusion new.table c.in_ok-conclusion.conclusion) told.gives.is;
+    }

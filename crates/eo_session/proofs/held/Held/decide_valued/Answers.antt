@@ -6,7 +6,7 @@ use Rattle.eo_term.specs.Terms.{tree_at}
 use Rattle.eo_declare.specs.Declarations.{is_free_or_reference}
 use Rattle.eo_session.specs.Held.{state_of}
 use Rattle.eo_session.specs.State.{State, context, is_in_scope}
-use Rattle.eo_session.specs.Step.{added_constant}
+use Rattle.eo_session.specs.Decisions.{constant_effect}
 use Rattle.eo_session.proofs.Adding.{typed-fault, typed-added, sound-value}
 use Rattle.eo_session.proofs.Decided.{decides-refused, decides-same}
 use Rattle.eo_session.proofs.held.Held.decide_valued.Goals as goal
@@ -39,7 +39,7 @@ returns-clause-decides c =
     let same = ap (λ (x : Constant). record x { type = v }) (c.laws.ensures c.args.self.now.table c.type_value.new.self.table c.requires.below c.in_ok-ty.ensures.keeps.grows.now) in
     let kept = c.in_ok-ty.ensures.keeps.same in
     decides-same c.type_value.new.self c.decide_or_repeat.result _ _
-    (typed-added (state_of h) d v c.in_ok-ty.ensures.gives.is ∙ sym (λ i. added_constant (kept i) (same i)))
+    (typed-added (state_of h) d v c.in_ok-ty.ensures.gives.is ∙ sym (λ i. constant_effect (kept i) (same i)))
     c.decide_or_repeat.ensures.decides
 
 pub decide_or_repeat-requires-clause-outside : goal.decide_or_repeat-requires-clause-outside

@@ -1,0 +1,35 @@
+use Rattle.std.proofs.Common.{sym, ap, ◌∙◌}
+use Rattle.std.specs.Prelude.{Ok, Result}
+use Rattle.eo_base.proofs.Answering.{at_exit}
+use Rattle.eo_shape.specs.Reading.{read_command}
+use Rattle.eo_session.specs.Commands.{placed_command}
+use Rattle.eo_session.specs.Deciding.{read_effect}
+use Rattle.eo_session.specs.Effects.{after}
+use Rattle.eo_session.specs.Held.{state_of}
+use Rattle.eo_session.specs.Numbered.{origin_of}
+use Rattle.eo_session.specs.State.{State}
+use Rattle.eo_session.specs.Stepping.{DoesNext}
+use Rattle.eo_session.specs.declared.Next.{Next}
+use Rattle.eo_session.specs.declared.refused.Refused.{Refused}
+use Rattle.eo_session.proofs.Decisions.{does-decided, does-refused}
+use Rattle.eo_session.proofs.Sessions.{refuses_on}
+use Rattle.eo_session.proofs.session.run_decided.Goals as goal
+
+pub returns-in_err-decided-clause-does : goal.returns-in_err-decided-clause-does
+returns-in_err-decided-clause-does c =
+    let st = state_of c.args.held.now in
+    let from = origin_of c.args.from in
+    let k = read_command c.args.command.now in
+    let x = c.in_err-decided.field-0.0 in
+    at_exit (λ (r : Result Next Refused). DoesNext r (placed_command st from k) c.decide.new.self) c.from_residual.result x c.from_residual.ensures.1
+    (refuses_on _ (placed_command st from k) x c.in_err-decided.ensures.decides (does-refused st from k))
+
+pub returns-clause-does : goal.returns-clause-does
+returns-clause-does c =
+    let mid = c.decide.new.self in
+    let told = c.in_ok-decided.ensures in
+    let e = read_effect mid.table c.in_ok-decided.decided.effect in
+    let what = c.in_ok-decided.decided.next in
+    does-decided (state_of c.args.held.now) (origin_of c.args.from) (read_command c.args.command.now) e what told.decides.is
+    ∙ ap (λ (st : State). Ok (after st e, what)) (sym told.keeps.same)
+    ∙ ap (λ (st : State). Ok (st, what)) (sym c.in_ok-commit.ensures.does)
