@@ -7,7 +7,7 @@ use mathlib.Core.Path.{fun_ext}
 use Rattle.eo_term.specs.Tree.{Tree, Con, Num, Bits, Str, Par, Var, App, Arr, Qar, Op, Trees, NoTree, More, to_list, is_closed, all_closed, occurs, occurs_in, occurs_in_all, is_tall}
 use Rattle.eo_term.specs.declared.OpCode.{OpCode}
 use Rattle.eo_base.proofs.Elements.{holds_more}
-use Rattle.eo_base.proofs.Tests.{or_second, both, clash}
+use Rattle.eo_base.proofs.Tests.{or_second, both, clash, none_is}
 use Rattle.eo_term.specs.ParamSet.{has}
 use Rattle.std.specs.Prelude.{◌≢◌, IfSome, IfNone}
 use Rattle.eo_term.specs.Memo.{told, TellsOnly}
@@ -86,7 +86,7 @@ mutual
 
 pub put_missed : (ts : List Tree) (s : Slots) (set own : ℕ) (t : Tree) → IsAssigned set s → ((i : ℕ) → has own i ≡ occurs i t) → ((i : ℕ) → has own i ≡ true → i < 64) → ((i : ℕ) → has own i ≡ true → has set i ≡ false) → put (held ts s) t ≡ t
 put_missed ts s set own t a same small apart =
-    put_agree (held ts s) empty t (λ i o. let own_has = same i ∙ o in ap (option_map (tree_at ts)) (a.lacks i (small i own_has) (apart i own_has))) ∙ put_nothing t
+    put_agree (held ts s) empty t (λ i o. let own_has = same i ∙ o in ap (option_map (tree_at ts)) (none_is _ (sym (a.tells i (small i own_has)) ∙ apart i own_has))) ∙ put_nothing t
 
 pub closed_equal : (σ : Assignment) (p t : Tree) → is_closed p ≡ true → p ≡ t → Matches σ (p ∷ []) (t ∷ []) σ
 closed_equal σ p t h e = record {

@@ -4,7 +4,7 @@ use Rattle.eo_term.specs.Tree.{Tree, to_list, height}
 use Rattle.eo_term.specs.Terms.{Terms, tree_at}
 use Rattle.eo_term.specs.Arguments.{arguments_of, from}
 use Rattle.eo_pattern.specs.Matching.{Assignment, Matches}
-use Rattle.eo_pattern.specs.Slots.{Slots, held, Leads}
+use Rattle.eo_pattern.specs.Slots.{Slots, held, Leads, Keeps}
 use Rattle.eo_pattern.specs.Matched.{IsPair, ArePairs}
 use Rattle.eo_pattern.specs.ToDo.{ToDo}
 use Rattle.eo_pattern.specs.Sizes.{size, size_all}
@@ -72,6 +72,16 @@ IsLive t s (task.Done p u) = Unit {0}
 abbrev pub AreLive : Terms → Slots → List Task → Type 0
 AreLive t s [] = Unit {0}
 AreLive t s (w ∷ ws) = IsLive t s w × AreLive t s ws
+
+-- a task that comes first: its terms are there, and a pair that is done by then is equal
+pub record IsFirst (t : Terms) (s : Slots) (w : Task) : Type 0 where
+  pub live : IsLive t s w
+  pub closes : ClosesOne t.trees (held t.trees s) [] [] w
+
+-- the room of the slots and of the tasks stays, and what the slots hold then is below n
+pub record Stays (n : ℕ) (old new : Slots) (before after : ToDo) : Type 0 where
+  pub slots : Keeps n old new
+  pub tasks : after.room ≡ before.room
 
 -- Tasks that are there, and lead from first patterns and trees to what is left of them.
 pub record AreLeft (t : Terms) (first : Slots) (ps us : List Tree) (now : Slots) (todo : ToDo) : Type 0 where

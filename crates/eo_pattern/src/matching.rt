@@ -6,7 +6,7 @@ ghost use Rattle.eo_pattern.specs.Slots.{held, AreBelow, AreEmpty, HasRoom, Keep
 ghost use Rattle.eo_pattern.specs.Matched.{ArePaired, IsPair, ArePairs, Matched, Unmatched, MatchedTrees};
 ghost use Rattle.eo_pattern.specs.Matched.{UnmatchedTrees, AreMatched};
 ghost use Rattle.eo_pattern.specs.Split.{IsSplit};
-ghost use Rattle.eo_pattern.specs.Tasks.{takes, ClosesOne, IsLive, Becomes, IsRefused};
+ghost use Rattle.eo_pattern.specs.Tasks.{takes, IsFirst, Becomes, IsRefused, Stays};
 ghost use Rattle.eo_pattern.specs.declared.tasks.Task.TheVariants as task;
 
 use crate::Subst;
@@ -56,8 +56,7 @@ fn match_all(
     ensures yes { IsTrue result → Matched table.now subst.old patterns.now terms.now subst.new }
     ensures no { IsFalse result → Unmatched table.now subst.old patterns.now terms.now }
     ensures empty { IsFalse result → AreEmpty subst.new }
-    ensures kept { Keeps (length table.now.trees) subst.old subst.new }
-    ensures tasks { tasks.new.room ≡ tasks.old.room }
+    ensures stays { Stays (length table.now.trees) subst.old subst.new tasks.old tasks.new }
 {
     for i in 0..patterns.len() {
         if !match_pattern(table, patterns[i], terms[i], subst, tasks, pairs) {
@@ -83,8 +82,7 @@ fn match_pattern(
     requires tasks { 2 * height (tree_in table.now pattern) ≤ tasks.old.room }
     ensures yes { IsTrue result → Matched table.now subst.old (pattern ∷ []) (term ∷ []) subst.new }
     ensures no { IsFalse result → Unmatched table.now subst.old (pattern ∷ []) (term ∷ []) }
-    ensures kept { Keeps (length table.now.trees) subst.old subst.new }
-    ensures tasks { tasks.new.room ≡ tasks.old.room }
+    ensures stays { Stays (length table.now.trees) subst.old subst.new tasks.old tasks.new }
 {
     pairs.begin(is_large(table, pattern));
     match_walk(table, pattern, term, subst, tasks, pairs)
@@ -105,8 +103,7 @@ fn match_walk(
     requires matched { AreMatched table.now.trees (held table.now.trees subst.old) pairs.old }
     ensures yes { IsTrue result → Matched table.now subst.old (pattern ∷ []) (term ∷ []) subst.new }
     ensures no { IsFalse result → Unmatched table.now subst.old (pattern ∷ []) (term ∷ []) }
-    ensures kept { Keeps (length table.now.trees) subst.old subst.new }
-    ensures tasks { tasks.new.room ≡ tasks.old.room }
+    ensures stays { Stays (length table.now.trees) subst.old subst.new tasks.old tasks.new }
 {
     tasks.begin(Task::Pair(pattern, term));
     loop {
@@ -127,16 +124,14 @@ fn match_next(
     tasks: &mut Tasks,
     pairs: &mut Pairs,
 ) -> bool
-    requires live { IsLive table.now subst.old next.now }
+    requires first { IsFirst table.now subst.old next.now }
     requires below { AreBelow (length table.now.trees) subst.old }
     requires room { length tasks.old.tasks + takes table.now.trees next.now ≤ tasks.old.room + 2 }
-    requires closes { ClosesOne table.now.trees (held table.now.trees subst.old) [] [] next.now }
     requires matched { AreMatched table.now.trees (held table.now.trees subst.old) pairs.old }
     ensures yes { IsTrue result → Becomes 0 table.now subst.old next.now tasks.old subst.new tasks.new }
     ensures no { IsFalse result → IsRefused table.now subst.old next.now }
     ensures matched { IsTrue result → AreMatched table.now.trees (held table.now.trees subst.new) pairs.new }
-    ensures kept { Keeps (length table.now.trees) subst.old subst.new }
-    ensures tasks { tasks.new.room ≡ tasks.old.room }
+    ensures stays { Stays (length table.now.trees) subst.old subst.new tasks.old tasks.new }
 {
     match *next {
         Task::Pair(pattern, term) => match_pair(table, pattern, term, subst, tasks, pairs),
@@ -172,8 +167,7 @@ fn match_pair(
     ensures yes { IsTrue result → Becomes 0 table.now subst.old (task.Pair pattern term) tasks.old subst.new tasks.new }
     ensures no { IsFalse result → Unmatched table.now subst.old (pattern ∷ []) (term ∷ []) }
     ensures matched { IsTrue result → AreMatched table.now.trees (held table.now.trees subst.new) pairs.new }
-    ensures kept { Keeps (length table.now.trees) subst.old subst.new }
-    ensures tasks { tasks.new.room ≡ tasks.old.room }
+    ensures stays { Stays (length table.now.trees) subst.old subst.new tasks.old tasks.new }
 {
     if !pairs.is_used() || table.is_closed(pattern) || table.height(pattern) < 3 {
         return match_roots(table, pattern, term, subst, tasks);
@@ -191,8 +185,7 @@ fn match_tall(table: &Table, pattern: Id, term: Id, subst: &mut Held, tasks: &mu
     requires room { length tasks.old.tasks + 2 * height (tree_in table.now pattern) ≤ tasks.old.room + 1 }
     ensures yes { IsTrue result → Becomes 0 table.now subst.old (task.Pair pattern term) tasks.old subst.new tasks.new }
     ensures no { IsFalse result → Unmatched table.now subst.old (pattern ∷ []) (term ∷ []) }
-    ensures kept { Keeps (length table.now.trees) subst.old subst.new }
-    ensures tasks { tasks.new.room ≡ tasks.old.room }
+    ensures stays { Stays (length table.now.trees) subst.old subst.new tasks.old tasks.new }
 {
     tasks.push(Task::Done(pattern, term));
     match_roots(table, pattern, term, subst, tasks)
@@ -205,8 +198,7 @@ fn match_roots(table: &Table, pattern: Id, term: Id, subst: &mut Held, tasks: &m
     requires room { length tasks.old.tasks + 2 * height (tree_in table.now pattern) ≤ tasks.old.room + 2 }
     ensures yes { IsTrue result → Becomes 1 table.now subst.old (task.Pair pattern term) tasks.old subst.new tasks.new }
     ensures no { IsFalse result → Unmatched table.now subst.old (pattern ∷ []) (term ∷ []) }
-    ensures kept { Keeps (length table.now.trees) subst.old subst.new }
-    ensures tasks { tasks.new.room ≡ tasks.old.room }
+    ensures stays { Stays (length table.now.trees) subst.old subst.new tasks.old tasks.new }
 {
     match split_roots(table, pattern, term) {
         Split::Differ => false,

@@ -16,8 +16,8 @@ loop-i-preserved c =
     let u = trees_from ts c.args.terms.now c.loop-i.i c.index-terms-i.result (omega (arith, c.requires.paired.count)) c.index-terms-i.is in
     record {
       leads = leads_step _ _ _ _ _ _ _ _ (leads_at _ _ _ _ _ _ _ _ p u c.loop-i.invariant.leads) _ (c.match_pattern.ensures.yes c.if-not-match_pattern.false);
-      kept = keeps_trans _ _ _ _ c.loop-i.invariant.kept c.match_pattern.ensures.kept;
-      room = c.match_pattern.ensures.tasks ∙ c.loop-i.invariant.room;
+      kept = keeps_trans _ _ _ _ c.loop-i.invariant.kept c.match_pattern.ensures.stays.slots;
+      room = c.match_pattern.ensures.stays.tasks ∙ c.loop-i.invariant.room;
     }
 
 pub returns-clause-yes : goal.returns-clause-yes

@@ -18,10 +18,10 @@ loop-task-smaller c = less_left 0 _ _ _ c.loop-task.tasks c.pop.new.self _ _ c.i
 
 pub loop-task-preserved : goal.loop-task-preserved
 loop-task-preserved c = record {
-  left = left_still 0 _ _ _ _ _ _ _ _ _ _ c.in-Some.ensures.some c.pop.ensures.room c.match_next.ensures.kept.room c.loop-task.invariant.left (c.match_next.ensures.yes c.if-not-match_next.false);
+  left = left_still 0 _ _ _ _ _ _ _ _ _ _ c.in-Some.ensures.some c.pop.ensures.room c.match_next.ensures.stays.slots.room c.loop-task.invariant.left (c.match_next.ensures.yes c.if-not-match_next.false);
   matched = c.match_next.ensures.matched c.if-not-match_next.false;
-  kept = keeps_trans _ _ _ _ c.loop-task.invariant.kept c.match_next.ensures.kept;
-  room = c.match_next.ensures.tasks ∙ c.pop.ensures.room ∙ c.loop-task.invariant.room;
+  kept = keeps_trans _ _ _ _ c.loop-task.invariant.kept c.match_next.ensures.stays.slots;
+  room = c.match_next.ensures.stays.tasks ∙ c.pop.ensures.room ∙ c.loop-task.invariant.room;
 }
 
 pub loop-task-init : goal.loop-task-init
@@ -32,11 +32,11 @@ loop-task-init c = record {
   room = c.begin.ensures.room;
 }
 
-pub match_next-requires-clause-live : goal.match_next-requires-clause-live
-match_next-requires-clause-live c = next_live _ _ _ _ _ c.loop-task.tasks _ _ c.in-Some.ensures.some c.loop-task.invariant.left
-
 pub match_next-requires-clause-room : goal.match_next-requires-clause-room
 match_next-requires-clause-room c = let l = next_room _ _ _ _ _ c.loop-task.tasks _ _ c.in-Some.ensures.some c.loop-task.invariant.left in omega (arith, l, c.pop.ensures.room)
 
-pub match_next-requires-clause-closes : goal.match_next-requires-clause-closes
-match_next-requires-clause-closes c = next_closes _ _ _ _ _ c.loop-task.tasks _ _ c.in-Some.ensures.some c.loop-task.invariant.left
+pub match_next-requires-clause-first : goal.match_next-requires-clause-first
+match_next-requires-clause-first c = record {
+  live = next_live _ _ _ _ _ c.loop-task.tasks _ _ c.in-Some.ensures.some c.loop-task.invariant.left;
+  closes = next_closes _ _ _ _ _ c.loop-task.tasks _ _ c.in-Some.ensures.some c.loop-task.invariant.left;
+}

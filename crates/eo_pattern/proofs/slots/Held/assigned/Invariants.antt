@@ -1,8 +1,11 @@
-use Rattle.std.proofs.Common.{◌≡◌, ℕ, ◌<◌, false, None, slice_get}
+use Rattle.std.proofs.Common.{◌≡◌, ℕ, ◌<◌, ◌≤◌, false, is_some, slice_get}
 use Rattle.std.specs.Option.{option_flatten}
 use Rattle.eo_term.specs.ParamSet.{has}
 use Rattle.eo_pattern.proofs.slots.Held.assigned.Given as goal
 
--- nothing stands for the parameters so far that the set lacks
+-- the set has those of the parameters so far for which something stands
 abbrev pub invariant-loop-i : goal.invariant-loop-i
-invariant-loop-i l = (k : ℕ) → k < l.i → has l.set k ≡ false → option_flatten (slice_get l.self-inside.values.items k) ≡ None
+invariant-loop-i l = record {
+  tells : (k : ℕ) → k < l.i → has l.set k ≡ is_some (option_flatten (slice_get l.self-inside.values.items k));
+  others : (k : ℕ) → l.i ≤ k → has l.set k ≡ false;
+}
