@@ -1,6 +1,6 @@
 -- What a search for a match is given, what it answers, and the pairs that were matched before.
-use Rattle.std.specs.Prelude.{◌≡◌, ℕ, ◌<◌, true, List, [], ◌∷◌, length, All, Some, slice_get}
-use Rattle.eo_term.specs.Tree.{Tree, occurs_in, to_list}
+use Rattle.std.specs.Prelude.{◌≡◌, ℕ, ◌<◌, Bool, true, not, ◌&&◌, ◌||◌, nat_le, List, [], ◌∷◌, length, All, Some, slice_get}
+use Rattle.eo_term.specs.Tree.{Tree, height, is_plain, occurs_in, to_list}
 use Rattle.eo_term.specs.Terms.{Terms, tree_at}
 use Rattle.eo_term.specs.Growth.{tree_in, trees_in}
 use Rattle.eo_term.specs.Arguments.{arguments_of, count_of}
@@ -46,6 +46,10 @@ Matched t old patterns terms new = MatchedTrees t old (trees_in t patterns) (tre
 
 abbrev pub Unmatched : Terms → Slots → List ℕ → List ℕ → Type 0
 Unmatched t s patterns terms = UnmatchedTrees t s (trees_in t patterns) (trees_in t terms)
+
+-- a pattern that may have many parts: it is tall, or has an operator over parts of its own
+abbrev pub is_large : Tree → Bool
+is_large p = nat_le 8 (height p) || (nat_le 3 (height p) && not (is_plain p))
 
 -- the pattern p is kept with the term t
 pub record IsKept (pairs : Remembered) (p t : ℕ) : Type 0 where

@@ -1,6 +1,7 @@
 //! The terms that patterns became.
-ghost use Rattle.std.specs.Prelude.{◌≡◌, ◌≢◌, ◌<◌, ◌≤◌, ◌⊎◌, ◌↔◌, ℕ, length, IsTrue, OnOk};
-ghost use Rattle.eo_pattern.specs.Matched.{IsKept};
+ghost use Rattle.std.specs.Prelude.{◌≡◌, ◌≢◌, ◌<◌, ◌≤◌, ◌⊎◌, ◌↔◌, ℕ, [], length, IsTrue, OnOk, OnErr};
+ghost use Rattle.eo_term.specs.Growth.{tree_in};
+ghost use Rattle.eo_pattern.specs.Matched.{IsKept, is_large};
 
 use eo_term::{Id, TYPE, Table};
 use std::alloc::{AllocError, Global};
@@ -38,7 +39,9 @@ impl Model for Pairs {
 
 impl Pairs {
     /// None, with places for none. No memory is taken.
-    pub(crate) fn new(alloc: Global) -> Pairs {
+    pub(crate) fn new(alloc: Global) -> Pairs
+        ensures { result.entries ≡ [] }
+    {
         Pairs {
             entries: Vec::new(alloc),
             round: 0,
@@ -46,10 +49,12 @@ impl Pairs {
         }
     }
 
-    /// Makes a place for each pattern of the first `n` terms.
+    /// Makes a place for each pattern of the first `n` terms. What is kept stays.
     pub(crate) fn reserve(&mut self, n: usize) -> Result<(), AllocError>
         ensures room { OnOk result (n ≤ length self.new.entries) }
         ensures more { length self.old.entries ≤ length self.new.entries }
+        ensures kept { (p t : ℕ) → IsKept self.old p t → IsKept self.new p t }
+        ensures err { OnErr result (self.new ≡ self.old) }
     {
         if self.entries.len() < n {
             let none = Entry {
@@ -118,6 +123,7 @@ impl Pairs {
 /// Whether a pattern has so many parts that pairs are kept while it is matched.
 pub(crate) fn is_large(table: &Table, pattern: Id) -> bool
     requires { pattern < length table.now.trees }
+    ensures { result ≡ is_large (tree_in table.now pattern) }
 {
     let height = table.height(pattern);
     height >= 8 || height >= 3 && !table.is_plain(pattern)

@@ -1,5 +1,5 @@
 //! The terms that stand for parameters.
-ghost use Rattle.std.specs.Prelude.{◌≡◌, ℕ, ◌<◌, ◌≤◌, List, length, None, Some, OnOk, OnErr, slice_get};
+ghost use Rattle.std.specs.Prelude.{◌≡◌, ℕ, ◌<◌, ◌≤◌, List, [], length, None, Some, OnOk, OnErr, slice_get};
 ghost use Rattle.std.specs.Option.{option_flatten};
 ghost use Rattle.eo_term.specs.Tree.{Tree};
 ghost use Rattle.eo_term.specs.Terms.{tree_at};
@@ -29,7 +29,8 @@ impl Model for Held {
 impl Held {
     /// Nothing, with room for nothing. No memory is taken.
     pub(crate) fn new(alloc: Global) -> Held
-        ensures none { result.height ≡ 0 }
+        ensures none { result.values ≡ [] }
+        ensures low { result.height ≡ 0 }
         ensures empty { AreEmpty result }
         ensures below { (n : ℕ) → AreBelow n result }
     {

@@ -47,8 +47,9 @@ impl Tasks {
         }
     }
 
-    /// Makes room for so many tasks. Room that is there stays.
+    /// Makes room for so many tasks. Nothing is to be done then. Room that is there stays.
     pub(crate) fn reserve(&mut self, tasks: usize) -> Result<(), AllocError>
+        ensures none { self.new.tasks ≡ [] }
         ensures room { OnOk result (tasks ≤ self.new.room) }
         ensures more { self.old.room ≤ self.new.room }
     {
