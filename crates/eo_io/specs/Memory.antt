@@ -1,5 +1,5 @@
 -- The library and the sink in memory, whose calls go by a plan.
-use Rattle.std.specs.Prelude.{ℕ, ◌-◌, Bool, ◌&&◌, ◌||◌, nat_lt, nat_le, List, [], ◌++◌, length, take, min, if◌then◌else◌}
+use Rattle.std.specs.Prelude.{◌≡◌, ℕ, ◌-◌, Bool, ◌&&◌, ◌||◌, nat_lt, nat_le, List, [], ◌++◌, length, take, min, if◌then◌else◌}
 use Rattle.eo_io.specs.declared.Opened.{Opened}
 use Rattle.eo_io.specs.declared.Opened.TheVariants as opened
 use Rattle.eo_io.specs.declared.Got.{Got}
@@ -40,6 +40,15 @@ files_after_read files buffer = record {
   stored = if fails_next files.plan then files.stored else after_read files.stored (read_length files.stored buffer files.plan.piece);
   plan = after_call (fails_next files.plan) files.plan;
 }
+
+-- how a call goes by the plan: what it answers, and the files that it leaves
+pub record OpensByPlan (old : MemoryFiles) (path : List ℕ) (answer : Opened) (new : MemoryFiles) : Type 0 where
+  pub answers : answer ≡ open_answer old path
+  pub leaves : new ≡ files_after_open old path
+
+pub record ReadsByPlan (old : MemoryFiles) (buffer : ℕ) (answer : Got) (new : MemoryFiles) : Type 0 where
+  pub answers : answer ≡ read_answer old buffer
+  pub leaves : new ≡ files_after_read old buffer
 
 -- a sink in memory: writes are its calls
 pub record Written : Type 0 where

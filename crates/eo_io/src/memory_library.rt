@@ -3,7 +3,7 @@ ghost use Rattle.std.specs.Prelude.{◌≡◌, ◌≢◌, ◌<◌, ◌≤◌, �
 ghost use Rattle.eo_io.specs.Library.{Opens, OpenHasCause, Reads, ReadHasCause, Closes};
 ghost use Rattle.eo_io.specs.Stored.{with_file, IsFileOf, after_close};
 ghost use Rattle.eo_io.specs.Calls.{with_piece, with_failing};
-ghost use Rattle.eo_io.specs.Memory.{first_files, with_plan, with_stored, open_answer, files_after_open, read_answer, files_after_read};
+ghost use Rattle.eo_io.specs.Memory.{first_files, with_plan, with_stored, OpensByPlan, ReadsByPlan};
 
 use crate::call_plan::CallPlan;
 use crate::file_store::FileStore;
@@ -88,8 +88,7 @@ impl Library for MemoryLibrary {
         ensures cause { OpenHasCause result (Some self.old.stored.told) path.now self.old.plan.faults self.new.plan.faults }
         ensures later { self.old.plan.faults ≤ self.new.plan.faults }
         ensures bounded { self.new.plan.faults ≤ 2 ^ 64 - 1 }
-        ensures answer { result ≡ open_answer self.old path.now }
-        ensures after { self.new ≡ files_after_open self.old path.now }
+        ensures by_plan { OpensByPlan self.old path.now result self.new }
     {
         let failed = self.plan.fails_next();
         self.plan.count(failed);
@@ -112,8 +111,7 @@ impl Library for MemoryLibrary {
         ensures cause { ReadHasCause result self.old.plan.faults self.new.plan.faults }
         ensures later { self.old.plan.faults ≤ self.new.plan.faults }
         ensures bounded { self.new.plan.faults ≤ 2 ^ 64 - 1 }
-        ensures answer { result ≡ read_answer self.old (length buf.old) }
-        ensures after { self.new ≡ files_after_read self.old (length buf.old) }
+        ensures by_plan { ReadsByPlan self.old (length buf.old) result self.new }
     {
         let failed = self.plan.fails_next();
         self.plan.count(failed);
