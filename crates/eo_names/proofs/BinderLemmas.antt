@@ -11,7 +11,7 @@ use Rattle.eo_term.specs.Tree.{Tree, Con, Var, App, is_tall}
 use Rattle.eo_term.specs.Terms.{tree_at}
 use Rattle.indexmap.specs.Layout.{set_value_at}
 use Rattle.eo_names.specs.Folding.{folded, folded_within, by_attribute, attribute_at, least, applied_to_two}
-use Rattle.eo_names.specs.Binders.{list_of, variable, variables_of}
+use Rattle.eo_names.specs.Binders.{variable_list, variable, variables_of}
 use Rattle.eo_names.specs.Grouped.{if_low}
 use Rattle.eo_names.specs.Readers.{◌>>=◌, read, built, give, unless, with_labels}
 use Rattle.eo_names.specs.Contexts.{is_list, Local}
@@ -109,7 +109,7 @@ read_built (Ok t) = by (is_tall t)
 read_built (Err fault) = refl
 
 module _ (S : Signature) (ls : List Local) (k : ℕ) where
-  pub seen_list : (ps : List (List ℕ × Tree)) → list_of S (is_list ls) k (map variable ps) [] ≡ with_labels [] (if_low (folded S (is_list ls) k (variables_of ps)))
+  pub seen_list : (ps : List (List ℕ × Tree)) → variable_list S (is_list ls) k (map variable ps) [] ≡ with_labels [] (if_low (folded S (is_list ls) k (variables_of ps)))
   seen_list ps = read_built (folded S (is_list ls) k (variables_of ps))
 
   opened : (us : List Tree) → folded S (is_list ls) k us ≡ folded_within (suc k) S (is_list ls) k us
@@ -119,7 +119,7 @@ module _ (S : Signature) (ls : List Local) (k : ℕ) where
   length_trees : (ps : List (List ℕ × Tree)) → length (variables_of ps) ≡ length ps
   length_trees ps = length-map (map variable ps) (λ (v : List ℕ × Tree). v.1) ∙ length-map ps variable
 
-  pub list_few : (ps : List (List ℕ × Tree)) → length ps < least (attribute_at S k) → list_of S (is_list ls) k (map variable ps) [] ≡ Err BadArity
+  pub list_few : (ps : List (List ℕ × Tree)) → length ps < least (attribute_at S k) → variable_list S (is_list ls) k (map variable ps) [] ≡ Err BadArity
   list_few ps l = seen_list ps ∙ ap (λ r. with_labels [] (if_low r)) (opened (variables_of ps)) ∙ ap (with_labels []) (too_few S (is_list ls) k (variables_of ps) k (omega (arith, length_trees ps)))
 
   -- one variable that is too tall
@@ -143,7 +143,7 @@ module _ (S : Signature) (ls : List Local) (k : ℕ) where
       or_false false h = h
   tall_within (p ∷ q ∷ ps) l e = folded_tall S (is_list ls) (suc k) k (variables_of (p ∷ q ∷ ps)) (omega arith) e
 
-  pub list_tall : (ps : List (List ℕ × Tree)) → least (attribute_at S k) ≤ length ps → list_any is_tall (variables_of ps) ≡ true → list_of S (is_list ls) k (map variable ps) [] ≡ Err TermHeight
+  pub list_tall : (ps : List (List ℕ × Tree)) → least (attribute_at S k) ≤ length ps → list_any is_tall (variables_of ps) ≡ true → variable_list S (is_list ls) k (map variable ps) [] ≡ Err TermHeight
   list_tall ps l e = seen_list ps ∙ ap (λ r. with_labels [] (if_low r)) (opened (variables_of ps)) ∙ ap (with_labels []) (tall_within ps l e)
 
 -- ---- the code

@@ -17,5 +17,5 @@ abbrev pub variables_of : List (List ℕ × Tree) → List Tree
 variables_of ps = map (λ (v : List ℕ × Tree). v.1) (map variable ps)
 
 -- the list of these variables, which another constant makes
-abbrev pub list_of : Signature → (Tree → Bool) → ℕ → List (List ℕ × Tree) → Reader Tree
-list_of S is_list collector vs = read (folded S is_list collector (map (λ v. v.1) vs)) >>= built
+abbrev pub variable_list : Signature → (Tree → Bool) → ℕ → List (List ℕ × Tree) → Reader Tree
+variable_list S is_list collector vs = read (folded S is_list collector (map (λ v. v.1) vs)) >>= built

@@ -10,7 +10,7 @@ use Rattle.eo_term.specs.Tree.{Tree}
 use Rattle.eo_names.specs.declared.locals.LocalName.{LocalName}
 use Rattle.eo_names.specs.declared.scope.Scope.{Scope}
 use Rattle.eo_names.specs.declared.usage.Use.{Use}
-use Rattle.eo_names.specs.Binders.{variable, list_of}
+use Rattle.eo_names.specs.Binders.{variable, variable_list}
 use Rattle.eo_names.specs.Contexts.{Context, Local, is_list}
 use Rattle.eo_names.specs.Folding.{applied_to_two, list_onto, last_onto, right_nil, by_attribute, folded, folded_within}
 use Rattle.eo_names.specs.Grouped.{grouped, joined_items, if_low}
@@ -100,4 +100,4 @@ module _ (w : World) where
 
   -- the list of the variables that these names and types become
   abbrev pub bound_list_in : ℕ → List (List ℕ × Tree) → Read Tree
-  bound_list_in collector ps = list_of w.names.signature (is_list w.locals) collector (map variable ps) []
+  bound_list_in collector ps = variable_list w.names.signature (is_list w.locals) collector (map variable ps) []
