@@ -19,7 +19,7 @@ use Rattle.eo_term.specs.Growth.{tree_in, trees_in}
 use Rattle.eo_names.specs.Names.{Binding, binding_local, bound_by, read_pairs, read_locals, BindingsBelow, AreBelow}
 use Rattle.eo_names.specs.Readers.{Label, Reader, ◌>>=◌, give, built, go_on, with_labels}
 use Rattle.std.specs.List.{list_any}
-use Rattle.eo_names.specs.Binders.{pair_local, variable, list_of}
+use Rattle.eo_names.specs.Binders.{pair_local, variable, variable_list}
 use Rattle.eo_names.specs.Contexts.{is_list as is_list_tree}
 use Rattle.eo_names.specs.Folding.{applied}
 use Rattle.eo_names.specs.Refused.{told}
@@ -34,7 +34,7 @@ use Rattle.eo_names.specs.declared.locals.LocalName.{LocalName}
 use Rattle.eo_names.specs.Worlds.{World, Read}
 use Rattle.eo_names.specs.declared.scope.Scope.{Scope}
 use Rattle.eo_elab.specs.Worlds.{labels_in, term_in, sexps, use_in, let_in, pairs_in, binder_in, in_setting, parts_in, all_in}
-use Rattle.eo_elab.specs.Forms.{pair_of}
+use Rattle.eo_elab.specs.Forms.{binding_of}
 use Rattle.eo_elab.specs.Meaning.{means, means_all}
 use Rattle.eo_names.specs.declared.usage.Use.TheVariants as use_
 use Rattle.eo_names.specs.Laws.{IsInside, NamesStay, UseStays}
@@ -102,7 +102,7 @@ suits_more u n m e h = subst (Suits u) e h
 
 module _ (w : World) (n : Next) (labels : List Label) where
   -- the first of the pairs that are left, and then the others
-  pub pair_first : (before : List (List ℕ × Tree)) (p x : Sexp) (name : List ℕ) (rest : List Sexp) → Some (name, x) ≡ pair_of p → list_any (λ (q : List ℕ × Tree). bytes_eq q.0 name) before ≡ false
+  pub pair_first : (before : List (List ℕ × Tree)) (p x : Sexp) (name : List ℕ) (rest : List Sexp) → Some (name, x) ≡ binding_of p → list_any (λ (q : List ℕ × Tree). bytes_eq q.0 name) before ≡ false
       → pairs_then w n before (p ∷ rest) labels ≡ go_on (λ t. pairs_then w n (before ++ (name, t) ∷ []) rest) (term_in w x labels)
   pair_first before p x name rest e new = by (term_in w x labels) refl
     where
@@ -278,7 +278,7 @@ inner_goes k s t labels blocks inner bs before after most (Ok n) o p e g = recor
 inner_goes k s t labels blocks inner bs before after most (Err x) o p e g = tells_on told x o p (λ f q. e ∙ q) g
 
 -- the other arguments of a binder inside of its variables
-pub others_read : (w inner : World) (ts : List Tree) (binder collector : ℕ) (others : List Sexp) (ps : List (List ℕ × Tree)) (first : Tree) (labels : List Label) → list_of w.names.signature (is_list_tree w.locals) collector (map variable ps) labels ≡ Ok (first, labels) → inner.names ≡ w.names → inner.locals ≡ map pair_local (map variable ps) ++ w.locals
+pub others_read : (w inner : World) (ts : List Tree) (binder collector : ℕ) (others : List Sexp) (ps : List (List ℕ × Tree)) (first : Tree) (labels : List Label) → variable_list w.names.signature (is_list_tree w.locals) collector (map variable ps) labels ≡ Ok (first, labels) → inner.names ≡ w.names → inner.locals ≡ map pair_local (map variable ps) ++ w.locals
     → with_names w (next.Others binder collector others) ps labels ≡ arguments_after inner ts (use_.Bind binder collector) (first ∷ []) others labels
 others_read w inner ts binder collector others ps first labels e names locals =
     let made : List Tree → Reader Tree = λ us. built (applied (Con binder) us) in

@@ -18,7 +18,7 @@ use Rattle.eo_elab.specs.declared.plan.Form.{Form}
 use Rattle.eo_names.specs.declared.usage.Use.{Use}
 use Rattle.eo_names.specs.Gives.{GivesTree, GivesTerm as GivesNone}
 use Rattle.eo_elab.specs.Gives.{GivesTerm, GivesLabels, AddsPair, IsFormed, IsUsed, NamesGrow, world_at}
-use Rattle.eo_names.specs.Binders.{list_of}
+use Rattle.eo_names.specs.Binders.{variable_list}
 use Rattle.eo_names.specs.Contexts.{Context, Setting, Local, is_list}
 use Rattle.eo_names.specs.Folding.{applied, folded, plainly, arrow}
 use Rattle.eo_names.specs.Usage.{made_of, UseBelow}
@@ -80,7 +80,7 @@ made_labels ts c ls (use_.Bind binder collector) args labels = built_labels (app
 made_labels ts c ls (use_.Macro tree) args labels = built_labels (put (slice_get args) (tree_at ts tree)) labels
 made_labels ts c ls (use_.Operator code) args labels = built_labels (Op code (to_trees args)) labels
 
-pub list_labels : (S : Signature) (is_list : Tree → Bool) (collector : ℕ) (vs : List (List ℕ × Tree)) (labels : List Label) → list_of S is_list collector vs labels ≡ relabelled labels (list_of S is_list collector vs [])
+pub list_labels : (S : Signature) (is_list : Tree → Bool) (collector : ℕ) (vs : List (List ℕ × Tree)) (labels : List Label) → variable_list S is_list collector vs labels ≡ relabelled labels (variable_list S is_list collector vs [])
 list_labels S is_list collector vs labels = read_labels (folded S is_list collector (map (λ v. v.1) vs)) labels
 
 -- what is made of arguments does not depend on the kind of file

@@ -8,7 +8,7 @@ use Rattle.eo_base.proofs.ChecksLemmas.{ok_injective, err_is_not_ok}
 use Rattle.eo_base.proofs.Tests.{both, join}
 use Rattle.eo_sexp.specs.Sexp.{Sexp, Atom, Listed, Sexps, NoSexp, Next}
 use Rattle.eo_term.specs.Tree.{Tree, uses_only}
-use Rattle.eo_names.specs.Binders.{pair_local, variable, list_of}
+use Rattle.eo_names.specs.Binders.{pair_local, variable, variable_list}
 use Rattle.eo_names.specs.Contexts.{Context, Local, is_list}
 use Rattle.eo_names.specs.Folding.{folded}
 use Rattle.eo_names.specs.Readers.{Label, ◌>>=◌, give, read, built}
@@ -48,7 +48,7 @@ module _ (known : ℕ → Bool) where
   module _ (c : Context) (fits : FitsTerms c) where
     -- the list of the variables that a binder binds
     list_of_reads : (locals : List Local) (collector : ℕ) (ps : List (List ℕ × Tree)) → PairsWithin ps →
-        Reads known c (list_of c.signature (is_list locals) collector (map variable ps)) (Within known)
+        Reads known c (variable_list c.signature (is_list locals) collector (map variable ps)) (Within known)
     list_of_reads locals collector ps g =
         let ts = map (λ v. v.1) (map variable ps) in
         let made = folded c.signature (is_list locals) collector ts in
@@ -99,11 +99,11 @@ module _ (known : ℕ → Bool) where
           Reads known c (in_binder c locals args k) (AllWithin known)
       binder_reads locals h (Next pairs rest) k labels l =
           bind_reads known c PairsWithin (AllWithin known) (pair_list c locals pairs)
-          (λ ps. list_of c.signature (is_list locals) k (map variable ps) >>= λ first.
+          (λ ps. variable_list c.signature (is_list locals) k (map variable ps) >>= λ first.
           means_all c (inside locals ps) rest >>= λ others. give (first ∷ others))
           (pair_list_reads locals h pairs)
           (λ ps g. first_reads known c (Given known rest) (AllWithin known)
-          (list_of c.signature (is_list locals) k (map variable ps)) (means_all c (inside locals ps) rest)
+          (variable_list c.signature (is_list locals) k (map variable ps)) (means_all c (inside locals ps) rest)
           (list_of_reads locals k ps g) (all_read (inside locals ps) (inside_within locals ps g h) rest)
           (λ first others u o. join u o.0)) labels l
       binder_reads locals h NoSexp k labels l = ends_err known c (AllWithin known) BadCommand

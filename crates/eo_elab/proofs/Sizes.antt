@@ -5,10 +5,10 @@ use Rattle.eo_sexp.proofs.Sizes.{sexps_of-children}
 use Rattle.eo_sexp.specs.Pairs.{list_of, first_one, only_two}
 use Rattle.eo_sexp.specs.Sexp.{Sexp, Atom, Listed, NoSexp, Next, sexps_of, sexp_span, children_of}
 use Rattle.eo_sexp.specs.Sizes.{size}
-use Rattle.eo_elab.specs.Forms.{pair_of}
+use Rattle.eo_elab.specs.Forms.{binding_of}
 
 -- what stands beside the name of a pair is smaller than the pair
-pub size_beside : (s t : Sexp) (name : List ℕ) → Some (name, t) ≡ pair_of s → size t < size s
+pub size_beside : (s t : Sexp) (name : List ℕ) → Some (name, t) ≡ binding_of s → size t < size s
 size_beside (Atom k text span) t name e = cc
 size_beside (Listed NoSexp span) t name e = cc
 size_beside (Listed (Next (Listed cs at) ss) span) t name e = cc

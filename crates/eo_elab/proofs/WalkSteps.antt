@@ -15,10 +15,10 @@ use Rattle.eo_sexp.specs.Sexp.{Sexp, Atom, Listed, Sexps, NoSexp, Next, Span, se
 use Rattle.eo_sig.specs.Reading.{Kept}
 use Rattle.eo_term.specs.Tree.{Tree}
 use Rattle.eo_term.specs.Terms.{Terms}
-use Rattle.eo_elab.specs.Forms.{Parts, application, arguments_for, formed_from, parts_of, all_after, pair_of}
+use Rattle.eo_elab.specs.Forms.{Parts, application, arguments_for, formed_from, parts_of, all_after, binding_of}
 use Rattle.eo_names.specs.declared.usage.Use.{Use}
 use Rattle.eo_names.specs.declared.usage.Use.TheVariants as use_
-use Rattle.eo_names.specs.Binders.{list_of, pair_local, variable}
+use Rattle.eo_names.specs.Binders.{variable_list, pair_local, variable}
 use Rattle.eo_shape.specs.Words.{symbol_of}
 use Rattle.eo_names.specs.Contexts.{Context, Local, is_list}
 use Rattle.eo_names.specs.Readers.{Label, Reader, ◌>>=◌, give, go_on, unless, with_labels}
@@ -136,13 +136,13 @@ module _ (c : Context) (ls : List Local) (labels : List Label) where
   bound_rest rest vs first = means_all c (map pair_local vs ++ ls) rest >>= λ others. give (first ∷ others)
 
   abbrev pub bound_after : Sexps → ℕ → List (List ℕ × Tree) → Reader (List Tree)
-  bound_after rest collector ps = list_of c.signature (is_list ls) collector (map variable ps) >>= bound_rest rest (map variable ps)
+  bound_after rest collector ps = variable_list c.signature (is_list ls) collector (map variable ps) >>= bound_rest rest (map variable ps)
 
   pub binder_step : (pairs : Sexp) (rest : Sexps) (collector : ℕ) → in_binder c ls (Next pairs rest) collector labels ≡ (pair_list c ls pairs >>= bound_after rest collector) labels
   unfolding in_binder
   binder_step pairs rest collector = refl
 
-  pub binder_next : (pairs : Sexp) (rest : Sexps) (collector : ℕ) (ps : List (List ℕ × Tree)) (first : Tree) (after : List Label) → pair_list c ls pairs labels ≡ Ok (ps, after) → list_of c.signature (is_list ls) collector (map variable ps) after ≡ Ok (first, after)
+  pub binder_next : (pairs : Sexp) (rest : Sexps) (collector : ℕ) (ps : List (List ℕ × Tree)) (first : Tree) (after : List Label) → pair_list c ls pairs labels ≡ Ok (ps, after) → variable_list c.signature (is_list ls) collector (map variable ps) after ≡ Ok (first, after)
       → in_binder c ls (Next pairs rest) collector labels ≡ all_after (first ∷ []) (means_all c (map pair_local (map variable ps) ++ ls) rest) after
   binder_next pairs rest collector ps first after e h =
       binder_step pairs rest collector ∙ ap (go_on (bound_after rest collector)) e ∙ ap (go_on (bound_rest rest (map variable ps))) h
@@ -150,7 +150,7 @@ module _ (c : Context) (ls : List Local) (labels : List Label) where
   pub binder_pairs_fault : (pairs : Sexp) (rest : Sexps) (collector : ℕ) (fault : FaultName) → pair_list c ls pairs labels ≡ Err fault → in_binder c ls (Next pairs rest) collector labels ≡ Err fault
   binder_pairs_fault pairs rest collector fault e = binder_step pairs rest collector ∙ ap (go_on (bound_after rest collector)) e
 
-  pub binder_list_fault : (pairs : Sexp) (rest : Sexps) (collector : ℕ) (ps : List (List ℕ × Tree)) (after : List Label) (fault : FaultName) → pair_list c ls pairs labels ≡ Ok (ps, after) → list_of c.signature (is_list ls) collector (map variable ps) after ≡ Err fault
+  pub binder_list_fault : (pairs : Sexp) (rest : Sexps) (collector : ℕ) (ps : List (List ℕ × Tree)) (after : List Label) (fault : FaultName) → pair_list c ls pairs labels ≡ Ok (ps, after) → variable_list c.signature (is_list ls) collector (map variable ps) after ≡ Err fault
       → in_binder c ls (Next pairs rest) collector labels ≡ Err fault
   binder_list_fault pairs rest collector ps after fault e h =
       binder_step pairs rest collector ∙ ap (go_on (bound_after rest collector)) e ∙ ap (go_on (bound_rest rest (map variable ps))) h
@@ -176,7 +176,7 @@ module _ (c : Context) (ls : List Local) (labels : List Label) where
   unfolding pairs_after
   pairs_end before = refl
 
-  pub pairs_other : (s : Sexp) (rest : Sexps) (before : List (List ℕ × Tree)) → None ≡ pair_of s → pairs_after c ls (Next s rest) before labels ≡ Err BadCommand
+  pub pairs_other : (s : Sexp) (rest : Sexps) (before : List (List ℕ × Tree)) → None ≡ binding_of s → pairs_after c ls (Next s rest) before labels ≡ Err BadCommand
   unfolding pairs_after
   pairs_other (Atom k text span) rest before e = refl
   pairs_other (Listed NoSexp span) rest before e = refl
@@ -194,7 +194,7 @@ module _ (c : Context) (ls : List Local) (labels : List Label) where
   abbrev pair_then : Sexps → List ℕ → Sexp → List (List ℕ × Tree) → Bool → Reader (List (List ℕ × Tree))
   pair_then rest name t before b = unless (not b) Redeclared (means c ls t >>= pair_added rest name before)
 
-  pairs_step : (s t : Sexp) (name : List ℕ) (rest : Sexps) (before : List (List ℕ × Tree)) → Some (name, t) ≡ pair_of s → pairs_after c ls (Next s rest) before labels ≡ pair_then rest name t before (named_before name before) labels
+  pairs_step : (s t : Sexp) (name : List ℕ) (rest : Sexps) (before : List (List ℕ × Tree)) → Some (name, t) ≡ binding_of s → pairs_after c ls (Next s rest) before labels ≡ pair_then rest name t before (named_before name before) labels
   unfolding pairs_after
   pairs_step (Atom k text span) t name rest before e = cc
   pairs_step (Listed NoSexp span) t name rest before e = cc
@@ -207,15 +207,15 @@ module _ (c : Context) (ls : List Local) (labels : List Label) where
       λ i. pair_then rest (same_name i) (same i) before (named_before (same_name i) before) labels
   pairs_step (Listed (Next (Atom k n at) (Next u (Next v ss))) span) t name rest before e = cc
 
-  pub pairs_twice : (s t : Sexp) (name : List ℕ) (rest : Sexps) (before : List (List ℕ × Tree)) → Some (name, t) ≡ pair_of s → named_before name before ≡ true → pairs_after c ls (Next s rest) before labels ≡ Err Redeclared
+  pub pairs_twice : (s t : Sexp) (name : List ℕ) (rest : Sexps) (before : List (List ℕ × Tree)) → Some (name, t) ≡ binding_of s → named_before name before ≡ true → pairs_after c ls (Next s rest) before labels ≡ Err Redeclared
   pairs_twice s t name rest before e h = pairs_step s t name rest before e ∙ ap (λ b. pair_then rest name t before b labels) h
 
-  pub pairs_next : (s t : Sexp) (name : List ℕ) (rest : Sexps) (before : List (List ℕ × Tree)) (tree : Tree) (after : List Label) → Some (name, t) ≡ pair_of s → named_before name before ≡ false → means c ls t labels ≡ Ok (tree, after)
+  pub pairs_next : (s t : Sexp) (name : List ℕ) (rest : Sexps) (before : List (List ℕ × Tree)) (tree : Tree) (after : List Label) → Some (name, t) ≡ binding_of s → named_before name before ≡ false → means c ls t labels ≡ Ok (tree, after)
       → pairs_after c ls (Next s rest) before labels ≡ pairs_after c ls rest (before ++ (name, tree) ∷ []) after
   pairs_next s t name rest before tree after e h m =
       pairs_step s t name rest before e ∙ ap (λ b. pair_then rest name t before b labels) h ∙ ap (go_on (pair_added rest name before)) m
 
-  pub pairs_fault : (s t : Sexp) (name : List ℕ) (rest : Sexps) (before : List (List ℕ × Tree)) (fault : FaultName) → Some (name, t) ≡ pair_of s → named_before name before ≡ false → means c ls t labels ≡ Err fault
+  pub pairs_fault : (s t : Sexp) (name : List ℕ) (rest : Sexps) (before : List (List ℕ × Tree)) (fault : FaultName) → Some (name, t) ≡ binding_of s → named_before name before ≡ false → means c ls t labels ≡ Err fault
       → pairs_after c ls (Next s rest) before labels ≡ Err fault
   pairs_fault s t name rest before fault e h m =
       pairs_step s t name rest before e ∙ ap (λ b. pair_then rest name t before b labels) h ∙ ap (go_on (pair_added rest name before)) m

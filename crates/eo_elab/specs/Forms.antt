@@ -94,9 +94,9 @@ FormFits n count form.Annotation = Unit {0}
 FormFits n count (form.Bits width value) = (width ≤ 128) × (value < 2 ^ width)
 
 -- the name of a pair, and what stands beside it
-abbrev pub pair_of : Sexp → Option (List ℕ × Sexp)
-pair_of (Listed (Next (Atom k name at) (Next t NoSexp)) span) = Some (name, t)
-pair_of s = None
+abbrev pub binding_of : Sexp → Option (List ℕ × Sexp)
+binding_of (Listed (Next (Atom k name at) (Next t NoSexp)) span) = Some (name, t)
+binding_of s = None
 
 -- the constant that makes the list of the variables, where a constant with this attribute binds some
 abbrev pub collector_of : Attribute → Sexps → Option ℕ

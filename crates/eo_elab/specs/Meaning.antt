@@ -12,7 +12,7 @@ use Rattle.eo_sexp.specs.Sexp.{Sexp, Atom, Listed, Sexps, NoSexp, Next, children
 use Rattle.eo_shape.specs.Words.{symbol_of, keyword_of, numeral_of, is_some_word}
 use Rattle.eo_sig.specs.Signature.{Attribute, Binder, is_free}
 use Rattle.eo_term.specs.Tree.{Tree, Con, Num, Bits, Str, Op, to_trees}
-use Rattle.eo_names.specs.Binders.{pair_local, variable, list_of}
+use Rattle.eo_names.specs.Binders.{pair_local, variable, variable_list}
 use Rattle.eo_names.specs.Contexts.{Setting, InAssert, Context, Local, is_reference, is_assert, is_list}
 use Rattle.eo_names.specs.Meanings.{Meant, ATree, AMacro, AnOperator, Nothing, meant, Word, Underscore, Arrow, Let, Annotation, Name, word_of}
 use Rattle.eo_names.specs.Readers.{Label, Reader, ◌>>=◌, give, fail, with_labels, read, unless, built}
@@ -251,7 +251,7 @@ unfoldable mutual
   pub in_binder : Context → List Local → Sexps → ℕ → Reader (List Tree)
   in_binder c locals (Next pairs rest) collector labels = (do
     ps ← pair_list c locals pairs
-    first ← list_of c.signature (is_list locals) collector (map variable ps)
+    first ← variable_list c.signature (is_list locals) collector (map variable ps)
     others ← means_all c (map pair_local (map variable ps) ++ locals) rest
     give (first ∷ others)
     ) labels

@@ -7,7 +7,7 @@ use Rattle.eo_sig.specs.Reading.{Kept}
 use Rattle.eo_term.specs.Tree.{Tree, Con}
 use Rattle.eo_term.specs.Terms.{Terms, tree_at}
 use Rattle.eo_term.specs.Growth.{tree_in, trees_in}
-use Rattle.eo_names.specs.Binders.{pair_local, variable, list_of}
+use Rattle.eo_names.specs.Binders.{pair_local, variable, variable_list}
 use Rattle.eo_names.specs.Contexts.{is_list}
 use Rattle.eo_names.specs.Folding.{applied}
 use Rattle.eo_names.specs.Names.{Binding, read_pairs, BindingsBelow, bound_by, names_in}
@@ -40,7 +40,7 @@ inside t k s blocks = in_setting (setting_in s) (world_of t k (bound_by blocks +
 -- the list of a binder's variables, and then its other arguments
 abbrev pub bound_list : World → ℕ → List Sexp → List (List ℕ × Tree) → Reader (List Tree)
 bound_list w collector others vs =
-    list_of w.names.signature (is_list w.locals) collector vs >>= λ first.
+    variable_list w.names.signature (is_list w.locals) collector vs >>= λ first.
     means_all w.names (map pair_local vs ++ w.locals) (sexps others) >>= λ ts. give (first ∷ ts)
 
 -- what is made of the names of pairs with the meanings beside them

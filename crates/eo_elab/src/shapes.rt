@@ -1,7 +1,7 @@
 //! Shapes of s-expressions: the lists of pairs by which `let` and binders bind names.
 ghost use Rattle.std.specs.Prelude.{◌≡◌, option_map};
 ghost use Rattle.eo_sexp.specs.Sexp.{sexps_of};
-ghost use Rattle.eo_elab.specs.Forms.{pair_of};
+ghost use Rattle.eo_elab.specs.Forms.{binding_of};
 ghost use Rattle.eo_elab.specs.Meaning.{is_pair, are_pairs, is_pair_list, is_let, begins_with_pairs};
 
 use eo_sexp::{Children, Kind, Sexp};
@@ -57,8 +57,8 @@ fn is_pair(s: &Sexp<'_>) -> bool
 
 /// The name of a pair, and what stands beside it; nothing, where it is no list of an atom and one
 /// thing more.
-pub(crate) fn pair_of<'b>(s: &Sexp<'b>) -> Option<(&'b [u8], Sexp<'b>)>
-    ensures { option_map (λ p. (p.0.now, p.1)) result ≡ pair_of s.now }
+pub(crate) fn binding_of<'b>(s: &Sexp<'b>) -> Option<(&'b [u8], Sexp<'b>)>
+    ensures { option_map (λ p. (p.0.now, p.1)) result ≡ binding_of s.now }
 {
     let (name, beside) = s.children().only_two()?;
     match name.list() {

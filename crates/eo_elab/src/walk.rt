@@ -17,7 +17,7 @@ ghost use Rattle.eo_elab.specs.Waiting.{arguments_after, pairs_first, pairs_then
 use crate::annotations::label;
 use crate::atoms::bit_string;
 use crate::plan::{Form, use_of_term};
-use crate::shapes::pair_of;
+use crate::shapes::binding_of;
 use crate::waiting::{Frame, Next, Now, Pairs};
 use crate::within::{atom_inside, bind_inside, form_inside, use_all};
 use crate::{ElabRefused, Names};
@@ -40,7 +40,8 @@ fn read_list<'b>(
 ) -> Result<Now<'b>, ElabRefused>
     requires ready { IsReady (length table.old.trees) sig.now (bound_by blocks.old ++ bound_in scope.now) }
     requires labels { BindingsBelow (length table.old.trees) labels.now }
-    ensures gives { (span : Span) → Goes sig.now scope.now table.new labels.now blocks.old blocks.new waits.old.items waits.new.items (4 * size_of_all terms.now + 3) result
+    ensures gives { (span : Span) → Goes sig.now scope.now table.new labels.now blocks.old blocks.new
+        waits.old.items waits.new.items (4 * size_of_all terms.now + 3) result
         (list_in (inside table.old sig.now scope.now blocks.old) terms.now span (labels_in table.old labels.now)) }
     ensures grows { Grows table.old table.new }
 {
@@ -192,7 +193,8 @@ fn begin_use<'b>(
     requires labels { BindingsBelow (length table.old.trees) labels.now }
     requires below { UseBelow (length table.old.trees) used.now }
     requires suits { Suits used.now (length args.now) }
-    ensures gives { (h : Sexp) → Goes sig.now scope.now table.new labels.now blocks.old blocks.new waits.old.items waits.new.items (4 * size_of_all args.now + 1) result
+    ensures gives { (h : Sexp) → Goes sig.now scope.now table.new labels.now blocks.old blocks.new
+        waits.old.items waits.new.items (4 * size_of_all args.now + 1) result
         (use_in (inside table.old sig.now scope.now blocks.old) table.old h args.now used.now (labels_in table.old labels.now)) }
     ensures grows { Grows table.old table.new }
 {
@@ -239,7 +241,8 @@ fn begin_let<'b>(
 ) -> Result<Now<'b>, ElabRefused>
     requires ready { IsReady (length table.old.trees) sig.now (bound_by blocks.old ++ bound_in scope.now) }
     requires labels { BindingsBelow (length table.old.trees) labels.now }
-    ensures gives { Goes sig.now scope.now table.new labels.now blocks.old blocks.new waits.old.items waits.new.items (4 * size_of_all args.now) result
+    ensures gives { Goes sig.now scope.now table.new labels.now blocks.old blocks.new
+        waits.old.items waits.new.items (4 * size_of_all args.now) result
         (let_in (inside table.old sig.now scope.now blocks.old) args.now (labels_in table.old labels.now)) }
     ensures grows { Grows table.old table.new }
 {
@@ -270,7 +273,8 @@ fn begin_annotated<'b>(
     waits: &mut Vec<Frame<'b>>,
 ) -> Result<Now<'b>, ElabRefused>
     requires ready { IsReady (length table.now.trees) sig.now (bound_by blocks.now ++ bound_in scope.now) }
-    ensures gives { Goes sig.now scope.now table.now labels.now blocks.now blocks.now waits.old.items waits.new.items (4 * size_of_all args.now + 1) result
+    ensures gives { Goes sig.now scope.now table.now labels.now blocks.now blocks.now
+        waits.old.items waits.new.items (4 * size_of_all args.now + 1) result
         (annotated_in (inside table.now sig.now scope.now blocks.now) args.now (labels_in table.now labels.now)) }
 {
     let Some((s, attributes)) = args.split_first() else {
@@ -294,7 +298,8 @@ fn begin_pairs<'b>(
 ) -> Result<Now<'b>, ElabRefused>
     requires ready { IsReady (length table.old.trees) sig.now (bound_by blocks.old ++ bound_in scope.now) }
     requires labels { BindingsBelow (length table.old.trees) labels.now }
-    ensures gives { Goes sig.now scope.now table.new labels.now blocks.old blocks.new waits.old.items waits.new.items (4 * size pairs.now + weight_next next.entry) result
+    ensures gives { Goes sig.now scope.now table.new labels.now blocks.old blocks.new
+        waits.old.items waits.new.items (4 * size pairs.now + weight_next next.entry) result
         (pairs_first (inside table.old sig.now scope.now blocks.old) next.entry pairs.now (labels_in table.old labels.now)) }
     ensures grows { Grows table.old table.new }
 {
@@ -331,8 +336,10 @@ fn next_pair<'b>(
     requires ready { IsReady (length table.old.trees) sig.now (bound_by blocks.old ++ bound_in scope.now) }
     requires labels { BindingsBelow (length table.old.trees) labels.now }
     requires before { BindingsBelow (length table.old.trees) before }
-    ensures gives { Goes sig.now scope.now table.new labels.now blocks.old blocks.new waits.old.items waits.new.items (4 * size_of_all rest.now + weight_next next.entry + 1) result
-        (pairs_then (inside table.old sig.now scope.now blocks.old) next.entry (read_pairs table.old.trees before) rest.now (labels_in table.old labels.now)) }
+    ensures gives { Goes sig.now scope.now table.new labels.now blocks.old blocks.new
+        waits.old.items waits.new.items (4 * size_of_all rest.now + weight_next next.entry + 1) result
+        (pairs_then (inside table.old sig.now scope.now blocks.old) next.entry
+        (read_pairs table.old.trees before) rest.now (labels_in table.old labels.now)) }
     ensures grows { Grows table.old table.new }
 {
     match rest.split_first() {
@@ -366,7 +373,7 @@ fn wait_beside<'b>(
         (pairs_then (inside table.now sig.now scope.now blocks.now) next.entry
         (read_pairs table.now.trees before) (pair.now ∷ rest.entry) (labels_in table.now labels.now)) }
 {
-    let Some((name, beside)) = pair_of(pair) else {
+    let Some((name, beside)) = binding_of(pair) else {
         return Err(ElabRefused::BadCommand);
     };
     if before.contains(name) {
@@ -407,8 +414,10 @@ fn end_pairs<'b>(
     requires ready { IsReady (length table.old.trees) sig.now (bound_by blocks.old ++ bound_in scope.now) }
     requires labels { BindingsBelow (length table.old.trees) labels.now }
     requires before { BindingsBelow (length table.old.trees) before }
-    ensures gives { Goes sig.now scope.now table.new labels.now blocks.old blocks.new waits.old.items waits.new.items (weight_next next.entry + 1) result
-        (with_names (inside table.old sig.now scope.now blocks.old) next.entry (read_pairs table.old.trees before) (labels_in table.old labels.now)) }
+    ensures gives { Goes sig.now scope.now table.new labels.now blocks.old blocks.new
+        waits.old.items waits.new.items (weight_next next.entry + 1) result
+        (with_names (inside table.old sig.now scope.now blocks.old) next.entry
+        (read_pairs table.old.trees before) (labels_in table.old labels.now)) }
     ensures grows { Grows table.old table.new }
 {
     names_law();
@@ -444,8 +453,10 @@ fn read_others<'b>(
     requires ready { IsReady (length table.old.trees) sig.now (bound_by blocks.old ++ bound_in scope.now) }
     requires labels { BindingsBelow (length table.old.trees) labels.now }
     requires before { BindingsBelow (length table.old.trees) before }
-    ensures gives { Goes sig.now scope.now table.new labels.now blocks.old blocks.new waits.old.items waits.new.items (4 * size_of_all others.now + 2) result
-        (with_names (inside table.old sig.now scope.now blocks.old) (nexts.Others binder collector others.now) (read_pairs table.old.trees before) (labels_in table.old labels.now)) }
+    ensures gives { Goes sig.now scope.now table.new labels.now blocks.old blocks.new
+        waits.old.items waits.new.items (4 * size_of_all others.now + 2) result
+        (with_names (inside table.old sig.now scope.now blocks.old) (nexts.Others binder collector others.now)
+        (read_pairs table.old.trees before) (labels_in table.old labels.now)) }
     ensures grows { Grows table.old table.new }
 {
     names_law();
@@ -487,7 +498,8 @@ fn read_next<'b>(
 ) -> Result<Now<'b>, ElabRefused>
     requires ready { IsReady (length table.old.trees) sig.now (bound_by blocks.old ++ bound_in scope.now) }
     requires labels { BindingsBelow (length table.old.trees) labels.now }
-    ensures gives { Goes sig.now scope.now table.new labels.now blocks.old blocks.new waits.old.items waits.new.items (4 * size s.now - 1) result
+    ensures gives { Goes sig.now scope.now table.new labels.now blocks.old blocks.new
+        waits.old.items waits.new.items (4 * size s.now - 1) result
         (term_in (inside table.old sig.now scope.now blocks.old) s.now (labels_in table.old labels.now)) }
     ensures grows { Grows table.old table.new }
 {
@@ -517,7 +529,8 @@ fn resume<'b>(
     requires labels { BindingsBelow (length table.old.trees) labels.old }
     requires live { id < length table.old.trees }
     requires waiting { FrameBelow (length table.old.trees) waiting }
-    ensures gives { Goes sig.now scope.now table.new labels.new (around waiting.entry blocks.old) blocks.new waits.old.items waits.new.items (weight waiting.entry) result
+    ensures gives { Goes sig.now scope.now table.new labels.new (around waiting.entry blocks.old) blocks.new
+        waits.old.items waits.new.items (weight waiting.entry) result
         (finished sig.now scope.now table.old blocks.old (waiting.entry ∷ []) (Ok (tree_in table.old id, labels_in table.old labels.old))) }
     ensures grows { Grows table.old table.new }
     ensures labels { NamesGrow table.new labels.old labels.new }
@@ -562,7 +575,8 @@ fn resume_head<'b>(
     requires labels { BindingsBelow (length table.old.trees) labels.now }
     requires live { id < length table.old.trees }
     requires some { 1 ≤ length args.now }
-    ensures gives { Goes sig.now scope.now table.new labels.now blocks.old blocks.new waits.old.items waits.new.items (4 * size_of_all args.now + 1) result
+    ensures gives { Goes sig.now scope.now table.new labels.now blocks.old blocks.new
+        waits.old.items waits.new.items (4 * size_of_all args.now + 1) result
         (headed_by (inside table.old sig.now scope.now blocks.old) args.now (tree_in table.old id) (labels_in table.old labels.now)) }
     ensures grows { Grows table.old table.new }
 {
@@ -590,8 +604,10 @@ fn resume_argument<'b>(
     requires before { All (λ i. i < length table.old.trees) before }
     requires below { UseBelow (length table.old.trees) used.now }
     requires suits { Suits used.now (length before + 1 + length rest.now) }
-    ensures gives { Goes sig.now scope.now table.new labels.now blocks.now blocks.now waits.old.items waits.new.items (4 * size_of_all rest.now + 1) result
-        (arguments_after (inside table.old sig.now scope.now blocks.now) table.old.trees used.now (trees_in table.old before ++ tree_in table.old id ∷ []) rest.now (labels_in table.old labels.now)) }
+    ensures gives { Goes sig.now scope.now table.new labels.now blocks.now blocks.now
+        waits.old.items waits.new.items (4 * size_of_all rest.now + 1) result
+        (arguments_after (inside table.old sig.now scope.now blocks.now) table.old.trees used.now
+        (trees_in table.old before ++ tree_in table.old id ∷ []) rest.now (labels_in table.old labels.now)) }
     ensures grows { Grows table.old table.new }
 {
     let mut ids = before;
@@ -654,8 +670,10 @@ fn resume_pair<'b>(
     requires live { id < length table.old.trees }
     requires before { BindingsBelow (length table.old.trees) before }
     requires new { names_in before name.now ≡ false }
-    ensures gives { Goes sig.now scope.now table.new labels.now blocks.old blocks.new waits.old.items waits.new.items (4 * size_of_all rest.now + weight_next next.entry + 1) result
-        (pairs_then (inside table.old sig.now scope.now blocks.old) next.entry (read_pairs table.old.trees before ++ (name.now, tree_in table.old id) ∷ []) rest.now (labels_in table.old labels.now)) }
+    ensures gives { Goes sig.now scope.now table.new labels.now blocks.old blocks.new
+        waits.old.items waits.new.items (4 * size_of_all rest.now + weight_next next.entry + 1) result
+        (pairs_then (inside table.old sig.now scope.now blocks.old) next.entry
+        (read_pairs table.old.trees before ++ (name.now, tree_in table.old id) ∷ []) rest.now (labels_in table.old labels.now)) }
     ensures grows { Grows table.old table.new }
 {
     let mut names = before;
@@ -724,7 +742,9 @@ fn mean_rest<'b>(
     requires labels { BindingsBelow (length table.old.trees) labels.old }
     requires waits { FramesBelow (length table.old.trees) (reverse waits.old.items) }
     requires first { NowBelow (length table.old.trees) first }
-    ensures gives { GivesTerm table.new labels.new result (finished sig.now scope.now table.old blocks.old (reverse waits.old.items) (reads sig.now scope.now table.old blocks.old labels.old first.entry)) }
+    ensures gives { GivesTerm table.new labels.new result
+        (finished sig.now scope.now table.old blocks.old (reverse waits.old.items)
+        (reads sig.now scope.now table.old blocks.old labels.old first.entry)) }
     ensures grows { Grows table.old table.new }
     ensures labels { NamesGrow table.new labels.old labels.new }
 {

@@ -3,7 +3,7 @@ use Rattle.std.specs.Prelude.{Ok}
 use Rattle.std.proofs.lemmas.List.{append_assoc}
 use Rattle.eo_sexp.specs.Sizes.{size_of_all}
 use Rattle.eo_term.specs.Growth.{tree_in, trees_in}
-use Rattle.eo_names.specs.Binders.{variable, pair_local, list_of}
+use Rattle.eo_names.specs.Binders.{variable, pair_local, variable_list}
 use Rattle.eo_names.specs.Contexts.{is_list as is_list_tree}
 use Rattle.eo_names.specs.Names.{bound_by, binding_local, read_pairs, read_locals}
 use Rattle.eo_names.specs.Ready.{IsReady}
@@ -46,7 +46,7 @@ returns-clause-gives c =
     let inner = inside n k s (bs ∷ blocks) in
     let locals : inner.locals ≡ map pair_local (map variable ps) ++ w.locals =
     ap (read_locals n.trees) (append_assoc (map binding_local bs) (bound_by blocks) (bound_in s)) ∙ is.locals n.trees ∙ (λ i. map pair_local (c.in_ok-list.ensures.names i) ++ (same i).locals) in
-    let list : list_of w.names.signature (is_list_tree w.locals) c.args.collector (map variable ps) here ≡ Ok (first, here) =
+    let list : variable_list w.names.signature (is_list_tree w.locals) c.args.collector (map variable ps) here ≡ Ok (first, here) =
     list_labels w.names.signature (is_list_tree w.locals) c.args.collector (map variable ps) here ∙ ap (relabelled here) c.in_ok-list.ensures.gives.is in
     let ids = ap (trees_in n) (c.in_ok-push.ensures.pushed ∙ ap (λ is. is ++ c.in_ok-list.list ∷ []) c.new-ids.ensures) in
     let later = labels_grown t n c.args.labels.now c.requires.labels c.bind_inside.ensures.grows.now in
