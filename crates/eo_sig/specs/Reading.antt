@@ -1,5 +1,5 @@
 -- Declarations as the program keeps them, with numbers of terms, and the declarations of trees that they are over a list of trees.
-use Rattle.std.specs.Prelude.{◌≡◌, ℕ, ◌<◌, ◌≤◌, List, [], ◌∷◌, ◌++◌, map, Option, Some, None, option_map, filter_map, length, All, true, false, codes}
+use Rattle.std.specs.Prelude.{◌≡◌, ℕ, ◌<◌, ◌≤◌, List, [], ◌∷◌, ◌++◌, map, Option, Some, None, Result, Ok, Err, option_map, filter_map, length, All, true, false, codes}
 use Rattle.eo_base.specs.Limits.{parameters_limit}
 use Rattle.eo_term.specs.Tree.{Tree}
 use Rattle.eo_term.specs.Terms.{tree_at}
@@ -201,6 +201,11 @@ IsWithin k (names.Program n) = n < length (programs_of k)
 
 abbrev pub with_entry : Declared → Kept → Kept
 with_entry x k = record { entries = k.entries ++ x ∷ []; macros = k.macros }
+
+-- a declaration that is added comes behind those that are kept; a refused call changes nothing
+abbrev pub Enters : {X E : Type 0} → Result X E → Declared → (old new : Kept) → Type 0
+Enters (Ok x) d old new = new ≡ with_entry d old
+Enters (Err e) d old new = new ≡ old
 
 abbrev pub with_macro : MacroDecl → Kept → Kept
 with_macro d k = record { entries = k.entries; macros = k.macros ++ d ∷ [] }

@@ -6,7 +6,7 @@ ghost use Rattle.eo_sig.specs.Signature as sig;
 ghost use Rattle.eo_sig.specs.declared.records.Declared.TheVariants as declared;
 ghost use Rattle.eo_sig.specs.Reading.{signature, read_parameter, read_constant, read_macro, read_program, read_rule, read_premises};
 ghost use Rattle.eo_sig.specs.Reading.{IsBelow, ConstBelow, MacroBelow, ProgramBelow, RuleBelow};
-ghost use Rattle.eo_sig.specs.Reading.{with_entry, with_macro, IsFree, IsFreeRule, Adds, AddsAt, AddsMacro};
+ghost use Rattle.eo_sig.specs.Reading.{with_entry, with_macro, Enters, IsFree, IsFreeRule, Adds, AddsAt, AddsMacro};
 ghost use Rattle.eo_sig.specs.Refused.{Tells};
 ghost use Rattle.eo_sig.specs.Usable.{AreOrdered, StaysUsable};
 
@@ -100,11 +100,10 @@ impl Signature {
         requires live { RuleBelow (length table.now.trees) d }
         requires ordered { AreOrdered table.now.trees d.params }
         ensures tells { Tells result (sig.rule_fault (signature table.now.trees self.old) (read_rule table.now.trees d)) }
-        ensures kept { OnOk result (self.new ≡ with_entry (declared.Rule d) self.old) }
+        ensures kept { Enters result (declared.Rule d) self.old self.new }
         ensures adds { IfOk result (AddsAt sig.rules self.old (λ ts. sig.IsRule (read_rule ts d)) self.new) }
         ensures usable { OnOk result ((ts : List Tree) → AreOrdered ts d.params → StaysUsable ts self.old self.new) }
         ensures below { OnOk result ((m : ℕ) → IsBelow m self.old → RuleBelow m d → IsBelow m self.new) }
-        ensures err { OnErr result (self.new ≡ self.old) }
     {
         let ((), d) = both(self.check_rule(table, &d), d)?;
         let number = self.rules();
