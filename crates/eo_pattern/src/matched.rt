@@ -1,5 +1,5 @@
 //! The terms that patterns became.
-ghost use Rattle.std.specs.Prelude.{◌≡◌, ◌≢◌, ◌<◌, ◌≤◌, ◌⊎◌, ◌↔◌, ℕ, [], length, IsTrue, OnOk, OnErr};
+ghost use Rattle.std.specs.Prelude.{◌≡◌, ◌≢◌, ◌<◌, ◌≤◌, ◌⊎◌, ◌↔◌, ℕ, [], length, max, IsTrue, OnOk, OnErr};
 ghost use Rattle.eo_term.specs.Growth.{tree_in};
 ghost use Rattle.eo_pattern.specs.Matched.{IsKept, is_large};
 
@@ -53,6 +53,7 @@ impl Pairs {
     pub(crate) fn reserve(&mut self, n: usize) -> Result<(), AllocError>
         ensures room { OnOk result (n ≤ length self.new.entries) }
         ensures more { length self.old.entries ≤ length self.new.entries }
+        ensures least { length self.new.entries ≤ max n (length self.old.entries) }
         ensures kept { (p t : ℕ) → IsKept self.old p t → IsKept self.new p t }
         ensures err { OnErr result (self.new ≡ self.old) }
     {

@@ -4,7 +4,7 @@ ghost use Rattle.std.specs.Option.{option_flatten};
 ghost use Rattle.eo_term.specs.Tree.{Tree};
 ghost use Rattle.eo_term.specs.Terms.{tree_at};
 ghost use Rattle.eo_pattern.specs.Matching.{assign, empty};
-ghost use Rattle.eo_pattern.specs.Slots.{held, AreBelow, AreEmpty, IsAssigned};
+ghost use Rattle.eo_pattern.specs.Slots.{held, AreBelow, AreEmpty, IsAssigned, IsNoMore};
 
 use eo_term::{Id, ParamSet};
 use std::alloc::{AllocError, Global};
@@ -49,7 +49,7 @@ impl Held {
         ensures height { OnOk result (height ≤ self.new.height) }
         ensures more_pars { length self.old.values ≤ length self.new.values }
         ensures more_height { self.old.height ≤ self.new.height }
-        ensures least { (n : ℕ) → self.old.height ≤ n → height ≤ n → self.new.height ≤ n }
+        ensures least { IsNoMore pars height self.old self.new }
         ensures err { OnErr result (self.new ≡ self.old) }
     {
         if self.values.len() < pars {

@@ -5,7 +5,7 @@ ghost use Rattle.eo_term.specs.Tree.{Tree};
 ghost use Rattle.eo_term.specs.Terms.{tree_at};
 ghost use Rattle.eo_term.specs.Growth.{tree_in};
 ghost use Rattle.eo_pattern.specs.Matching.{assign, empty};
-ghost use Rattle.eo_pattern.specs.Slots.{held, AreBelow, AreEmpty, HasRoom, IsAssigned};
+ghost use Rattle.eo_pattern.specs.Slots.{held, AreBelow, AreEmpty, HasRoom, IsAssigned, IsNoMore};
 
 use crate::matched::{Pairs, is_large};
 use crate::slots::Held;
@@ -51,9 +51,9 @@ impl Subst {
         }
     }
 
-    /// Makes room for the parameters below `pars`, and for patterns of at most that height. The
-    /// values stay, and so does room that is there already. Where there is no memory left, nothing
-    /// changes.
+    /// Makes room for the parameters below `pars`, and for patterns of at most that height, and for
+    /// no more than that. The values stay, and so does room that is there already. Where there is no
+    /// memory left, nothing changes.
     pub fn reserve(&mut self, pars: usize, height: usize) -> Result<(), AllocError>
         ensures held { (ts : List Tree) → held ts self.new ≡ held ts self.old }
         ensures below { (n : ℕ) → AreBelow n self.old → AreBelow n self.new }
@@ -61,6 +61,7 @@ impl Subst {
         ensures height { OnOk result (height ≤ self.new.height) }
         ensures more_pars { length self.old.values ≤ length self.new.values }
         ensures more_height { self.old.height ≤ self.new.height }
+        ensures least { IsNoMore pars height self.old self.new }
         ensures err { OnErr result (self.new ≡ self.old) }
     {
         let Some(tasks) = height.checked_mul(2) else {
