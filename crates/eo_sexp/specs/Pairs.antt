@@ -1,6 +1,7 @@
 -- The first parts of a list.
 use Rattle.std.specs.Prelude.{ℕ, List, [], ◌∷◌, Option, Some, None}
-use Rattle.eo_sexp.specs.Sexp.{Sexp, Span, Listed, children_of}
+use Rattle.eo_sexp.specs.Sexp.{Sexp, Span}
+pub use Rattle.eo_sexp.specs.Sexp.{list_of, only_two}
 
 abbrev pub pair_of_span : Span → ℕ × ℕ
 pair_of_span s = (s.from, s.to)
@@ -21,14 +22,6 @@ abbrev pub only_one : List Sexp → Option Sexp
 only_one (a ∷ []) = Some a
 only_one ss = None
 
-abbrev pub only_two : List Sexp → Option (Sexp × Sexp)
-only_two (a ∷ b ∷ []) = Some (a, b)
-only_two ss = None
-
 abbrev pub only_three : List Sexp → Option (Sexp × Sexp × Sexp)
 only_three (a ∷ b ∷ c ∷ []) = Some (a, b, c)
 only_three ss = None
-
-abbrev pub list_of : Sexp → Option (List Sexp)
-list_of (Listed inside span) = Some (children_of inside)
-list_of s = None

@@ -4,7 +4,8 @@ use Rattle.std.specs.List.{list_all}
 use Rattle.eo_base.specs.declared.FaultName.TheVariants.{UnknownCommand, BadCommand}
 use Rattle.eo_base.specs.Checks.{Checked, ◌>>=◌, value_or}
 use Rattle.eo_sexp.specs.AtomKind as kind
-use Rattle.eo_sexp.specs.Sexp.{Sexp, Atom, Listed, Next, children_of}
+use Rattle.eo_sexp.specs.Sexp.{Sexp, Atom, Listed, Next, children_of, only_two}
+pub use Rattle.eo_sexp.specs.Sexp.{list_of}
 use Rattle.eo_lit.specs.declared.LiteralClass.{LiteralClass}
 use Rattle.eo_lit.specs.declared.LiteralClass.TheVariants.{Numeral, Binary, String}
 use Rattle.eo_shape.specs.Words.{symbol_of, keyword_of, numeral_of, string_of, is_some_word}
@@ -93,10 +94,6 @@ abbrev pub every : {A B : Type 0} → (A → Option B) → List A → Option (Li
 every f [] = Some []
 every f (x ∷ xs) = option_and_then (λ y. option_map (λ ys. y ∷ ys) (every f xs)) (f x)
 
-abbrev pub list_of : Sexp → Option (List Sexp)
-list_of (Listed inside span) = Some (children_of inside)
-list_of s = None
-
 abbrev pub list_of_each : {B : Type 0} → (Sexp → Option B) → Sexp → Option (List B)
 list_of_each f s = option_and_then (every f) (list_of s)
 
@@ -113,13 +110,9 @@ abbrev pub optional_list : {B : Type 0} → (Sexp → Option (List B)) → List 
 optional_list f word (k ∷ v ∷ rest) = if is_keyword word k then option_map (λ xs. (xs, rest)) (f v) else Some ([], k ∷ v ∷ rest)
 optional_list f word ss = Some ([], ss)
 
--- (t t)
-abbrev pub pair_of : List Sexp → Option (Sexp × Sexp)
-pair_of (a ∷ b ∷ []) = Some (a, b)
-pair_of ss = None
-
+-- each of them (t t)
 abbrev pub pairs_of : Sexp → Option (List (Sexp × Sexp))
-pairs_of s = list_of_each (λ q. option_and_then pair_of (list_of q)) s
+pairs_of s = list_of_each (λ q. option_and_then only_two (list_of q)) s
 
 abbrev pub symbols_of : Sexp → Option (List (List ℕ))
 symbols_of s = list_of_each symbol_of s
