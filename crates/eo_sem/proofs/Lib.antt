@@ -1,0 +1,17 @@
+pub mod Accepted
+pub mod Fixed
+pub mod SuiteKinds
+pub mod Lists
+pub mod Operators
+pub mod Plain
+pub mod Programs
+pub mod ProveVectors
+pub mod Proving
+pub mod Resolving
+pub mod Schemas
+pub mod Semantic
+pub mod Special
+pub mod SuiteRun
+pub mod TruthVectors
+pub mod Validity
+pub mod Yields

@@ -1,0 +1,12 @@
+pub mod AfterPrelude
+pub mod Building
+pub mod CommandLaws
+pub mod Connectives
+pub mod Proving
+pub mod Reached
+pub mod SemanticRules
+pub mod Suite
+pub mod SuiteConstants
+pub mod SuitePrograms
+pub mod SuiteRules
+pub mod Truth
