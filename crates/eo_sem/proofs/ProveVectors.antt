@@ -1,5 +1,5 @@
 -- Whole checks after the suite, and whether their commands use rules that keep truth alone.
-use Rattle.std.specs.Prelude.{◌≡◌, ◌≢◌, refl, ℕ, true, false, List, [], ◌∷◌, ◌++◌, codes, Option, Some, None, option_and_then, Ok, Err}
+use Rattle.std.specs.Prelude.{◌≡◌, ◌≢◌, refl, ℕ, true, false, List, [], ◌∷◌, ◌++◌, codes, Bool, Option, Some, None, is_some, option_and_then, Ok, Err}
 use Rattle.std.proofs.Common.{subst}
 use Rattle.std.proofs.lemmas.Option.{none-some, same_Some}
 use Rattle.eo_base.specs.Checks.{Checked}
@@ -12,9 +12,8 @@ use Rattle.eo_run.specs.Check.{checked}
 use Rattle.eo_run.specs.Run.{Ran, commands_of}
 use Rattle.eo_run.specs.Verdict.{Verdict, Correct, Refused}
 use Rattle.eo_sem.proofs.Accepted.{after_all, IfThere, then_there, all_there}
-use Rattle.eo_sem.proofs.SuiteRun.{state_after}
 use Rattle.eo_sem.specs.AfterPrelude.{run_prelude, before_proof_after, run_check_after}
-use Rattle.eo_sem.specs.Proving.{prove_run, IsProved}
+use Rattle.eo_sem.specs.Proving.{prove_run}
 use Rattle.eo_sem.specs.Reached.{ReachedBy, is_first, begins, accepts}
 use Rattle.eo_sem.specs.SemanticRules.{is_semantic}
 use Rattle.eo_sem.specs.Suite.{suite_state}
@@ -47,6 +46,7 @@ begun_there (Err fault) h new e = absurd (none-some new e)
 file_there : (from : Origin) → from ≢ origin.Signature → (reads : Reads) (st : State) → Reached st → IfThere Reached (after_all from reads st)
 file_there from other = all_there Reached from (λ st s r h may e. accepts from s r.1 h other may e)
 
+-- what they lead to is reached
 files_there : (reference proof : List ℕ) → IfThere Reached (after_files reference proof)
 files_there reference proof =
     then_there Reached (after_reference reference) (after_all origin.Proof (commands_of true proof))
@@ -69,16 +69,9 @@ ran reference proof = prove_run (files reference proof) (codes "r.smt2") (codes 
 abbrev verdict : (reference proof : List ℕ) → Verdict
 verdict reference proof = checked (files reference proof) (codes "p.eo") (ran reference proof)
 
-abbrev Proves : (reference proof : List ℕ) → Type 0
-Proves reference proof = IsProved (files reference proof) (codes "r.smt2") (codes "p.eo")
-
--- a correct check that ends where its commands lead to by rules that keep truth
-proves : (reference proof : List ℕ) → verdict reference proof ≡ Correct → after_files reference proof ≡ state_after (ran reference proof) → Proves reference proof
-proves reference proof correct same = by (ran reference proof) refl correct same
-  where
-    by : (r : Ran) → ran reference proof ≡ r → checked (files reference proof) (codes "p.eo") r ≡ Correct → after_files reference proof ≡ state_after r → Proves reference proof
-    by (Ok q) e c same = record { final = q; ends = e; correct = c; by_semantic = files_there reference proof q.state same }
-    by (Err refusal) e c same = absurd (cc c)
+-- whether each command uses no rule or one that keeps truth, so that the state after them is reached by such rules
+abbrev is_semantic_proof : (reference proof : List ℕ) → Bool
+is_semantic_proof reference proof = is_some (after_files reference proof)
 
 abbrev fault : Verdict → Option (FaultName × ℕ × ℕ)
 fault (Refused r) = Some (r.name, r.line, r.offset)
@@ -94,9 +87,13 @@ abbrev contradicting : List ℕ
 contradicting =
     lines (codes "unsat" ∷ codes "(" ∷ codes "(declare-const p Bool)" ∷ codes "(define @t1 () (not p))" ∷ codes "(assume @p1 p)" ∷ codes "(assume @p2 @t1)" ∷ codes "(step @p3 false :rule contra :premises (@p1 @p2))" ∷ codes ")" ∷ [])
 
-contradicted : Proves contradiction contradicting
+contradicted : verdict contradiction contradicting ≡ Correct
 unfolding computed suite suite_state prove_run run_check_after before_proof_after run_prelude
-contradicted = proves contradiction contradicting refl refl
+contradicted = refl
+
+contradicted_by_semantic : is_semantic_proof contradiction contradicting ≡ true
+unfolding computed suite_state
+contradicted_by_semantic = refl
 
 abbrev clauses : List ℕ
 clauses =
@@ -109,9 +106,13 @@ abbrev resolving : List ℕ
 resolving =
     lines (assumed ++ (codes "(step @p4 q :rule resolution :premises (@p1 @p2) :args (true p))" ∷ codes "(step @p5 false :rule resolution :premises (@p4 @p3) :args (true q))" ∷ []))
 
-resolved : Proves clauses resolving
+resolved : verdict clauses resolving ≡ Correct
 unfolding computed suite suite_state prove_run run_check_after before_proof_after run_prelude
-resolved = proves clauses resolving refl refl
+resolved = refl
+
+resolved_by_semantic : is_semantic_proof clauses resolving ≡ true
+unfolding computed suite_state
+resolved_by_semantic = refl
 
 -- a correct check by a rule that is none of those that keep truth
 abbrev chaining : List ℕ
@@ -122,8 +123,8 @@ chained : verdict clauses chaining ≡ Correct
 unfolding computed suite suite_state prove_run run_check_after before_proof_after run_prelude
 chained = refl
 
-chained_by_other : after_files clauses chaining ≡ None
-unfolding computed suite suite_state prove_run run_check_after before_proof_after run_prelude
+chained_by_other : is_semantic_proof clauses chaining ≡ false
+unfolding computed suite_state
 chained_by_other = refl
 
 -- a proof that declares a rule of its own
@@ -148,6 +149,10 @@ abbrev discharging : List ℕ
 discharging =
     lines (codes "(assume-push @h q)" ∷ codes "(step-pop @i :rule scope :premises (@h))" ∷ codes "(assume @n (not (=> q q)))" ∷ codes "(step @f false :rule contra :premises (@i @n))" ∷ [])
 
-discharged : Proves implications discharging
+discharged : verdict implications discharging ≡ Correct
 unfolding computed suite suite_state prove_run run_check_after before_proof_after run_prelude
-discharged = proves implications discharging refl refl
+discharged = refl
+
+discharged_by_semantic : is_semantic_proof implications discharging ≡ true
+unfolding computed suite_state
+discharged_by_semantic = refl

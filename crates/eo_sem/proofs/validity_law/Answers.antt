@@ -1,6 +1,4 @@
 use Rattle.eo_sem.proofs.Proving.{proved_refutes, run_reaches}
-use Rattle.eo_sem.proofs.ProveVectors
-use Rattle.eo_sem.proofs.TruthVectors
 use Rattle.eo_sem.proofs.Validity.{reached_refutes}
 use Rattle.eo_sem.proofs.validity_law.Goals as goal
 use Rattle.eo_sem.specs.CommandLaws.{CommandLaws}
