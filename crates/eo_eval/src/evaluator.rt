@@ -3,7 +3,7 @@ ghost use Rattle.std.specs.Prelude.{◌≡◌, ◌<◌, length, OnErr};
 ghost use Rattle.eo_sig.specs.Growth.{GrowsUnder};
 ghost use Rattle.eo_sig.specs.Reading.{signature};
 ghost use Rattle.eo_sig.specs.Usable.{IsUsable};
-ghost use Rattle.eo_type.specs.Known.{Fit};
+ghost use Rattle.eo_type.specs.Known.{Fit, StillFit};
 ghost use Rattle.eo_eval.specs.Outcomes.{GivesOutcome, outcome_of};
 
 use crate::machine::Machine;
@@ -69,7 +69,8 @@ impl Evaluator {
     /// is a value is answered at once, without memory.
     ///
     /// Want of memory is the only refusal. It leaves the table as it was, and of the types those of
-    /// terms that are there. The terms that were there stay in either case.
+    /// terms that are there. The terms that were there, and the types that were kept, stay in either
+    /// case.
     ///
     /// [`CALL_DEPTH`]: eo_base::limits::CALL_DEPTH
     /// [`CALLS`]: eo_base::limits::CALLS
@@ -85,21 +86,39 @@ impl Evaluator {
         requires fit { Fit sig.now table.old types.old }
         ensures gives { GivesOutcome table.new result (outcome_of sig.now table.old id) }
         ensures refused { OnErr result (table.new ≡ table.old) }
-        ensures fits { Fit sig.now table.new types.new }
+        ensures fits { StillFit sig.now table.new types.old types.new }
         ensures grows { GrowsUnder sig.now table.old table.new }
     {
         if table.is_value(id) {
             return Ok(Outcome::Value(id));
         }
         let mark = table.mark();
-        let result = self.machine.evaluate(sig, table, types, id);
-        self.machine.clear();
-        match result {
+        match self.evaluated(sig, table, types, id) {
             Ok(outcome) => Ok(outcome),
             Err(e) => {
                 types.undo(table, mark);
                 Err(e)
             }
         }
+    }
+
+    // The same for any term, but that a refused call leaves the terms that it made.
+    fn evaluated(
+        &mut self,
+        sig: &Signature,
+        table: &mut Table,
+        types: &mut Types,
+        id: Id,
+    ) -> Result<Outcome, EvalRefused>
+        requires live { id < length table.old.trees }
+        requires usable { IsUsable (signature table.old.trees sig.now) }
+        requires fit { Fit sig.now table.old types.old }
+        ensures gives { GivesOutcome table.new result (outcome_of sig.now table.old id) }
+        ensures fits { StillFit sig.now table.new types.old types.new }
+        ensures grows { GrowsUnder sig.now table.old table.new }
+    {
+        let result = self.machine.evaluate(sig, table, types, id);
+        self.machine.clear();
+        result
     }
 }

@@ -5,7 +5,7 @@ ghost use Rattle.eo_term.specs.Growth.{tree_in};
 ghost use Rattle.eo_term.specs.Terms.{Terms};
 ghost use Rattle.eo_sig.specs.Reading.{Kept, signature};
 ghost use Rattle.eo_sig.specs.Usable.{IsUsable};
-ghost use Rattle.eo_type.specs.Known.{Fit};
+ghost use Rattle.eo_type.specs.Known.{Fit, StillFit};
 ghost use Rattle.eo_sig.specs.Growth.{GrowsUnder};
 ghost use Rattle.eo_stack.specs.Evaluation.{eval0, eval};
 ghost use Rattle.eo_stack.specs.Reading.{outcome_in, is_par, IsWhole, NowBelow, OutcomeBelow};
@@ -84,7 +84,7 @@ impl Machine {
         requires usable { IsUsable (signature table.old.trees sig.now) }
         requires fit { Fit sig.now table.old types.old }
         ensures gives { GivesOutcome table.new result (outcome_of sig.now table.old id) }
-        ensures fits { Fit sig.now table.new types.new }
+        ensures fits { StillFit sig.now table.new types.old types.new }
         ensures grows { GrowsUnder sig.now table.old table.new }
     {
         sig.laws();
@@ -141,7 +141,7 @@ impl Machine {
         requires ready { Ready sig.now table.old types.old self.old now.old }
         ensures told { OnOk result (told_in sig.now table.new self.new now.new ≡ told_in sig.now table.old self.old now.old) }
         ensures ready { OnOk result (Ready sig.now table.new types.new self.new now.new) }
-        ensures fits { Fit sig.now table.new types.new }
+        ensures fits { StillFit sig.now table.new types.old types.new }
         ensures grows { GrowsUnder sig.now table.old table.new }
     {
         *now = self.turn(sig, table, types, *now)?;
@@ -159,7 +159,7 @@ impl Machine {
         requires ready { Ready sig.now table.old types.old self.old now }
         ensures told { IfOk result (λ n. told_in sig.now table.new self.new n ≡ told_in sig.now table.old self.old now) }
         ensures ready { IfOk result (λ n. Ready sig.now table.new types.new self.new n) }
-        ensures fits { Fit sig.now table.new types.new }
+        ensures fits { StillFit sig.now table.new types.old types.new }
         ensures grows { GrowsUnder sig.now table.old table.new }
     {
         match now {
@@ -185,7 +185,7 @@ impl Machine {
         requires ready { Ready sig.now table.old types.old self.old (next.Enter id left) }
         ensures told { IfOk result (λ n. told_in sig.now table.new self.new n ≡ told_in sig.now table.old self.old (next.Enter id left)) }
         ensures ready { IfOk result (λ n. Ready sig.now table.new types.new self.new n) }
-        ensures fits { Fit sig.now table.new types.new }
+        ensures fits { StillFit sig.now table.new types.old types.new }
         ensures grows { GrowsUnder sig.now table.old table.new }
     {
         if table.is_value(id) {
@@ -210,7 +210,7 @@ impl Machine {
         requires open { is_value (tree_in table.old id) ≡ false }
         ensures told { IfOk result (λ n. told_in sig.now table.new self.new n ≡ told_in sig.now table.old self.old (next.Enter id left)) }
         ensures ready { IfOk result (λ n. Ready sig.now table.new types.new self.new n) }
-        ensures fits { Fit sig.now table.new types.new }
+        ensures fits { StillFit sig.now table.new types.old types.new }
         ensures grows { GrowsUnder sig.now table.old table.new }
     {
         match table.node(id) {
@@ -238,7 +238,7 @@ impl Machine {
         requires whole { IsWhole (entered table.old.trees self.old.scope id) }
         ensures told { IfOk result (λ n. told_in sig.now table.new self.new n ≡ told_in sig.now table.old self.old (next.Enter id left)) }
         ensures ready { IfOk result (λ n. Ready sig.now table.new types.new self.new n) }
-        ensures fits { Fit sig.now table.new types.new }
+        ensures fits { StillFit sig.now table.new types.old types.new }
         ensures grows { GrowsUnder sig.now table.old table.new }
     {
         let base = self.stack.values.len();

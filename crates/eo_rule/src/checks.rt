@@ -5,7 +5,7 @@ ghost use Rattle.eo_sig.specs.Reading.{SomeBelow, signature};
 ghost use Rattle.eo_term.specs.Growth.{tree_in};
 ghost use Rattle.eo_term.specs.Terms.{tree_at};
 ghost use Rattle.eo_term.specs.Tree.{Tree};
-ghost use Rattle.eo_type.specs.Known.{Fit};
+ghost use Rattle.eo_type.specs.Known.{Fit, StillFit};
 ghost use Rattle.eo_rule.specs.Answers.{GivesTerm, Passes};
 ghost use Rattle.eo_rule.specs.Uses as spec;
 
@@ -46,7 +46,7 @@ pub(crate) fn check_formula(
     requires live { id < length table.old.trees }
     requires fit { Fit sig.now table.old types.old }
     ensures passes { Passes result (spec.check_formula (signature table.old.trees sig.now) (tree_in table.old id)) }
-    ensures fits { Fit sig.now table.new types.new }
+    ensures fits { StillFit sig.now table.new types.old types.new }
     ensures grows { GrowsUnder sig.now table.old table.new }
 {
     let ty = value_type(sig, table, types, id)?;

@@ -7,7 +7,7 @@ ghost use Rattle.eo_sig.specs.Growth.{GrowsUnder};
 ghost use Rattle.eo_sig.specs.Reading.{RuleBelow, read_rule, signature};
 ghost use Rattle.eo_term.specs.Builds.{Builds};
 ghost use Rattle.eo_term.specs.Growth.{Grows};
-ghost use Rattle.eo_type.specs.Known.{Fit};
+ghost use Rattle.eo_type.specs.Known.{StillFit};
 ghost use Rattle.eo_rule.specs.Answers.{GivesTerm};
 ghost use Rattle.eo_rule.specs.Instance.{guarded_conclusion};
 ghost use Rattle.eo_rule.specs.Reading.{Serves};
@@ -39,7 +39,7 @@ pub(crate) fn conclude_value(
     ensures gives { GivesTerm table.new result (spec.conclude_value (signature table.old.trees sig.now)
         (put (held table.old.trees subst.now) (guarded_conclusion (read_rule table.old.trees rule.now)))) }
     ensures value { IfOk result (IsValueOf table.new) }
-    ensures fits { Fit sig.now table.new types.new }
+    ensures fits { StillFit sig.now table.new types.old types.new }
     ensures grows { GrowsUnder sig.now table.old table.new }
 {
     sig.laws();

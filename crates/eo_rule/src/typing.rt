@@ -5,7 +5,7 @@ ghost use Rattle.eo_sig.specs.Growth.{GrowsUnder};
 ghost use Rattle.eo_sig.specs.Reading.{SomeBelow, read_parameter, signature};
 ghost use Rattle.eo_sig.specs.declared.records.Param.{Param};
 ghost use Rattle.eo_term.specs.Growth.{tree_in};
-ghost use Rattle.eo_type.specs.Known.{Fit};
+ghost use Rattle.eo_type.specs.Known.{Fit, StillFit};
 ghost use Rattle.eo_rule.specs.Answers.{GivesAssignment};
 ghost use Rattle.eo_rule.specs.Uses as spec;
 
@@ -35,7 +35,7 @@ pub(crate) fn check_types(
     requires fit { Fit sig.now table.old types.old }
     ensures gives { GivesAssignment table.new result subst.new (spec.check_types (signature table.old.trees sig.now)
         (held table.old.trees subst.old) 0 (map (read_parameter table.old.trees) params.now)) }
-    ensures fits { Fit sig.now table.new types.new }
+    ensures fits { StillFit sig.now table.new types.old types.new }
     ensures grows { GrowsUnder sig.now table.old table.new }
 {
     table_law();
@@ -64,7 +64,7 @@ fn check_parameter(
     requires fit { Fit sig.now table.old types.old }
     ensures gives { GivesAssignment table.new result subst.new (spec.check_type (signature table.old.trees sig.now)
         (held table.old.trees subst.old) (tree_in table.old ty) (held table.old.trees subst.old par)) }
-    ensures fits { Fit sig.now table.new types.new }
+    ensures fits { StillFit sig.now table.new types.old types.new }
     ensures grows { GrowsUnder sig.now table.old table.new }
 {
     sig.laws();
@@ -90,7 +90,7 @@ fn check_value(
     requires fit { Fit sig.now table.old types.old }
     ensures gives { GivesAssignment table.new result subst.new (spec.check_value (signature table.old.trees sig.now)
         (held table.old.trees subst.old) (tree_in table.old ty) (tree_in table.old value)) }
-    ensures fits { Fit sig.now table.new types.new }
+    ensures fits { StillFit sig.now table.new types.old types.new }
     ensures grows { GrowsUnder sig.now table.old table.new }
 {
     sig.laws();

@@ -3,7 +3,7 @@ ghost use Rattle.std.specs.Prelude.{◌≡◌, ◌<◌, length, IfOk, OnErr};
 ghost use Rattle.eo_eval.specs.Outcomes.{IsValueOf};
 ghost use Rattle.eo_sig.specs.Growth.{GrowsUnder};
 ghost use Rattle.eo_sig.specs.Reading.{RuleBelow, read_rule, rules_of, signature};
-ghost use Rattle.eo_type.specs.Known.{Fit};
+ghost use Rattle.eo_type.specs.Known.{StillFit};
 ghost use Rattle.eo_rule.specs.Answers.{AnswersOnly, GivesTerm};
 ghost use Rattle.eo_rule.specs.Reading.{AreValuesIn, ConcludesIn, IsUseOf, Serves, UseBelow, conclusion_in, read_use};
 ghost use Rattle.eo_rule.specs.Uses.{kind_conclusion, rule_conclusion};
@@ -40,7 +40,8 @@ use std::alloc::Global;
 /// `Memory`: want of memory. What is given are values, but that the stated formula may be any term.
 /// The formula that is answered is the only instance of the rule, and a value; after a fault there is
 /// no instance. A refused call leaves the table as it was, and of the types those of terms that are
-/// there. What `subst` holds is let go first: it is lent so that its room serves many uses.
+/// there. The types that were kept stay in either case. What `subst` holds is let go first: it is lent
+/// so that its room serves many uses.
 pub fn conclude(
     alloc: Global,
     sig: &Signature,
@@ -57,7 +58,7 @@ pub fn conclude(
     ensures gives { GivesTerm table.new result (conclusion_in sig.now table.old rule given.now) }
     ensures instance { AnswersOnly table.new result (ConcludesIn sig.now table.old rule given.now) }
     ensures refused { OnErr result (table.new ≡ table.old) }
-    ensures fits { Fit sig.now table.new types.new }
+    ensures fits { StillFit sig.now table.new types.old types.new }
     ensures grows { GrowsUnder sig.now table.old table.new }
 {
     let mark = table.mark();
@@ -87,7 +88,7 @@ fn concluded(
     requires serves { Serves sig.now table.old types.old }
     ensures gives { GivesTerm table.new result (conclusion_in sig.now table.old rule given.now) }
     ensures instance { AnswersOnly table.new result (ConcludesIn sig.now table.old rule given.now) }
-    ensures fits { Fit sig.now table.new types.new }
+    ensures fits { StillFit sig.now table.new types.old types.new }
     ensures grows { GrowsUnder sig.now table.old table.new }
 {
     conclusion_law();
@@ -112,7 +113,7 @@ fn conclude_by(
     ensures gives { GivesTerm table.new result (rule_conclusion (signature table.old.trees sig.now)
         (read_rule table.old.trees rule.now) (read_use table.old.trees given.now)) }
     ensures value { IfOk result (IsValueOf table.new) }
-    ensures fits { Fit sig.now table.new types.new }
+    ensures fits { StillFit sig.now table.new types.old types.new }
     ensures grows { GrowsUnder sig.now table.old table.new }
 {
     check_kind(rule.assumption, given.assumption)?;
@@ -136,7 +137,7 @@ fn conclude_checked(
     ensures gives { GivesTerm table.new result (kind_conclusion (signature table.old.trees sig.now)
         (read_rule table.old.trees rule.now) (read_use table.old.trees given.now)) }
     ensures value { IfOk result (IsValueOf table.new) }
-    ensures fits { Fit sig.now table.new types.new }
+    ensures fits { StillFit sig.now table.new types.old types.new }
     ensures grows { GrowsUnder sig.now table.old table.new }
 {
     sig.laws();

@@ -8,7 +8,7 @@ ghost use Rattle.eo_sig.specs.Growth.{GrowsUnder};
 ghost use Rattle.eo_sig.specs.Reading.{signature};
 ghost use Rattle.eo_term.specs.Growth.{Grows, tree_in};
 ghost use Rattle.eo_term.specs.Terms.{Terms};
-ghost use Rattle.eo_type.specs.Known.{Fit};
+ghost use Rattle.eo_type.specs.Known.{Fit, StillFit};
 ghost use Rattle.eo_type.specs.Types.{settled};
 ghost use Rattle.eo_rule.specs.Answers.{GivesTerm, GivesValue};
 ghost use Rattle.eo_rule.specs.Reading.{Serves};
@@ -27,7 +27,7 @@ use std::alloc::Global;
 ///
 /// `IllTyped`: it has none, or none that is a value. `NumberRange`, `TermHeight`: a number in it is
 /// out of range, or it is too tall. `Memory`: want of memory. A refused call leaves the table as it
-/// was, and of the types those of terms that are there.
+/// was, and of the types those of terms that are there. The types that were kept stay in either case.
 pub fn value_type(
     sig: &Signature,
     table: &mut Table,
@@ -38,7 +38,7 @@ pub fn value_type(
     requires fit { Fit sig.now table.old types.old }
     ensures gives { GivesTerm table.new result (typed (signature table.old.trees sig.now) (tree_in table.old id)) }
     ensures refused { OnErr result (table.new ≡ table.old) }
-    ensures fits { Fit sig.now table.new types.new }
+    ensures fits { StillFit sig.now table.new types.old types.new }
     ensures grows { GrowsUnder sig.now table.old table.new }
 {
     let mark = table.mark();
@@ -61,7 +61,7 @@ fn type_found(
     requires live { id < length table.old.trees }
     requires fit { Fit sig.now table.old types.old }
     ensures gives { GivesTerm table.new result (typed (signature table.old.trees sig.now) (tree_in table.old id)) }
-    ensures fits { Fit sig.now table.new types.new }
+    ensures fits { StillFit sig.now table.new types.old types.new }
     ensures grows { GrowsUnder sig.now table.old table.new }
 {
     let Some(ty) = types.type_of(sig, table, id)? else {
@@ -114,7 +114,7 @@ fn settled_type(
 ///
 /// `Stuck`, `NumberRange`, `TermHeight`, `EvalDepth`, `EvalCalls`: it has none, and its evaluation
 /// ends so. `Memory`: want of memory. A refused call leaves the table as it was, and of the types
-/// those of terms that are there.
+/// those of terms that are there. The types that were kept stay in either case.
 pub fn value_of(
     sig: &Signature,
     table: &mut Table,
@@ -127,7 +127,7 @@ pub fn value_of(
     ensures gives { GivesTerm table.new result (value_or_fault (outcome_of sig.now table.old id)) }
     ensures value { IfOk result (IsValueOf table.new) }
     ensures refused { OnErr result (table.new ≡ table.old) }
-    ensures fits { Fit sig.now table.new types.new }
+    ensures fits { StillFit sig.now table.new types.old types.new }
     ensures grows { GrowsUnder sig.now table.old table.new }
 {
     let mark = table.mark();
@@ -152,7 +152,7 @@ fn value_found(
     requires serves { Serves sig.now table.old types.old }
     ensures gives { GivesTerm table.new result (value_or_fault (outcome_of sig.now table.old id)) }
     ensures value { IfOk result (IsValueOf table.new) }
-    ensures fits { Fit sig.now table.new types.new }
+    ensures fits { StillFit sig.now table.new types.old types.new }
     ensures grows { GrowsUnder sig.now table.old table.new }
 {
     let outcome = eval.evaluate(sig, table, types, id)?;

@@ -9,7 +9,7 @@ ghost use Rattle.eo_sig.specs.Reading.{signature, IsBelow};
 ghost use Rattle.eo_sig.specs.Growth.{GrowsUnder};
 ghost use Rattle.eo_lists.specs.Outcomes.{IsListOperator, GivesList, value_in};
 ghost use Rattle.eo_ops.specs.Operators as ops;
-ghost use Rattle.eo_type.specs.Known.{Fit, type_at};
+ghost use Rattle.eo_type.specs.Known.{Fit, StillFit, type_at};
 ghost use Rattle.eo_type.specs.Outcomes.{Answers};
 ghost use Rattle.eo_type.specs.Types.{TypeOutcome, on_typed, typed_if, typed_answer, value_type};
 ghost use Rattle.eo_stack.specs.Evaluation.{Stuck, type_value, value_or, operator_value};
@@ -23,7 +23,8 @@ use eo_term::{Id, Node, OpCode, OpName, Table, TermRefused};
 use eo_type::{TypeRefused, Types, operator_value};
 use std::alloc::{AllocError, Global};
 
-/// What a node other than a program call is over the values of its parts.
+/// What a node other than a program call is over the values of its parts. Types that are kept stay,
+/// also where memory runs out, and those that `eo::typeof` finds are kept with them.
 pub fn made(
     alloc: Global,
     sig: &Signature,
@@ -39,7 +40,7 @@ pub fn made(
     ensures outcome { IfOk result (λ o. outcome_in table.new.trees o
         ≡ made_of (signature table.old.trees sig.now) (tree_in table.old id) (trees_in table.old values.now)) }
     ensures live { IfOk result (OutcomeBelow (length table.new.trees)) }
-    ensures fits { Fit sig.now table.new types.new }
+    ensures fits { StillFit sig.now table.new types.old types.new }
     ensures grows { GrowsUnder sig.now table.old table.new }
 {
     sig.laws();
@@ -91,7 +92,7 @@ fn made_op(
     ensures outcome { (ts : Trees) → IfOk result (λ o. outcome_in table.new.trees o
         ≡ made_of (signature table.old.trees sig.now) (Op code ts) (trees_in table.old args.now)) }
     ensures live { IfOk result (OutcomeBelow (length table.new.trees)) }
-    ensures fits { Fit sig.now table.new types.new }
+    ensures fits { StillFit sig.now table.new types.old types.new }
     ensures grows { GrowsUnder sig.now table.old table.new }
 {
     sig.laws();
@@ -117,7 +118,7 @@ fn operator(
     ensures outcome { IfOk result (λ o. outcome_in table.new.trees o
         ≡ low_outcome (operator_value (signature table.old.trees sig.now) op (trees_in table.old args.now))) }
     ensures live { IfOk result (OutcomeBelow (length table.new.trees)) }
-    ensures fits { Fit sig.now table.new types.new }
+    ensures fits { StillFit sig.now table.new types.old types.new }
     ensures grows { GrowsUnder sig.now table.old table.new }
 {
     sig.laws();
@@ -213,7 +214,7 @@ fn type_of(
     ensures outcome { IfOk result (λ o. outcome_in table.new.trees o
         ≡ low_outcome (type_value (value_type (signature table.old.trees sig.now) (tree_in table.old id)))) }
     ensures live { IfOk result (OutcomeBelow (length table.new.trees)) }
-    ensures fits { Fit sig.now table.new types.new }
+    ensures fits { StillFit sig.now table.new types.old types.new }
     ensures grows { GrowsUnder sig.now table.old table.new }
 {
     let found = types.type_of(sig, table, id);

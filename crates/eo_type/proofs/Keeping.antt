@@ -1,6 +1,16 @@
--- The type that is kept for a term, where one is added and where only those before a number of terms stay.
+-- The type that is kept for a term: where nothing changes, over two calls, where one is added, and where only those before a number of terms stay.
 use Rattle.std.proofs.Common.{◌≡◌, ℕ, ◌+◌, Bool, true, false, ◌&&◌, cond, nat_eq, nat_lt, eqb-true, eq-eqb, ne_eqb, true≢false, List, [], ◌∷◌, ◌++◌, filter, Some, None, is_some, unwrap_or, refl, sym, ap, ap₂, ◌∙◌, arith}
-use Rattle.eo_type.specs.Known.{kept_type, is_before, Keeps, FindsBelow}
+use Rattle.eo_term.specs.Terms.{Terms}
+use Rattle.eo_sig.specs.Reading.{Kept}
+use Rattle.eo_type.specs.Known.{Fit, StillFit, kept_type, is_before, Keeps, FindsBelow}
+
+-- types that have not changed still fit, where they fit
+pub fits_same : {k : Kept} {t : Terms} {known : List (ℕ × ℕ)} → Fit k t known → StillFit k t known known
+fits_same f = record { fit = f; kept = λ i u h. h }
+
+-- and types that still fit after each of two calls do so after both
+pub fits_on : {k : Kept} {t u : Terms} {old now new : List (ℕ × ℕ)} → StillFit k t old now → StillFit k u now new → StillFit k u old new
+fits_on f g = record { fit = g.fit; kept = λ i u h. g.kept i u (f.kept i u h) }
 
 -- what is kept is kept where one more is
 pub keeps_more : (known : List (ℕ × ℕ)) (e : ℕ × ℕ) → Keeps known (known ++ e ∷ [])

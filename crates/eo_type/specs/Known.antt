@@ -20,7 +20,7 @@ pub record IsFit (S : Signature) (ts : List Tree) (e : ℕ × ℕ) : Type 0 wher
 abbrev pub Fits : Signature → List Tree → List (ℕ × ℕ) → Type 0
 Fits S ts types = All (IsFit S ts) types
 
--- What each call that takes a signature, a table and types requires, and leaves: all terms that are named are there, and each type is that of its term.
+-- What each call that takes a signature, a table and types requires: all terms that are named are there, and each type is that of its term.
 pub record Fit (k : Kept) (t : Terms) (known : List (ℕ × ℕ)) : Type 0 where
   pub below : IsBelow (length t.trees) k
   pub types : Fits (signature t.trees k) t.trees known
@@ -37,6 +37,11 @@ kept_type known i = lookup (nat_eq i) known
 -- each type that was kept is kept
 abbrev pub Keeps : List (ℕ × ℕ) → List (ℕ × ℕ) → Type 0
 Keeps old new = (i u : ℕ) → kept_type old i ≡ Some u → kept_type new i ≡ Some u
+
+-- What each call that takes a signature, a table and types leaves of them, answered or refused: each type that was kept, and types that fit.
+pub record StillFit (k : Kept) (t : Terms) (old new : List (ℕ × ℕ)) : Type 0 where
+  pub fit : Fit k t new
+  pub kept : Keeps old new
 
 -- more types are kept than before of terms below n alone
 abbrev pub FindsBelow : ℕ → List (ℕ × ℕ) → List (ℕ × ℕ) → Type 0

@@ -29,8 +29,9 @@ use std::marker::Model;
 /// as a list of pairs.
 ///
 /// They fit a signature and a table where each pair names terms of the table, the second being the
-/// type of the first. Every call that takes them has this condition, and leaves them fitting. Who
-/// cuts the table at a mark lets them [forget](Types::forget) to that mark.
+/// type of the first. Every call that takes them has this condition, and leaves them fitting and each
+/// that was kept still kept, also where it is refused. Who cuts the table at a mark lets them
+/// [forget](Types::forget) to that mark.
 #[derive(Drop)]
 pub struct Types {
     alloc: Global,

@@ -6,7 +6,7 @@ ghost use Rattle.eo_term.specs.Terms.{arity, HasArity};
 ghost use Rattle.eo_term.specs.Tree.{Op};
 ghost use Rattle.eo_term.specs.declared.OpCode.TheVariants as code;
 ghost use Rattle.eo_sig.specs.Growth.{GrowsUnder};
-ghost use Rattle.eo_type.specs.Known.{Fit};
+ghost use Rattle.eo_type.specs.Known.{StillFit};
 ghost use Rattle.eo_eval.specs.Ready.{Ready, told_in};
 ghost use Rattle.eo_stack.specs.declared.stack.Now.TheVariants as next;
 
@@ -33,7 +33,7 @@ impl Machine {
         requires arity { HasArity code (count_of (arguments_of (tree_in table.old id))) }
         ensures told { IfOk result (λ n. told_in sig.now table.new self.new n ≡ told_in sig.now table.old self.old (next.Enter id left)) }
         ensures ready { IfOk result (λ n. Ready sig.now table.new types.new self.new n) }
-        ensures fits { Fit sig.now table.new types.new }
+        ensures fits { StillFit sig.now table.new types.old types.new }
         ensures grows { GrowsUnder sig.now table.old table.new }
     {
         match code {
@@ -57,7 +57,7 @@ impl Machine {
         requires count { count_of (arguments_of (tree_in table.old id)) ≡ arity op }
         ensures told { IfOk result (λ n. told_in sig.now table.new self.new n ≡ told_in sig.now table.old self.old (next.Enter id left)) }
         ensures ready { IfOk result (λ n. Ready sig.now table.new types.new self.new n) }
-        ensures fits { Fit sig.now table.new types.new }
+        ensures fits { StillFit sig.now table.new types.old types.new }
         ensures grows { GrowsUnder sig.now table.old table.new }
     {
         let part = table.arg(id, 0);

@@ -6,7 +6,7 @@ ghost use Rattle.eo_term.specs.Growth.{tree_in};
 ghost use Rattle.eo_term.specs.Arguments.{arguments_of, count_of};
 ghost use Rattle.eo_term.specs.declared.OpCode.TheVariants as code;
 ghost use Rattle.eo_sig.specs.Growth.{GrowsUnder};
-ghost use Rattle.eo_type.specs.Known.{Fit};
+ghost use Rattle.eo_type.specs.Known.{StillFit};
 ghost use Rattle.eo_stack.specs.Machine.{is_call, parts_of};
 ghost use Rattle.eo_eval.specs.Ready.{Ready, Gathering, IsNextPart, told_in, told_rest};
 ghost use Rattle.eo_stack.specs.Scopes.{entered, IsValueSlot};
@@ -36,7 +36,7 @@ impl Machine {
         requires gathering { Gathering sig.now table.old types.old self.old id base deepest }
         ensures told { IfOk result (λ n. told_in sig.now table.new self.new n ≡ told_rest sig.now table.old self.old id base left) }
         ensures ready { IfOk result (λ n. Ready sig.now table.new types.new self.new n) }
-        ensures fits { Fit sig.now table.new types.new }
+        ensures fits { StillFit sig.now table.new types.old types.new }
         ensures grows { GrowsUnder sig.now table.old table.new }
     {
         match self.collect_ready(sig, table, types, id, base, deepest)? {
@@ -188,7 +188,7 @@ impl Machine {
         requires gathering { Gathering sig.now table.old types.old self.old id base deepest }
         ensures told { IfOk result (λ n. told_in sig.now table.new self.new n ≡ told_rest sig.now table.old self.old id base left) }
         ensures ready { IfOk result (λ n. Ready sig.now table.new types.new self.new n) }
-        ensures fits { Fit sig.now table.new types.new }
+        ensures fits { StillFit sig.now table.new types.old types.new }
         ensures grows { GrowsUnder sig.now table.old table.new }
     {
         let outcome = made(

@@ -9,7 +9,7 @@ ghost use Rattle.eo_term.specs.declared.OpCode.TheVariants as code;
 ghost use Rattle.eo_stack.specs.Machine.{is_call, parts_of};
 ghost use Rattle.eo_sig.specs.Reading.{signature};
 ghost use Rattle.eo_sig.specs.Growth.{GrowsUnder};
-ghost use Rattle.eo_type.specs.Known.{Fit};
+ghost use Rattle.eo_type.specs.Known.{StillFit};
 ghost use Rattle.eo_base.specs.Limits.{calls_limit};
 ghost use Rattle.eo_stack.specs.Reading.{IsNode, IsResult, HasMore, IsNoTruth, given_in};
 ghost use Rattle.eo_stack.specs.Reading.{now_of, outcome_in, OutcomeBelow, result_of, NowBelow};
@@ -37,7 +37,7 @@ impl Machine {
         requires ready { Ready sig.now table.old types.old self.old now.now }
         ensures told { IfOk result (λ n. told_in sig.now table.new self.new n ≡ told_in sig.now table.old self.old now.now) }
         ensures ready { IfOk result (λ n. Ready sig.now table.new types.new self.new n) }
-        ensures fits { Fit sig.now table.new types.new }
+        ensures fits { StillFit sig.now table.new types.old types.new }
         ensures grows { GrowsUnder sig.now table.old table.new }
     {
         match self.stack.pop() {
@@ -59,7 +59,7 @@ impl Machine {
         requires ready { PoppedReady sig.now table.old types.old self.old frame.now now.now }
         ensures told { IfOk result (λ n. told_in sig.now table.new self.new n ≡ told_popped sig.now table.old self.old frame.now now.now) }
         ensures ready { IfOk result (λ n. Ready sig.now table.new types.new self.new n) }
-        ensures fits { Fit sig.now table.new types.new }
+        ensures fits { StillFit sig.now table.new types.old types.new }
         ensures grows { GrowsUnder sig.now table.old table.new }
     {
         match *frame {
@@ -119,7 +119,7 @@ impl Machine {
         ensures told { IfOk result (λ n. told_in sig.now table.new self.new n
             ≡ told_popped sig.now table.old self.old (frame.Parts id base before left) now.now) }
         ensures ready { IfOk result (λ n. Ready sig.now table.new types.new self.new n) }
-        ensures fits { Fit sig.now table.new types.new }
+        ensures fits { StillFit sig.now table.new types.old types.new }
         ensures grows { GrowsUnder sig.now table.old table.new }
     {
         match *now {

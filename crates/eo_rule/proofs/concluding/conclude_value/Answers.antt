@@ -6,6 +6,7 @@ use Rattle.eo_term.specs.Tree.{Tree, is_tall}
 use Rattle.eo_pattern.specs.Matching.{put}
 use Rattle.eo_pattern.specs.Slots.{held}
 use Rattle.eo_stack.specs.Evaluation.{eval0}
+use Rattle.eo_type.proofs.Keeping.{fits_same}
 use Rattle.eo_eval.specs.Faults.{value_or_fault}
 use Rattle.eo_type.proofs.Fitting.{grows_under_on}
 use Rattle.eo_rule.specs.Answers.{of_term, GivesTerm}
@@ -54,7 +55,7 @@ value_of-requires c =
 
 pub returns-in_err-id-clause-fits : goal.returns-in_err-id-clause-fits
 returns-in_err-id-clause-fits c =
-    c.laws-2.ensures.grown c.args.sig.now c.args.table.now c.put_conclusion.new.table c.in_err-id.ensures.grows.now c.requires.serves.fit
+    fits_same (c.laws-2.ensures.grown c.args.sig.now c.args.table.now c.put_conclusion.new.table c.in_err-id.ensures.grows.now c.requires.serves.fit)
 
 pub returns-in_err-id-clause-grows : goal.returns-in_err-id-clause-grows
 returns-in_err-id-clause-grows c =

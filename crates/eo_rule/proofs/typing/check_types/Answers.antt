@@ -7,6 +7,7 @@ use Rattle.eo_sig.specs.declared.records.Param.{Param}
 use Rattle.eo_sig.specs.Reading.{read_parameter, signature}
 use Rattle.eo_pattern.specs.Matching.{Assignment}
 use Rattle.eo_pattern.specs.Slots.{held}
+use Rattle.eo_type.proofs.Keeping.{fits_same, fits_on}
 use Rattle.eo_rule.specs.Answers.{told}
 use Rattle.eo_rule.specs.Uses.{check_type, check_types}
 use Rattle.eo_rule.proofs.Steps.{assignment_fails}
@@ -20,7 +21,7 @@ loop-left-init c =
     record {
       within = omega arith;
       below = c.requires.below;
-      fits = c.requires.fit;
+      fits = fits_same c.requires.fit;
       grows = c.laws.ensures t t c.requires.fit.below (c.table_law.ensures.same t);
       checked = types-end (signature t.trees c.args.sig.now) (held t.trees c.args.subst.now) (map (read_parameter t.trees) c.args.params.now) (length c.args.params.now) (length_map (read_parameter t.trees) c.args.params.now);
     }
@@ -47,7 +48,7 @@ loop-left-preserved c =
     record {
       within = omega (arith, v.within);
       below = e.gives.live;
-      fits = e.fits;
+      fits = fits_on v.fits e.fits;
       grows = c.laws.ensures t c.check_parameter.new.table c.requires.fit.below (c.table_law.ensures.later t c.loop-left.table c.check_parameter.new.table v.grows.table e.grows.table);
       checked = step ∙ sym (λ k. check_type (v.grows.stays.signature k) τ (tree k) (τ i)) ∙ e.gives.is;
     }
@@ -82,10 +83,10 @@ check_parameter-requires c =
     let a = c.index-params-left.result in
     let in_range : i < length c.args.params.now = omega (arith, v.within, c.loop-left-test.true) in
     let live : a.ty < length ts = all_at (λ (p : Param). p.ty < length ts) c.args.params.now i a c.requires.params in_range c.index-params-left.is in
-    record { ty = omega (arith, live, v.grows.table.now.more_trees); below = v.below; fit = v.fits }
+    record { ty = omega (arith, live, v.grows.table.now.more_trees); below = v.below; fit = v.fits.fit }
 
 pub returns-in_err-check_parameter-clause-fits : goal.returns-in_err-check_parameter-clause-fits
-returns-in_err-check_parameter-clause-fits c = c.in_err-check_parameter.ensures.fits
+returns-in_err-check_parameter-clause-fits c = fits_on c.loop-left.invariant.fits c.in_err-check_parameter.ensures.fits
 
 pub returns-in_err-check_parameter-clause-grows : goal.returns-in_err-check_parameter-clause-grows
 returns-in_err-check_parameter-clause-grows c =

@@ -96,7 +96,8 @@ returns-in_err-found-clause-grows c = c.in_err-found.ensures.grows
 
 pub returns-in_err-expected-clause-fits : goal.returns-in_err-expected-clause-fits
 returns-in_err-expected-clause-fits c =
-    c.laws-2.ensures.grown c.args.sig.now c.value_type.new.table c.settled.new.table c.in_err-expected.ensures.grows.now c.in_ok-found.ensures.fits
+    let found = c.in_ok-found.ensures.fits in
+    record { fit = c.laws-2.ensures.grown c.args.sig.now c.value_type.new.table c.settled.new.table c.in_err-expected.ensures.grows.now found.fit; kept = found.kept }
 
 pub returns-in_err-expected-clause-grows : goal.returns-in_err-expected-clause-grows
 returns-in_err-expected-clause-grows c =
@@ -108,7 +109,8 @@ returns-in_err-expected-clause-grows c =
 
 pub returns-clause-fits : goal.returns-clause-fits
 returns-clause-fits c =
-    c.laws-2.ensures.grown c.args.sig.now c.value_type.new.table c.settled.new.table c.in_ok-expected.ensures.grows.now c.in_ok-found.ensures.fits
+    let found = c.in_ok-found.ensures.fits in
+    record { fit = c.laws-2.ensures.grown c.args.sig.now c.value_type.new.table c.settled.new.table c.in_ok-expected.ensures.grows.now found.fit; kept = found.kept }
 
 pub returns-clause-grows : goal.returns-clause-grows
 returns-clause-grows c =

@@ -8,6 +8,7 @@ use Rattle.eo_term.specs.Terms.{tree_at}
 use Rattle.eo_term.specs.Tree.{Tree}
 use Rattle.eo_pattern.specs.Matching.{Assignment, put}
 use Rattle.eo_pattern.specs.Slots.{held}
+use Rattle.eo_type.proofs.Keeping.{fits_same, fits_on}
 use Rattle.eo_type.proofs.Fitting.{grows_under_on}
 use Rattle.eo_rule.specs.Answers.{told, GivesTerm}
 use Rattle.eo_rule.specs.Instance.{guarded_conclusion}
@@ -150,11 +151,11 @@ conclude_value-requires c =
     record {
       rule = (c.growing_law.ensures.rule c.args.rule.now t c.check_types.new.table c.requires.rule (y.grows.table.since t m.grows.table.now)).below;
       below = y.gives.live;
-      serves = record { usable = subst IsUsable (sym (y.grows.stays.signature ∙ m.grows.stays.signature)) c.requires.serves.usable; fit = y.fits };
+      serves = record { usable = subst IsUsable (sym (y.grows.stays.signature ∙ m.grows.stays.signature)) c.requires.serves.usable; fit = y.fits.fit };
     }
 
 pub check_formula-requires : goal.check_formula-requires
-check_formula-requires c = record { live = c.in_ok-formula.ensures.gives.live; fit = c.in_ok-formula.ensures.fits }
+check_formula-requires c = record { live = c.in_ok-formula.ensures.gives.live; fit = c.in_ok-formula.ensures.fits.fit }
 
 pub check_stated-requires : goal.check_stated-requires
 check_stated-requires c =
@@ -168,7 +169,7 @@ check_stated-requires c =
 
 pub returns-in_err-match_given-clause-fits : goal.returns-in_err-match_given-clause-fits
 returns-in_err-match_given-clause-fits c =
-    c.laws-2.ensures.grown c.args.sig.now c.args.table.now c.match_given.new.table c.in_err-match_given.ensures.grows.table.now c.requires.serves.fit
+    fits_same (c.laws-2.ensures.grown c.args.sig.now c.args.table.now c.match_given.new.table c.in_err-match_given.ensures.grows.table.now c.requires.serves.fit)
 
 pub returns-in_err-match_given-clause-grows : goal.returns-in_err-match_given-clause-grows
 returns-in_err-match_given-clause-grows c = c.in_err-match_given.ensures.grows
@@ -181,7 +182,7 @@ returns-in_err-check_types-clause-grows c =
     grows_under_on c.args.sig.now c.args.table.now c.match_given.new.table c.check_types.new.table c.in_ok-match_given.ensures.grows c.in_err-check_types.ensures.grows
 
 pub returns-in_err-formula-clause-fits : goal.returns-in_err-formula-clause-fits
-returns-in_err-formula-clause-fits c = c.in_err-formula.ensures.fits
+returns-in_err-formula-clause-fits c = fits_on c.in_ok-check_types.ensures.fits c.in_err-formula.ensures.fits
 
 pub returns-in_err-formula-clause-grows : goal.returns-in_err-formula-clause-grows
 returns-in_err-formula-clause-grows c =
@@ -191,7 +192,8 @@ returns-in_err-formula-clause-grows c =
     grows_under_on k t two c.conclude_value.new.table (grows_under_on k t c.match_given.new.table two c.in_ok-match_given.ensures.grows c.in_ok-check_types.ensures.grows) c.in_err-formula.ensures.grows
 
 pub returns-in_err-check_formula-clause-fits : goal.returns-in_err-check_formula-clause-fits
-returns-in_err-check_formula-clause-fits c = c.in_err-check_formula.ensures.fits
+returns-in_err-check_formula-clause-fits c =
+    fits_on (fits_on c.in_ok-check_types.ensures.fits c.in_ok-formula.ensures.fits) c.in_err-check_formula.ensures.fits
 
 pub returns-in_err-check_formula-clause-grows : goal.returns-in_err-check_formula-clause-grows
 returns-in_err-check_formula-clause-grows c =
@@ -203,7 +205,7 @@ returns-in_err-check_formula-clause-grows c =
     grows_under_on k t three c.check_formula.new.table (grows_under_on k t two three types c.in_ok-formula.ensures.grows) c.in_err-check_formula.ensures.grows
 
 pub returns-clause-fits : goal.returns-clause-fits
-returns-clause-fits c = c.in_ok-check_formula.ensures.fits
+returns-clause-fits c = fits_on (fits_on c.in_ok-check_types.ensures.fits c.in_ok-formula.ensures.fits) c.in_ok-check_formula.ensures.fits
 
 pub returns-clause-grows : goal.returns-clause-grows
 returns-clause-grows c =

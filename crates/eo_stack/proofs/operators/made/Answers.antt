@@ -9,6 +9,7 @@ use Rattle.eo_sig.specs.Reading.{signature}
 use Rattle.eo_stack.specs.Machine.{low_value, made_of, parts_of}
 use Rattle.eo_stack.specs.Reading.{outcome_in}
 use Rattle.eo_stack.proofs.OnValues.{var_made, app_made, arr_made}
+use Rattle.eo_type.proofs.Keeping.{fits_same}
 use Rattle.eo_stack.proofs.Unchanged.{grows_same}
 use Rattle.eo_stack.proofs.operators.made.Goals as goal
 
@@ -26,7 +27,7 @@ returns-in-Var c =
       outcome = IfOk-weaker c.interned.result (λ o. outcome_in new.trees o ≡ low_value (Var (text_at old.texts c.in-Var.name) (tree_at old.trees a))) (λ o. outcome_in new.trees o ≡ made_of S t (trees_in old vs))
           (λ o h. h ∙ var_made S old.trees t vs c.requires.count (text_at old.texts c.in-Var.name) _ a c.in-Var.ensures.tree c.index-values-0.is) o.outcome;
       live = o.live;
-      fits = c.laws-2.ensures.grown k old new o.grows.now c.requires.fits;
+      fits = fits_same (c.laws-2.ensures.grown k old new o.grows.now c.requires.fits);
       grows = c.laws.ensures old new c.requires.fits.below o.grows;
     }
 
@@ -45,7 +46,7 @@ returns-in-App c =
       outcome = IfOk-weaker c.interned-in-App.result (λ o. outcome_in new.trees o ≡ low_value (App (tree_at old.trees a) (tree_at old.trees b))) (λ o. outcome_in new.trees o ≡ made_of S t (trees_in old vs))
           (λ o h. h ∙ app_made S old.trees t vs c.requires.count _ _ a b c.in-App.ensures.tree c.index-values-0-in-App.is c.index-values-1.is) o.outcome;
       live = o.live;
-      fits = c.laws-2.ensures.grown k old new o.grows.now c.requires.fits;
+      fits = fits_same (c.laws-2.ensures.grown k old new o.grows.now c.requires.fits);
       grows = c.laws.ensures old new c.requires.fits.below o.grows;
     }
 
@@ -64,7 +65,7 @@ returns-in-Arr c =
       outcome = IfOk-weaker c.interned-in-Arr.result (λ o. outcome_in new.trees o ≡ low_value (Arr (tree_at old.trees a) (tree_at old.trees b))) (λ o. outcome_in new.trees o ≡ made_of S t (trees_in old vs))
           (λ o h. h ∙ arr_made S old.trees t vs c.requires.count _ _ a b c.in-Arr.ensures.tree c.index-values-0-in-Arr.is c.index-values-1-in-Arr.is) o.outcome;
       live = o.live;
-      fits = c.laws-2.ensures.grown k old new o.grows.now c.requires.fits;
+      fits = fits_same (c.laws-2.ensures.grown k old new o.grows.now c.requires.fits);
       grows = c.laws.ensures old new c.requires.fits.below o.grows;
     }
 
@@ -87,7 +88,7 @@ returns-in-Par c =
     record {
       outcome = ap (λ y. made_of (signature t.trees c.args.sig.now) y (trees_in t c.args.values.now)) c.in-Par.ensures.tree;
       live = tt;
-      fits = c.requires.fits;
+      fits = fits_same c.requires.fits;
       grows = grows_same c.requires.fits;
     }
 
@@ -97,7 +98,7 @@ returns-in-Qar c =
     record {
       outcome = ap (λ y. made_of (signature t.trees c.args.sig.now) y (trees_in t c.args.values.now)) c.in-Qar.ensures.tree;
       live = tt;
-      fits = c.requires.fits;
+      fits = fits_same c.requires.fits;
       grows = grows_same c.requires.fits;
     }
 
@@ -107,7 +108,7 @@ returns-in-Con c =
     record {
       outcome = ap (λ y. made_of (signature t.trees c.args.sig.now) y (trees_in t c.args.values.now)) c.in-Con.ensures.tree;
       live = tt;
-      fits = c.requires.fits;
+      fits = fits_same c.requires.fits;
       grows = grows_same c.requires.fits;
     }
 
@@ -117,7 +118,7 @@ returns-in-Num c =
     record {
       outcome = ap (λ y. made_of (signature t.trees c.args.sig.now) y (trees_in t c.args.values.now)) c.in-Num.ensures.tree;
       live = tt;
-      fits = c.requires.fits;
+      fits = fits_same c.requires.fits;
       grows = grows_same c.requires.fits;
     }
 
@@ -127,7 +128,7 @@ returns-in-Bits c =
     record {
       outcome = ap (λ y. made_of (signature t.trees c.args.sig.now) y (trees_in t c.args.values.now)) c.in-Bits.ensures.tree;
       live = tt;
-      fits = c.requires.fits;
+      fits = fits_same c.requires.fits;
       grows = grows_same c.requires.fits;
     }
 
@@ -137,7 +138,7 @@ returns-in-Str c =
     record {
       outcome = ap (λ y. made_of (signature t.trees c.args.sig.now) y (trees_in t c.args.values.now)) c.in-Str.ensures.tree;
       live = tt;
-      fits = c.requires.fits;
+      fits = fits_same c.requires.fits;
       grows = grows_same c.requires.fits;
     }
 

@@ -6,6 +6,7 @@ use Rattle.eo_term.specs.Tree.{Op}
 use Rattle.eo_sig.specs.Reading.{signature}
 use Rattle.eo_stack.specs.Machine.{made_of}
 use Rattle.eo_stack.specs.Reading.{outcome_in}
+use Rattle.eo_type.proofs.Keeping.{fits_same}
 use Rattle.eo_stack.proofs.Unchanged.{grows_same}
 use Rattle.eo_stack.proofs.operators.made_op.Goals as goal
 
@@ -32,6 +33,6 @@ returns-in-Prog c =
     record {
       outcome = λ ts. ap (λ k. made_of (signature t.trees c.args.sig.now) (Op k ts) (trees_in t c.args.args.now)) (sym c.in-Prog.is);
       live = tt;
-      fits = c.requires.fits;
+      fits = fits_same c.requires.fits;
       grows = grows_same c.requires.fits;
     }

@@ -10,6 +10,7 @@ use Rattle.eo_stack.specs.Evaluation.{operator_value, type_value}
 use Rattle.eo_stack.specs.Machine.{low_outcome, other_value, variable_value, name_value}
 use Rattle.eo_stack.specs.Reading.{outcome_in}
 use Rattle.eo_stack.proofs.OnValues.{type_given, variable_given, name_given, other_is}
+use Rattle.eo_type.proofs.Keeping.{fits_same}
 use Rattle.eo_stack.proofs.operators.operator.Goals as goal
 
 pub returns-in-Var-clause-outcome : goal.returns-in-Var-clause-outcome
@@ -56,13 +57,13 @@ returns-in-Typeof c =
     }
 
 pub returns-in-Var-clause-fits : goal.returns-in-Var-clause-fits
-returns-in-Var-clause-fits c = c.laws-2.ensures.grown c.args.sig.now c.args.table.now c.variable.new.table c.variable.ensures.grows.now c.requires.fits
+returns-in-Var-clause-fits c = fits_same (c.laws-2.ensures.grown c.args.sig.now c.args.table.now c.variable.new.table c.variable.ensures.grows.now c.requires.fits)
 
 pub returns-in-Var-clause-grows : goal.returns-in-Var-clause-grows
 returns-in-Var-clause-grows c = c.laws.ensures c.args.table.now c.variable.new.table c.requires.fits.below c.variable.ensures.grows
 
 pub returns-in-Nameof-clause-fits : goal.returns-in-Nameof-clause-fits
-returns-in-Nameof-clause-fits c = c.laws-2.ensures.grown c.args.sig.now c.args.table.now c.name_of.new.table c.name_of.ensures.grows.now c.requires.fits
+returns-in-Nameof-clause-fits c = fits_same (c.laws-2.ensures.grown c.args.sig.now c.args.table.now c.name_of.new.table c.name_of.ensures.grows.now c.requires.fits)
 
 pub returns-in-Nameof-clause-grows : goal.returns-in-Nameof-clause-grows
 returns-in-Nameof-clause-grows c = c.laws.ensures c.args.table.now c.name_of.new.table c.requires.fits.below c.name_of.ensures.grows
@@ -79,7 +80,7 @@ returns-in_default c =
       outcome = IfOk-weaker c.other.result (λ o. outcome_in ts o ≡ low_outcome (other_value S c.args.op vs)) (λ o. outcome_in ts o ≡ low_outcome (operator_value S c.args.op vs))
           (λ o h. h ∙ ap low_outcome (other_is S c.args.op vs not.not-Typeof not.not-Var not.not-Nameof)) o.outcome;
       live = o.live;
-      fits = c.laws-2.ensures.grown c.args.sig.now t c.other.new.table o.grows.table.now c.requires.fits;
+      fits = fits_same (c.laws-2.ensures.grown c.args.sig.now t c.other.new.table o.grows.table.now c.requires.fits);
       grows = o.grows;
     }
 

@@ -9,6 +9,7 @@ use Rattle.eo_stack.specs.Scopes.{entered}
 use Rattle.eo_stack.specs.declared.stack.Now.TheVariants as next
 use Rattle.eo_eval.proofs.Entered.{entered_value}
 use Rattle.eo_eval.proofs.Itself.{value_told, value_stands, value_entered, recalls_told, recalls_stands}
+use Rattle.eo_type.proofs.Keeping.{fits_same}
 use Rattle.eo_stack.proofs.Unchanged.{grows_same}
 use Rattle.eo_eval.proofs.Same.{scope_of}
 use Rattle.eo_eval.proofs.machine.Machine.enter.Goals as goal
@@ -67,8 +68,14 @@ returns-in-Some-clause-ready c =
     let recalls = c.in-Some.ensures S calls_limit c.requires.ready.held.remembers (scope_of S ts b e.scope (reverse fs) s.scoped) in
     record { held = c.requires.ready.held; stands = recalls_stands S calls_limit ts b e.scope fs vs F c.args.left c.in-Some.known (next.Enter c.args.id c.args.left) recalls s.waits s }
 
+pub returns-then-is_value-clause-fits : goal.returns-then-is_value-clause-fits
+returns-then-is_value-clause-fits c = fits_same c.requires.ready.held.fit
+
 pub returns-then-is_value-clause-grows : goal.returns-then-is_value-clause-grows
 returns-then-is_value-clause-grows c = grows_same c.requires.ready.held.fit
+
+pub returns-in-Some-clause-fits : goal.returns-in-Some-clause-fits
+returns-in-Some-clause-fits c = fits_same c.requires.ready.held.fit
 
 pub returns-in-Some-clause-grows : goal.returns-in-Some-clause-grows
 returns-in-Some-clause-grows c = grows_same c.requires.ready.held.fit

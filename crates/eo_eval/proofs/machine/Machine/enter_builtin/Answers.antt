@@ -8,6 +8,7 @@ use Rattle.eo_sig.specs.Reading.{signature}
 use Rattle.eo_stack.specs.Scopes.{standing}
 use Rattle.eo_eval.proofs.Entered.{op_kind, whole_put_op}
 use Rattle.eo_eval.proofs.Frames.{choice_begins, require_begins, left_begins, tested_begins, strict_other}
+use Rattle.eo_type.proofs.Keeping.{fits_same}
 use Rattle.eo_stack.proofs.Unchanged.{grows_same}
 use Rattle.eo_eval.proofs.machine.Machine.enter_builtin.Goals as goal
 
@@ -53,19 +54,19 @@ enter_parts-requires-clause-whole c =
 pub returns-in-Ite : goal.returns-in-Ite
 returns-in-Ite c =
     let fit = c.requires.ready.held.fit in
-    record { told = c.begin.ensures.told; ready = c.begin.ensures.ready; fits = fit; grows = grows_same fit }
+    record { told = c.begin.ensures.told; ready = c.begin.ensures.ready; fits = fits_same fit; grows = grows_same fit }
 
 pub returns-in-Requires : goal.returns-in-Requires
 returns-in-Requires c =
     let fit = c.requires.ready.held.fit in
-    record { told = c.begin-in-Requires.ensures.told; ready = c.begin-in-Requires.ensures.ready; fits = fit; grows = grows_same fit }
+    record { told = c.begin-in-Requires.ensures.told; ready = c.begin-in-Requires.ensures.ready; fits = fits_same fit; grows = grows_same fit }
 
 pub returns-in-IsEq : goal.returns-in-IsEq
 returns-in-IsEq c =
     let fit = c.requires.ready.held.fit in
-    record { told = c.begin-in-IsEq.ensures.told; ready = c.begin-in-IsEq.ensures.ready; fits = fit; grows = grows_same fit }
+    record { told = c.begin-in-IsEq.ensures.told; ready = c.begin-in-IsEq.ensures.ready; fits = fits_same fit; grows = grows_same fit }
 
 pub returns-in-IsOk : goal.returns-in-IsOk
 returns-in-IsOk c =
     let fit = c.requires.ready.held.fit in
-    record { told = c.begin-in-IsOk.ensures.told; ready = c.begin-in-IsOk.ensures.ready; fits = fit; grows = grows_same fit }
+    record { told = c.begin-in-IsOk.ensures.told; ready = c.begin-in-IsOk.ensures.ready; fits = fits_same fit; grows = grows_same fit }

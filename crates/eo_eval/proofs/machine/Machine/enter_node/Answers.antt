@@ -7,6 +7,7 @@ use Rattle.eo_stack.specs.Reading.{begun, is_par}
 use Rattle.eo_stack.specs.Scopes.{standing}
 use Rattle.eo_eval.proofs.Entered.{whole_put_var, whole_put_app, whole_put_arr}
 use Rattle.eo_eval.proofs.Itself.{arrow_entered, stuck_told, stuck_stands}
+use Rattle.eo_type.proofs.Keeping.{fits_same}
 use Rattle.eo_stack.proofs.Unchanged.{grows_same}
 use Rattle.eo_eval.proofs.machine.Machine.enter_node.Goals as goal
 
@@ -58,7 +59,10 @@ returns-in-Qar-clause-ready c =
 pub returns-in-Par : goal.returns-in-Par
 returns-in-Par c =
     let fit = c.requires.ready.held.fit in
-    record { told = c.enter_par.ensures.told; ready = c.enter_par.ensures.ready; fits = fit; grows = grows_same fit }
+    record { told = c.enter_par.ensures.told; ready = c.enter_par.ensures.ready; fits = fits_same fit; grows = grows_same fit }
+
+pub returns-in-Qar-clause-fits : goal.returns-in-Qar-clause-fits
+returns-in-Qar-clause-fits c = fits_same c.requires.ready.held.fit
 
 pub returns-in-Qar-clause-grows : goal.returns-in-Qar-clause-grows
 returns-in-Qar-clause-grows c = grows_same c.requires.ready.held.fit

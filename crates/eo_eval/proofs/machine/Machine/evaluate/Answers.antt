@@ -14,6 +14,7 @@ loop-init c =
       told = first_told _ limit_is c.args.sig.now c.args.table.now c.args.self.now c.args.id fresh.frames fresh.values fresh.scope fresh.calls;
       ready = first_ready 1_000_000 c.args.sig.now c.args.table.now c.args.types.now c.args.self.now c.args.id fresh c.requires.usable c.requires.fit c.requires.live;
       same = refl;
+      kept = λ i u h. h;
       grows = c.laws.ensures c.args.table.now c.args.table.now c.requires.fit.below (c.table_law.ensures.same c.args.table.now);
     }
 

@@ -5,6 +5,7 @@ use Rattle.eo_stack.specs.Evaluation.{Ended}
 use Rattle.eo_eval.specs.Ready.{IsNextPart, told_in, told_rest}
 use Rattle.eo_stack.specs.declared.stack.Now as code_now
 use Rattle.eo_eval.proofs.Gathered.{waits_ready, waits_told}
+use Rattle.eo_type.proofs.Keeping.{fits_same}
 use Rattle.eo_stack.proofs.Unchanged.{grows_same}
 use Rattle.eo_eval.proofs.Same.{fit_since}
 use Rattle.eo_eval.proofs.machine.Machine.gather.Goals as goal
@@ -44,25 +45,25 @@ returns-in-None-program_of-clause-told c =
     IfOk-weaker c.make_gathered.result (P (told_rest k t c.collect_ready.new.self c.args.id c.args.base c.args.left)) (P (told_rest k t c.args.self.now c.args.id c.args.base c.args.left)) (λ n g. g ∙ c.in_ok-part.ensures.told c.args.left) c.make_gathered.ensures.told
 
 pub returns-in_err-part-clause-fits : goal.returns-in_err-part-clause-fits
-returns-in_err-part-clause-fits c = c.requires.gathering.held.fit
+returns-in_err-part-clause-fits c = fits_same c.requires.gathering.held.fit
 
 pub returns-in_err-part-clause-grows : goal.returns-in_err-part-clause-grows
 returns-in_err-part-clause-grows c = grows_same c.requires.gathering.held.fit
 
 pub returns-in_err-wait-in-Some-clause-fits : goal.returns-in_err-wait-in-Some-clause-fits
-returns-in_err-wait-in-Some-clause-fits c = c.requires.gathering.held.fit
+returns-in_err-wait-in-Some-clause-fits c = fits_same c.requires.gathering.held.fit
 
 pub returns-in_err-wait-in-Some-clause-grows : goal.returns-in_err-wait-in-Some-clause-grows
 returns-in_err-wait-in-Some-clause-grows c = grows_same c.requires.gathering.held.fit
 
 pub returns-in_ok-wait-in-Some-clause-fits : goal.returns-in_ok-wait-in-Some-clause-fits
-returns-in_ok-wait-in-Some-clause-fits c = c.requires.gathering.held.fit
+returns-in_ok-wait-in-Some-clause-fits c = fits_same c.requires.gathering.held.fit
 
 pub returns-in_ok-wait-in-Some-clause-grows : goal.returns-in_ok-wait-in-Some-clause-grows
 returns-in_ok-wait-in-Some-clause-grows c = grows_same c.requires.gathering.held.fit
 
 pub returns-in-Some-program_of-clause-fits : goal.returns-in-Some-program_of-clause-fits
-returns-in-Some-program_of-clause-fits c = fit_since c.call_gathered.ensures.grows c.requires.gathering.held.fit
+returns-in-Some-program_of-clause-fits c = fits_same (fit_since c.call_gathered.ensures.grows c.requires.gathering.held.fit)
 
 pub call_gathered-requires : goal.call_gathered-requires
 call_gathered-requires c =

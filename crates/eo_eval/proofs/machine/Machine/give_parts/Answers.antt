@@ -6,6 +6,7 @@ use Rattle.eo_eval.specs.Ready.{Gathering, PoppedReady, told_in, told_popped, to
 use Rattle.eo_stack.specs.declared.stack.Frame.TheVariants as frame
 use Rattle.eo_stack.specs.declared.stack.Now as code_now
 use Rattle.eo_eval.proofs.Giving.{gathering_given, given_told}
+use Rattle.eo_type.proofs.Keeping.{fits_same}
 use Rattle.eo_stack.proofs.Unchanged.{grows_same}
 use Rattle.eo_eval.proofs.machine.Machine.give_parts.Goals as goal
 
@@ -38,10 +39,13 @@ returns-in_ok-collect-in-Value-clause-told c =
     let P : Ended Tree → code_now.Now → Type 0 = λ r n. told_in k c.gather.new.table c.gather.new.self n ≡ r in
     IfOk-weaker c.gather.result (P (told_rest k t later c.args.id c.args.base c.args.left)) (P (told_popped k t e f c.args.now.now)) (λ n g. g ∙ same) c.gather.ensures.told
 
+pub returns-in_err-collect-in-Value-clause-fits : goal.returns-in_err-collect-in-Value-clause-fits
+returns-in_err-collect-in-Value-clause-fits c = fits_same c.requires.ready.held.fit
+
 pub returns-in_err-collect-in-Value-clause-grows : goal.returns-in_err-collect-in-Value-clause-grows
 returns-in_err-collect-in-Value-clause-grows c = grows_same c.requires.ready.held.fit
 
 pub returns-in_default : goal.returns-in_default
 returns-in_default c =
     let fit = c.requires.ready.held.fit in
-    record { told = c.conclude.ensures.told; ready = c.conclude.ensures.ready; fits = fit; grows = grows_same fit }
+    record { told = c.conclude.ensures.told; ready = c.conclude.ensures.ready; fits = fits_same fit; grows = grows_same fit }

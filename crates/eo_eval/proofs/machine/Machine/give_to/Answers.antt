@@ -14,6 +14,7 @@ use Rattle.eo_stack.specs.declared.stack.Now as code_now
 use Rattle.eo_eval.proofs.Frames.{tested_ends, right_ends, missed_ends, maybe_given}
 use Rattle.eo_eval.proofs.Popped.{frame_popped}
 use Rattle.eo_eval.proofs.Running.{begun_count}
+use Rattle.eo_type.proofs.Keeping.{fits_same}
 use Rattle.eo_stack.proofs.Unchanged.{grows_same}
 use Rattle.eo_eval.proofs.machine.Machine.give_to.Goals as goal
 
@@ -153,7 +154,7 @@ returns-in-Choice c =
     record {
       told = subst (λ f. IfOk c.choose.result (λ n. told_in k t c.choose.new.self n ≡ told_popped k t c.args.self.now f c.args.now.now)) (sym c.in-Choice.is) c.choose.ensures.told;
       ready = c.choose.ensures.ready;
-      fits = fit;
+      fits = fits_same fit;
       grows = grows_same fit;
     }
 
@@ -165,7 +166,7 @@ returns-in-Left c =
     record {
       told = subst (λ f. IfOk c.compare.result (λ n. told_in k t c.compare.new.self n ≡ told_popped k t c.args.self.now f c.args.now.now)) (sym c.in-Left.is) c.compare.ensures.told;
       ready = c.compare.ensures.ready;
-      fits = fit;
+      fits = fits_same fit;
       grows = grows_same fit;
     }
 
@@ -177,7 +178,7 @@ returns-in-Require c =
     record {
       told = subst (λ f. IfOk c.require.result (λ n. told_in k t c.require.new.self n ≡ told_popped k t c.args.self.now f c.args.now.now)) (sym c.in-Require.is) c.require.ensures.told;
       ready = c.require.ensures.ready;
-      fits = fit;
+      fits = fits_same fit;
       grows = grows_same fit;
     }
 
@@ -189,34 +190,34 @@ returns-in-Required c =
     record {
       told = subst (λ f. IfOk c.allow.result (λ n. told_in k t c.allow.new.self n ≡ told_popped k t c.args.self.now f c.args.now.now)) (sym c.in-Required.is) c.allow.ensures.told;
       ready = c.allow.ensures.ready;
-      fits = fit;
+      fits = fits_same fit;
       grows = grows_same fit;
     }
 
 pub returns-in-Tested : goal.returns-in-Tested
 returns-in-Tested c =
     let fit = c.requires.ready.held.fit in
-    record { told = c.conclude.ensures.told; ready = c.conclude.ensures.ready; fits = fit; grows = grows_same fit }
+    record { told = c.conclude.ensures.told; ready = c.conclude.ensures.ready; fits = fits_same fit; grows = grows_same fit }
 
 pub returns-in-Right : goal.returns-in-Right
 returns-in-Right c =
     let fit = c.requires.ready.held.fit in
-    record { told = c.conclude-in-Right.ensures.told; ready = c.conclude-in-Right.ensures.ready; fits = fit; grows = grows_same fit }
+    record { told = c.conclude-in-Right.ensures.told; ready = c.conclude-in-Right.ensures.ready; fits = fits_same fit; grows = grows_same fit }
 
 pub returns-in-Unequal : goal.returns-in-Unequal
 returns-in-Unequal c =
     let fit = c.requires.ready.held.fit in
-    record { told = c.conclude-in-Unequal.ensures.told; ready = c.conclude-in-Unequal.ensures.ready; fits = fit; grows = grows_same fit }
+    record { told = c.conclude-in-Unequal.ensures.told; ready = c.conclude-in-Unequal.ensures.ready; fits = fits_same fit; grows = grows_same fit }
 
 pub returns-in-Missed : goal.returns-in-Missed
 returns-in-Missed c =
     let fit = c.requires.ready.held.fit in
-    record { told = c.conclude-in-Missed.ensures.told; ready = c.conclude-in-Missed.ensures.ready; fits = fit; grows = grows_same fit }
+    record { told = c.conclude-in-Missed.ensures.told; ready = c.conclude-in-Missed.ensures.ready; fits = fits_same fit; grows = grows_same fit }
 
 pub returns-in-Handed : goal.returns-in-Handed
 returns-in-Handed c =
     let fit = c.requires.ready.held.fit in
-    record { told = c.conclude-in-Handed.ensures.told; ready = c.conclude-in-Handed.ensures.ready; fits = fit; grows = grows_same fit }
+    record { told = c.conclude-in-Handed.ensures.told; ready = c.conclude-in-Handed.ensures.ready; fits = fits_same fit; grows = grows_same fit }
 
 pub returns-in-Body : goal.returns-in-Body
 returns-in-Body c =
@@ -226,6 +227,6 @@ returns-in-Body c =
     record {
       told = subst (λ f. IfOk c.end_call.result (λ n. told_in k t c.end_call.new.self n ≡ told_popped k t c.args.self.now f c.args.now.now)) (sym c.in-Body.is) c.end_call.ensures.told;
       ready = c.end_call.ensures.ready;
-      fits = fit;
+      fits = fits_same fit;
       grows = grows_same fit;
     }

@@ -2,6 +2,7 @@ use Rattle.std.proofs.Common.{◌≡◌, sym, ap, subst}
 use Rattle.std.specs.Prelude.{IfOk}
 use Rattle.eo_stack.specs.Reading.{IsResult}
 use Rattle.eo_eval.specs.Ready.{Ready, told_in}
+use Rattle.eo_type.proofs.Keeping.{fits_same}
 use Rattle.eo_stack.proofs.Unchanged.{grows_same}
 use Rattle.eo_eval.proofs.machine.Machine.turn.Goals as goal
 
@@ -32,7 +33,7 @@ returns-in-Deep c =
     record {
       told = ap (told_in c.args.sig.now c.args.table.now c.args.self.now) (sym c.in-Deep.is);
       ready = subst (Ready c.args.sig.now c.args.table.now c.args.types.now c.args.self.now) c.in-Deep.is r;
-      fits = r.held.fit;
+      fits = fits_same r.held.fit;
       grows = grows_same r.held.fit;
     }
 
@@ -42,7 +43,7 @@ returns-in-Calls c =
     record {
       told = ap (told_in c.args.sig.now c.args.table.now c.args.self.now) (sym c.in-Calls.is);
       ready = subst (Ready c.args.sig.now c.args.table.now c.args.types.now c.args.self.now) c.in-Calls.is r;
-      fits = r.held.fit;
+      fits = fits_same r.held.fit;
       grows = grows_same r.held.fit;
     }
 
@@ -52,7 +53,7 @@ returns-in-Range c =
     record {
       told = ap (told_in c.args.sig.now c.args.table.now c.args.self.now) (sym c.in-Range.is);
       ready = subst (Ready c.args.sig.now c.args.table.now c.args.types.now c.args.self.now) c.in-Range.is r;
-      fits = r.held.fit;
+      fits = fits_same r.held.fit;
       grows = grows_same r.held.fit;
     }
 
@@ -62,6 +63,6 @@ returns-in-Tall c =
     record {
       told = ap (told_in c.args.sig.now c.args.table.now c.args.self.now) (sym c.in-Tall.is);
       ready = subst (Ready c.args.sig.now c.args.table.now c.args.types.now c.args.self.now) c.in-Tall.is r;
-      fits = r.held.fit;
+      fits = fits_same r.held.fit;
       grows = grows_same r.held.fit;
     }
