@@ -21,7 +21,8 @@ use std::alloc::Global;
 
 // A type that is found ends a term's part of a walk.
 pub(crate) fn made(found: Result<Id, Stop>) -> Result<Step, Stop>
-    ensures { (k : Kept) (old new : Terms) (known : List (ℕ × ℕ)) (below : ℕ) (o : TypeOutcome Tree) → Gives new found o → GivesTypeStep k old known below o new result }
+    ensures { (k : Kept) (old new : Terms) (known : List (ℕ × ℕ)) (below : ℕ) (o : TypeOutcome Tree) →
+        Gives new found o → GivesTypeStep k old known below o new result }
 {
     match found {
         Ok(ty) => Ok(Step::Made(ty)),
@@ -124,7 +125,8 @@ pub(crate) fn variable_step(
 ) -> Result<Step, Stop>
     requires live { ty < length table.now.trees }
     requires fits { Fit sig.now table.now known.now }
-    ensures { GivesTypeStep sig.now table.now known.now (ty + 1) (variable_type (signature table.now.trees sig.now) (tree_in table.now ty)) table.now result }
+    ensures { GivesTypeStep sig.now table.now known.now (ty + 1)
+        (variable_type (signature table.now.trees sig.now) (tree_in table.now ty)) table.now result }
 {
     let Some(kind) = kept(sig, table, known, ty) else {
         return Ok(Step::Part(ty));
@@ -146,7 +148,8 @@ pub(crate) fn application_step(
     requires fun { fun < length table.old.trees }
     requires arg { arg < length table.old.trees }
     requires fits { Fit sig.now table.old known.now }
-    ensures gives { GivesTypeStep sig.now table.old known.now (max fun arg + 1) (type_in sig.now table.old (App (tree_in table.old fun) (tree_in table.old arg))) table.new result }
+    ensures gives { GivesTypeStep sig.now table.old known.now (max fun arg + 1)
+        (type_in sig.now table.old (App (tree_in table.old fun) (tree_in table.old arg))) table.new result }
     ensures grows { Grows table.old table.new }
 {
     match head_step(sig, &*table, known, fun)? {
@@ -233,7 +236,8 @@ fn applied(
     requires arg { arg < length table.old.trees }
     requires fits { Fit sig.now table.old known.now }
     requires typed { IsTyped table.old (type_at sig.now table.old fun) ty }
-    ensures gives { GivesTypeStep sig.now table.old known.now (arg + 1) (type_in sig.now table.old (App (tree_in table.old fun) (tree_in table.old arg))) table.new result }
+    ensures gives { GivesTypeStep sig.now table.old known.now (arg + 1)
+        (type_in sig.now table.old (App (tree_in table.old fun) (tree_in table.old arg))) table.new result }
     ensures grows { Grows table.old table.new }
 {
     let Some(kind) = kept(sig, &*table, known, arg) else {
@@ -252,7 +256,8 @@ pub(crate) fn function_step(
     to: Id,
 ) -> Result<Step, Stop>
     requires fits { Fit sig.now table.now known.now }
-    ensures { GivesTypeStep sig.now table.now known.now (max from to + 1) (type_in sig.now table.now (Arr (tree_in table.now from) (tree_in table.now to))) table.now result }
+    ensures { GivesTypeStep sig.now table.now known.now (max from to + 1)
+        (type_in sig.now table.now (Arr (tree_in table.now from) (tree_in table.now to))) table.now result }
 {
     match kept_two(sig, table, known, from, to) {
         Err(part) => Ok(Step::Part(part)),
