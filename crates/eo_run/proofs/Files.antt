@@ -129,9 +129,13 @@ module _ (files : Files) (job : CheckJob) where
   unfolding run_check ◌>>=◌
   check-proof p e = ap then_proof e
 
-pub load-is : (files : Files) (name : List ℕ) → load_verdict files name ≡ loaded (run_signature files name (first_load name))
-unfolding load_verdict run_load
+pub load-is : (files : Files) (name : List ℕ) → load_verdict files name ≡ loaded (run_load files name)
+unfolding load_verdict
 load-is files name = refl
+
+pub load-runs-is : (files : Files) (name : List ℕ) → run_load files name ≡ run_signature files name (first_load name)
+unfolding run_load
+load-runs-is files name = refl
 
 -- ---- answers
 

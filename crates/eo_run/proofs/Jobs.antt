@@ -1,6 +1,6 @@
 -- The parts of a job, and its verdict, as answers tell them.
 use Rattle.std.proofs.Common.{◌≡◌, ℕ, true, false, List, [], Option, None, Some, sym, ap, subst, ◌∙◌}
-use Rattle.std.specs.Prelude.{◌≢◌, Result, Ok, Err, slice_get}
+use Rattle.std.specs.Prelude.{◌≢◌, Result, Ok, Err, OnOk, IfErr, slice_get}
 use Rattle.eo_base.specs.declared.Fault.{Fault}
 use Rattle.eo_base.specs.declared.FaultName.{FaultName}
 use Rattle.eo_base.specs.declared.FaultName.TheVariants.{BadPath, FileAbsent}
@@ -10,13 +10,15 @@ use Rattle.eo_io.specs.Paths.{fold_path}
 use Rattle.eo_sexp.specs.Spot.{Spot}
 use Rattle.eo_sexp.specs.Texts.{first_spot}
 use Rattle.eo_session.specs.State.{State, begin_reference, end_fault}
-use Rattle.eo_run.specs.Run.{Progress, Ran, refusal_at, shown, commands_of, run_commands, if_given, first_progress, first_load, run_signature, run_job_reference, run_proof, before_proof, run_check}
+use Rattle.eo_session.specs.Stepping.{Standing}
+use Rattle.eo_run.specs.Run.{Progress, Ran, refusal_at, shown, commands_of, run_commands, if_given, first_progress, first_load, run_signature, run_job_reference, run_proof, before_proof, run_check, run_load}
 use Rattle.eo_run.specs.Check.{file_end}
 use Rattle.eo_run.specs.Verdict.{Refusal}
 use Rattle.eo_run.specs.Answer.{Answers, AnswerHasCause, Denotes}
 use Rattle.eo_run.specs.Benching.{LeavesLast}
 use Rattle.eo_run.specs.Opening.{opener_of, run_source, Told, IsStop, RefusesFile, RunsFile}
-use Rattle.eo_run.specs.Judging.{run_named, run_of, EndsRun, RunsNamed, RunsPart, StandsFor, BeginsNamed, AnswersJob, AnswersProof, AnswersLoad}
+use Rattle.eo_run.specs.Judging.{run_named, run_of, EndsRun, RunsNamed, RunsPart, IsPlaced, StandsFor, BeginsNamed, AnswersJob, AnswersProof, AnswersLoad}
+use Rattle.eo_run.specs.Loading.{RunsLoad, AnswersSession, IsLoadEnd, LoadHasCause, as_loaded}
 use Rattle.eo_session.specs.Numbered.{origin_of}
 use Rattle.eo_session.specs.Origin.{Origin}
 use Rattle.eo_session.specs.Origin as origin
@@ -26,7 +28,7 @@ use Rattle.eo_run.specs.declared.Verdict.TheVariants as answer
 use Rattle.eo_run.specs.declared.checking.Named.{Named}
 use Rattle.eo_run.specs.declared.opening.Run.{Run}
 use Rattle.eo_run.specs.declared.opening.Source.{Source}
-use Rattle.eo_run.proofs.Files.{told-some, named-bad, named-absent, named-runs, shown-folded, end-folded, signature-is, proof-is, reference-begun, reference-second, before-refused, before-included, verdict-proof, check-proof, load-is, ends-correct, ends-incomplete, ends-refused, ends-loaded, stops-checked, stops-loaded, stops-before}
+use Rattle.eo_run.proofs.Files.{told-some, named-bad, named-absent, named-runs, shown-folded, end-folded, signature-is, proof-is, reference-begun, reference-second, before-refused, before-included, verdict-proof, check-proof, load-is, load-runs-is, ends-correct, ends-incomplete, ends-refused, ends-loaded, stops-checked, stops-loaded, stops-before}
 use Rattle.eo_run.proofs.Numbers.{begin-present}
 use Rattle.eo_run.proofs.Pieces.{stops-weaker}
 
@@ -69,6 +71,9 @@ module _ (told : Option Files) (n : Named) (s : Source) (old new : Progress) (pa
 
 proof-other : origin.Proof ≢ origin.Reference
 proof-other e = cc e
+
+signature-other : origin.Signature ≢ origin.Reference
+signature-other e = cc e
 
 module _ (told : Option Files) (n : Named) (old new : Progress) (paths : List (List ℕ)) (ran : Files → Ran) (same : (files : Files) → ran files ≡ run_of files n old) where
   pub part-runs : (place : Place) (x : Unit {0}) → RunsNamed told n (Ok place) old new paths → RunsPart told ran (Ok x) new paths
@@ -164,8 +169,38 @@ module _ (told : Option Files) (job : CheckJob) (paths : List (List ℕ)) where
 -- ---- a load
 
 module _ (told : Option Files) (n : Named) (name : List ℕ) (new : Progress) (paths : List (List ℕ)) (e : n.name.now ≡ name) (same : (files : Files) → run_signature files name (first_load name) ≡ run_of files n (first_load name)) where
-  pub load-runs : (place : Place) → RunsNamed told n (Ok place) (first_load name) new paths → AnswersLoad told name paths (answer.Loaded new.state.commands)
-  load-runs place h = told-some told _ (λ files k. load-is files name ∙ ends-loaded files name (origin_of n.from) _ new paths place (part-ends told n (first_load name) new paths (λ f. run_signature f name (first_load name)) same name place e h files k))
+  ran-same : (files : Files) → run_load files name ≡ run_of files n (first_load name)
+  ran-same files = load-runs-is files name ∙ same files
 
-  pub load-stops : (v : Verdict) → RunsNamed told n (Err v) (first_load name) new paths → AnswersLoad told name paths v
-  load-stops v h = told-some told _ (λ files k. subst (λ w. Answers paths v w) (sym (load-is files name)) (stops-loaded _ paths v (part-stops told n (first_load name) new paths (λ f. run_signature f name (first_load name)) same v h files k)))
+  pub load-runs : (place : Place) → origin_of n.from ≡ origin.Signature → RunsNamed told n (Ok place) (first_load name) new paths → RunsLoad told name (Ok place) new paths
+  load-runs place kind h = λ files k.
+      subst (λ (o : Origin). EndsRun files name o (run_load files name) new paths place) kind (part-ends told n (first_load name) new paths (λ f. run_load f name) ran-same name place e h files k)
+
+  pub load-stops : (v : Verdict) → RunsNamed told n (Err v) (first_load name) new paths → RunsLoad told name (Err v) new paths
+  load-stops v h = part-stops told n (first_load name) new paths (λ f. run_load f name) ran-same v h
+
+  pub load-ends : (r : Result Place Verdict) → origin_of n.from ≡ origin.Signature → RunsNamed told n r (first_load name) new paths → RunsLoad told name r new paths
+  load-ends (Ok place) kind h = load-runs place kind h
+  load-ends (Err v) kind h = load-stops v h
+
+module _ (told : Option Files) (name : List ℕ) (new : Progress) (paths : List (List ℕ)) where
+  pub loaded-runs : (place : Place) → RunsLoad told name (Ok place) new paths → AnswersLoad told name paths (answer.Loaded new.state.commands)
+  loaded-runs place h = told-some told _ (λ files k. load-is files name ∙ ends-loaded files name origin.Signature _ new paths place (h files k))
+
+  pub loaded-stops : (v : Verdict) → RunsLoad told name (Err v) new paths → AnswersLoad told name paths v
+  loaded-stops v h = told-some told _ (λ files k. subst (λ w. Answers paths v w) (sym (load-is files name)) (stops-loaded _ paths v (h files k)))
+
+  -- and its session is kept
+  pub session-loads : (s : Standing) (r : Result Place Verdict) → s.state ≡ new.state → RunsLoad told name r new paths → AnswersSession told name paths (as_loaded s r)
+  session-loads s (Ok place) same h = λ files k.
+      let end = h files k in
+      record { last = new; runs = end.runs; state = same; file = end.file; line = end.line signature-other; offset = end.offset signature-other }
+  session-loads s (Err v) same h = h
+
+pub session-kind : (paths : List (List ℕ)) (s : Standing) (r : Result Place Verdict) → OnOk r (s.ended ≡ false) → IsPlaced paths r → IsLoadEnd paths (as_loaded s r)
+session-kind paths s (Ok place) going h = (going, h)
+session-kind paths s (Err v) going h = h
+
+pub session-cause : (told : Option Files) (s : Standing) (r : Result Place Verdict) (b c : ℕ) → IfErr r (λ v. AnswerHasCause v told b c) → LoadHasCause (as_loaded s r) told b c
+session-cause told s (Ok place) b c h = tt
+session-cause told s (Err v) b c h = h

@@ -11,3 +11,4 @@ pub mod Pieces
 pub mod Refutation
 pub mod Bench
 pub mod Benching
+pub mod Loading

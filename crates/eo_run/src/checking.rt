@@ -4,6 +4,7 @@ ghost use Rattle.eo_run.specs.Answer.{AnswerHasCause};
 ghost use Rattle.eo_run.specs.Benching.{LeavesLast};
 ghost use Rattle.eo_run.specs.Judging.{IsCheckAnswer, IsLoadAnswer, IsPlaced, RunsNamed, RunsPart, AnswersJob, AnswersProof, AnswersLoad};
 ghost use Rattle.eo_run.specs.Judging.{MayRun, StandsFor, BeginsNamed};
+ghost use Rattle.eo_run.specs.Loading.{RunsLoad};
 ghost use Rattle.eo_run.specs.Opening.{IsStop};
 ghost use Rattle.eo_run.specs.Progress.{progress_of, Begins};
 ghost use Rattle.eo_run.specs.Reading.{LibraryStays, progress};
@@ -332,18 +333,37 @@ fn load_named<L: Library>(
     ensures kind { IsLoadAnswer paths.new result }
     ensures stays { LibraryStays L.told L.open_files L.faults files.old files.new }
 {
+    match load_to_end(alloc, name, files, run, paths) {
+        Err(verdict) => verdict,
+        Ok(_) => Verdict::Loaded {
+            commands: run.session.commands(),
+        },
+    }
+}
+
+/// The place of its end, at which the run is left.
+pub(crate) fn load_to_end<L: Library>(
+    alloc: Global,
+    name: &[u8],
+    files: &mut L,
+    run: &mut Run,
+    paths: &mut Paths,
+) -> Result<Place, Verdict>
+    requires none_open { L.open_files files.old ≡ [] }
+    requires begins { Begins run.old (load_progress name.now) }
+    ensures going { OnOk result (run.new.session.ended ≡ false) }
+    ensures runs { RunsLoad (L.told files.old) name.now result (progress_of run.new) paths.new }
+    ensures cause { IfErr result (λ v. AnswerHasCause v (L.told files.old) (L.faults files.old) (L.faults files.new)) }
+    ensures kind { IsPlaced paths.new result }
+    ensures stays { LibraryStays L.told L.open_files L.faults files.old files.new }
+{
     let named = Named {
         name,
         from: Origin::Signature(0),
         wrapped: false,
         opens: OPENS,
     };
-    match check_named(alloc, &named, files, run, paths) {
-        Err(verdict) => verdict,
-        Ok(_) => Verdict::Loaded {
-            commands: run.session.commands(),
-        },
-    }
+    check_named(alloc, &named, files, run, paths)
 }
 
 /// Reads a file that the job names and checks its commands, with those of the files that they open.
@@ -441,7 +461,7 @@ fn add_first(alloc: Global, job: &CheckJob, included: &mut Paths) -> Result<(), 
 }
 
 /// The run of a load before its first command.
-fn first_load(alloc: Global, file: &Text) -> Result<Run, AllocError>
+pub(crate) fn first_load(alloc: Global, file: &Text) -> Result<Run, AllocError>
     ensures { IfOk result (λ r. Begins r (load_progress file.now)) }
 {
     new_run(alloc, first_of(alloc, file)?, false)

@@ -8,14 +8,17 @@
 mod benching;
 mod checking;
 mod laws;
+mod loading;
 mod opening;
 mod printing;
 mod reading;
 
 pub use benching::bench;
 pub use checking::{check_files, load_files};
-use eo_base::{Fault, Text};
+use eo_base::{Fault, Place, Text};
+use eo_session::Session;
 pub use laws::soundness_law;
+pub use loading::load_session;
 pub use printing::{print_bench, print_line, print_verdict};
 
 /// What is to be checked.
@@ -46,6 +49,15 @@ pub enum Verdict {
     ReadFault,
     /// There was no memory left.
     OutOfMemory,
+}
+
+/// What a load answers whose session is kept.
+#[derive(Drop)]
+pub enum LoadEnd {
+    /// The file is accepted, and the session is in the state at its end, which is this place.
+    Ready { session: Session, end: Place },
+    /// It is not accepted: what a load answers, but never that it is loaded.
+    Ended(Verdict),
 }
 
 /// What a bench answers.

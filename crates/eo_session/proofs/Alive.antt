@@ -1,11 +1,11 @@
 -- The terms that are alive: those before the mark of what is kept.
-use Rattle.std.proofs.Common.{◌≡◌, refl, sym, ap, subst, ◌∙◌, ℕ, zero, suc, ◌<◌, ◌≤◌, List, [], ◌∷◌, ◌++◌, length, map, take, drop, get_or, Contains, All, arith}
+use Rattle.std.proofs.Common.{◌≡◌, ◌≢◌, refl, sym, ap, subst, ◌∙◌, ℕ, zero, suc, ◌<◌, ◌≤◌, List, [], ◌∷◌, ◌++◌, length, map, take, drop, get_or, Contains, All, arith}
 use Rattle.std.specs.Prelude.{flat_map, Decides}
 use Rattle.std.proofs.Math.Seq.{take-length}
 use Rattle.std.proofs.lemmas.List.{length-take-le, take-take, take-append-le, take-append-drop, get_or-take}
 use Rattle.std.proofs.lemmas.List.Elements.{All-nil, All-cons, All-append, All-weaker, All-contains, All-contains_itself, Contains-get_or}
 use Rattle.eo_term.specs.Growth.{IsTable, tree_in}
-use Rattle.eo_term.specs.Terms.{Terms, Since, IsMark, HasTextsOf, tree_at, text_at, first_trees}
+use Rattle.eo_term.specs.Terms.{Terms, Since, IsMark, AreApart, HaveOlderParts, HasPartsAmong, HasTextsOf, tree_at, text_at, first_trees}
 use Rattle.eo_term.specs.Tree.{Tree, Con, IsSubtree, subtrees, tree_eq}
 use Rattle.eo_term.specs.Carry.{Carried}
 use Rattle.eo_sig.specs.declared.records.MacroDecl.{MacroDecl}
@@ -66,6 +66,20 @@ roots_read c t since stays sg xs fs s a f =
     let ids = map_grown (tree_at t.trees) (tree_at c.trees) (λ i. i < length c.trees) since.tree xs a in
     let facts = scopes_grown c.trees t.trees (length c.trees) since.tree fs f in
     (λ i. roots_of (k.signature i) (k.macros i) (ids i) (facts i))
+
+-- the terms that are kept differ, and have older parts
+front_apart : (n : ℕ) (ts : List Tree) → n ≤ length ts → AreApart ts → AreApart (take n ts)
+front_apart n ts within apart = λ i j d l m.
+    let few = length-take-le n ts within in
+    let at : (k : ℕ) → k < n → get_or (take n ts) k d ≡ get_or ts k d = λ k h. get_or-take n ts k d h in
+    subst (λ (u : Tree). get_or (take n ts) i d ≢ u) (sym (at j (omega (arith, m, few))))
+    (subst (λ (u : Tree). u ≢ get_or ts j d) (sym (at i (omega (arith, l, m, few)))) (apart i j d l (omega (arith, m, few, within))))
+
+front_older : (n : ℕ) (ts : List Tree) → n ≤ length ts → HaveOlderParts ts → HaveOlderParts (take n ts)
+front_older n ts within older i l =
+    let below : i < n = omega (arith, l, length-take-le n ts within) in
+    subst (λ (us : List Tree). HasPartsAmong us (tree_at (take n ts) i)) (sym (take-take i n ts (omega (arith, below))))
+    (subst (HasPartsAmong (take i ts)) (sym (get_or-take n ts i (Con 0) below)) (older i (omega (arith, below, within))))
 
 -- ---- marks
 
@@ -149,12 +163,20 @@ module _ (h : Held) (live : IsLive h) where
         subst (All (Contains ts)) (sym roots_now)
         (of_roots (take n ts) (length (take n ts)) (Contains ts) (λ i l. in_front n ts (tree_at (take n ts) i) (Contains-get_or (take n ts) i (Con 0) l)) h.signature h.assertions h.facts kept_exact.declared kept_exact.assertions kept_exact.facts constants_there)
 
-    -- where all terms are before the mark, there are as many as are alive
-    pub count_alive : IsTable h.table → ((t u : Tree) → Decides (tree_eq t u) (t ≡ u)) → length ts ≡ n → length ts ≡ live_count (state_of h)
+    -- they are before the mark
+    roots_before : All (Contains (take n ts)) (roots (state_of h))
+    unfolding roots
+    roots_before =
+        subst (All (Contains (take n ts))) (sym roots_now)
+        (of_roots (take n ts) (length (take n ts)) (Contains (take n ts)) (λ i l. Contains-get_or (take n ts) i (Con 0) l) h.signature h.assertions h.facts kept_exact.declared kept_exact.assertions kept_exact.facts kept_exact.constants)
+
+    -- the mark is at as many terms as are alive
+    pub count_alive : IsTable h.table → ((t u : Tree) → Decides (tree_eq t u) (t ≡ u)) → n ≡ live_count (state_of h)
     unfolding live_count
-    count_alive table decides settled =
-        let all : take n ts ≡ ts = ap (λ k. take k ts) (sym settled) ∙ take-length ts in
-        count_is decides ts (flat_map subtrees (roots (state_of h))) table.apart (λ u c. alive_now u (subst (λ (us : List Tree). Contains us u) (sym all) c)) (λ u c. all_among ts table.older (roots (state_of h)) roots_there u c)
+    count_alive table decides =
+        sym count
+        ∙ count_is decides (take n ts) (flat_map subtrees (roots (state_of h))) (front_apart n ts kept_mark.terms table.apart) alive_now
+        (λ u c. all_among (take n ts) (front_older n ts kept_mark.terms table.older) (roots (state_of h)) roots_before u c)
 
 -- ---- what is added
 

@@ -6,7 +6,7 @@ use Rattle.eo_sig.specs.declared.records.Declared.{Declared}
 use Rattle.eo_term.specs.Tree.{Tree}
 use Rattle.eo_session.specs.Deciding.{MayDeclare}
 use Rattle.eo_session.specs.Held.{Leaves}
-use Rattle.eo_session.specs.State.{State, is_in_scope}
+use Rattle.eo_session.specs.State.{is_in_scope}
 use Rattle.eo_session.specs.declared.held.Held.{Held}
 
 -- a declaration with new numbers of its terms may be committed where the old one may

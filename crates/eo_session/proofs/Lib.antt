@@ -18,3 +18,4 @@ pub mod Reclaiming
 pub mod Scoping
 pub mod Sessions
 pub mod Used
+pub mod NamedValues

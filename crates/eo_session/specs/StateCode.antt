@@ -5,6 +5,8 @@ use Rattle.eo_sig.specs.Code.{signature_code, macro_code}
 use Rattle.eo_sig.specs.Signature.{Signature, Macro}
 use Rattle.eo_term.specs.Tree.{Tree}
 use Rattle.eo_term.specs.Code.{tree_code}
+use Rattle.eo_term.specs.Terms.{Terms}
+use Rattle.eo_term.specs.TermsCode.{terms_code}
 use Rattle.eo_proof.specs.Scopes.{Scope, Scopes, Fact}
 use Rattle.eo_session.specs.State.{State}
 use Rattle.eo_session.specs.Stepping.{Standing}
@@ -29,4 +31,5 @@ state_code =
     (λ _. refl)
 
 abbrev pub standing_code : Coded Standing
-standing_code = code_by (Bool × State) (coded× coded_bool state_code) (λ s. (s.ended, s.state)) (λ p. record { ended = p.0; state = p.1 }) (λ _. refl)
+standing_code =
+    code_by (Bool × (State × Terms)) (coded× coded_bool (coded× state_code terms_code)) (λ s. (s.ended, (s.state, s.terms))) (λ p. record { ended = p.0; state = p.1.0; terms = p.1.1 }) (λ _. refl)

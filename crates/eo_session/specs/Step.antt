@@ -1,7 +1,7 @@
 -- What each kind of command does to a state, or its first fault.
-use Rattle.std.specs.Prelude.{ℕ, Bool, true, false, not, ◌&&◌, ◌||◌, nat_eq, nat_lt, if◌then◌else◌, List, [], ◌∷◌, ◌++◌, map, length, Option, Some, None, slice_get, Ok}
+use Rattle.std.specs.Prelude.{ℕ, Bool, true, false, not, ◌&&◌, ◌||◌, nat_eq, nat_lt, ◌==◌, if◌then◌else◌, List, [], ◌∷◌, ◌++◌, map, length, Option, Some, None, option_and_then, slice_get, Ok}
 use Rattle.std.specs.Option.{option_map_or}
-use Rattle.eo_base.specs.declared.FaultName.TheVariants.{Redeclared, ProofDeclares, IllTyped, UnknownRule, UnknownPremise, NotBool, NotAsserted, NoReference, NoScope, ScopeDepth}
+use Rattle.eo_base.specs.declared.FaultName.TheVariants.{Redeclared, UnknownSymbol, ProofDeclares, IllTyped, UnknownRule, UnknownPremise, NotBool, NotAsserted, NoReference, NoScope, ScopeDepth}
 use Rattle.eo_base.specs.Checks.{Checked, Passed, ◌>>=◌, require, no_fault, value_or}
 use Rattle.eo_sexp.specs.Sexp.{Sexp}
 use Rattle.eo_lit.specs.declared.LiteralClass.{LiteralClass}
@@ -82,6 +82,21 @@ unfoldable pub formula : State → Sexp → Checked Tree
 formula st s = do
   t ← meaning (context st) [] s
   formula_of st t
+
+-- a macro without parameters is its tree
+abbrev pub plain_tree : Macro → Option Tree
+plain_tree m = if length m.parameters == 0 then Some m.tree else None
+
+-- the tree of what a name stands for, where that is a macro without parameters
+abbrev pub macro_tree : List Macro → Option Named → Option Tree
+macro_tree macros (Some (NamesMacro k)) = option_and_then plain_tree (slice_get macros k)
+macro_tree macros n = None
+
+-- the value of the macro without parameters that has this name
+unfoldable pub value_named : State → List ℕ → Checked Tree
+value_named st name = do
+  t ← value_or UnknownSymbol (macro_tree st.macros (lookup st.signature st.macros name))
+  evaluated st t
 
 abbrev pub is_free_fact : State → List ℕ → Bool
 is_free_fact st name = not (is_reserved name) && not (is_live st.scopes name)

@@ -8,14 +8,18 @@ use Rattle.eo_names.specs.declared.refused.ElabRefused.{ElabRefused}
 use Rattle.eo_names.specs.declared.refused.ElabRefused.TheVariants as elab
 use Rattle.eo_sig.specs.declared.refused.SigRefused.{SigRefused}
 use Rattle.eo_sig.specs.declared.refused.SigRefused.TheVariants as sig
+use Rattle.eo_eval.specs.Outcomes.{IsValueOf}
+use Rattle.eo_sig.specs.Reading.{Kept, signature, macros, IsBelow}
 use Rattle.eo_proof.specs.declared.facts.FactRefused.{FactRefused}
 use Rattle.eo_proof.specs.declared.facts.FactRefused.TheVariants as fact
 use Rattle.eo_rule.specs.declared.refused.RuleRefused.{RuleRefused}
 use Rattle.eo_rule.specs.declared.refused.RuleRefused.TheVariants as rule
 use Rattle.eo_term.specs.Growth.{tree_in}
+use Rattle.eo_term.specs.Terms.{Terms}
 use Rattle.eo_term.specs.Tree.{Tree, Con, tree_eq}
-use Rattle.eo_session.specs.State.{State}
+use Rattle.eo_session.specs.State.{State, first_state}
 use Rattle.eo_session.specs.Held.{state_of}
+use Rattle.eo_session.specs.Roots.{live_count}
 use Rattle.eo_session.specs.declared.Next.{Next}
 use Rattle.eo_session.specs.declared.held.Held.{Held}
 use Rattle.eo_session.specs.declared.session.EndAnswer.{EndAnswer}
@@ -99,10 +103,20 @@ abbrev pub DoesNext : Result Next Refused → Checked (State × Next) → Held �
 DoesNext (Ok what) m new = m ≡ Ok (state_of new, what)
 DoesNext (Err e) m new = Refuses m e
 
--- A session: whether it is ended, and its state.
+-- A session: whether it is ended, its state, and the terms that its table has.
 pub record Standing : Type 0 where
   pub ended : Bool
   pub state : State
+  pub terms : Terms
+
+-- a session before its first command
+pub record IsNew (closed : Bool) (s : Standing) : Type 0 where
+  pub going : s.ended ≡ false
+  pub state : s.state ≡ first_state closed
+
+-- the table has no terms but those that are alive
+abbrev pub IsAlive : Standing → Type 0
+IsAlive s = length s.terms.trees ≡ live_count s.state
 
 -- A session that is not ended is in the state behind the command, or is ended by its first fault or for want of memory.
 abbrev pub Steps : Result (Unit {0}) Refused → Checked State → (old new : Standing) → Type 0
@@ -117,6 +131,30 @@ StepsTo (Ok what) m old new = (old.ended ≡ false) × (m ≡ Ok (new.state, wha
 StepsTo (Err (refused.Fault name)) m old new = (old.ended ≡ false) × (m ≡ Err name) × (new.ended ≡ true)
 StepsTo (Err refused.Ended) m old new = (old.ended ≡ true) × (new.ended ≡ true)
 StepsTo (Err (refused.Memory e)) m old new = (old.ended ≡ false) × (new.ended ≡ true)
+
+-- ---- the value of a name
+
+-- The value is found, and is this term of the table.
+pub record IsFound (m : Checked Tree) (old new : Standing) (i : ℕ) : Type 0 where
+  pub going : old.ended ≡ false
+  pub goes_on : new.ended ≡ false
+  pub is : m ≡ Ok (tree_in new.terms i)
+  pub value : IsValueOf new.terms i
+
+-- A session that is not ended has the value, or is ended by the fault, or for want of memory.
+abbrev pub GivesValue : Result ℕ Refused → Checked Tree → (old new : Standing) → Type 0
+GivesValue (Ok i) m old new = IsFound m old new i
+GivesValue (Err (refused.Fault name)) m old new = (old.ended ≡ false) × (m ≡ Err name) × (new.ended ≡ true)
+GivesValue (Err refused.Ended) m old new = (old.ended ≡ true) × (new.ended ≡ true)
+GivesValue (Err (refused.Memory e)) m old new = (old.ended ≡ false) × (new.ended ≡ true)
+
+-- what is declared, over the terms of the table
+pub record IsSignatureOf (s : Standing) (k : Kept) : Type 0 where
+  pub signature : signature s.terms.trees k ≡ s.state.signature
+  pub macros : macros s.terms.trees k ≡ s.state.macros
+  pub below : IsBelow (length s.terms.trees) k
+
+-- ---- the end
 
 -- what is wrong at the end, if anything, or whether a step used a rule that is marked as unproved
 abbrev pub EndsWith : Option FaultName → (sorry : Bool) → EndAnswer → Type 0

@@ -1,5 +1,5 @@
 -- What a session does with a step, with numbers of terms.
-use Rattle.std.specs.Prelude.{◌≡◌, ℕ, ◌<◌, true, List, length, All, Option, Some, Result, Ok, Err, option_map, option_to_list}
+use Rattle.std.specs.Prelude.{◌≡◌, ℕ, ◌<◌, true, List, length, All, Option, Result, Ok, Err, option_map, option_to_list}
 use Rattle.std.specs.List.{list_all}
 use Rattle.eo_base.specs.Answers.{IsGiven}
 use Rattle.eo_base.specs.Checks.{Checked, ◌>>=◌, require}

@@ -31,15 +31,25 @@ impl Held {
         self.types.laws();
     }
 
-    /// How many terms are alive, where all are.
+    /// How many terms are alive.
     pub(crate) fn live(&self) -> usize
-        requires { IsSettled self.now }
+        requires { IsWhole self.now }
         ensures { result ≡ live_count (state_of self.now) }
     {
         equality_law();
         growth_law();
         self.table.laws();
-        self.table.len()
+        self.kept.terms()
+    }
+
+    /// A law: where all terms are alive, the table has as many as are.
+    pub(crate) fn alive_law(&self)
+        requires { IsSettled self.now }
+        ensures { length self.now.table.trees ≡ live_count (state_of self.now) }
+    {
+        equality_law();
+        growth_law();
+        self.table.laws();
     }
 
     /// Gives back what a command made, but for some terms, whose numbers are replaced by new ones.

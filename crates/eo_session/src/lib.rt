@@ -21,6 +21,7 @@ mod rules;
 mod scopes;
 mod session;
 mod steps;
+mod valuing;
 
 use eo_base::Text;
 pub use refused::Refused;

@@ -5,20 +5,24 @@ ghost use Rattle.eo_session.specs.declared.refused.Refused.TheVariants.{Fault};
 ghost use Rattle.eo_session.specs.Held.{state_of, IsWhole, IsSettled};
 ghost use Rattle.eo_session.specs.Roots.{live_count};
 ghost use Rattle.eo_session.specs.Numbered.{origin_of, number_of};
-ghost use Rattle.eo_session.specs.State.{first_state, begin_reference, end_fault, is_in_scope};
+ghost use Rattle.eo_session.specs.State.{begin_reference, end_fault, is_in_scope};
 ghost use Rattle.eo_names.specs.Scopes.{read_setting};
-ghost use Rattle.eo_session.specs.Step.{is_in_proof, is_in_reference, setting_of};
+ghost use Rattle.eo_session.specs.Step.{is_in_proof, is_in_reference, setting_of, value_named};
 ghost use Rattle.eo_session.specs.Commands.{placed_command, uncounted, step};
 ghost use Rattle.eo_session.specs.Commands as definition;
 ghost use Rattle.eo_shape.specs.Reading.{read_command};
 ghost use Rattle.eo_session.specs.Stepping.{DoesNext, Steps, StepsTo, EndsWith};
+ghost use Rattle.eo_session.specs.Stepping.{IsNew, IsAlive, GivesValue, IsSignatureOf};
 
 use crate::held::Held;
+use crate::valuing::run_name;
 use crate::{Next, Origin, Refused};
 use eo_base::FaultName;
 use eo_elab::Setting;
 use eo_sexp::Sexp;
 use eo_shape::{Command, command_of};
+use eo_sig::Signature;
+use eo_term::{Id, Table};
 use std::alloc::{AllocError, Global};
 use std::marker::Model;
 
@@ -103,7 +107,7 @@ pub struct Session {
 
 impl Model for Session {
     ghost use Rattle.std.specs.Prelude.{◌≡◌, false};
-    ghost use Rattle.eo_session.specs.Held.{state_of, IsSettled};
+    ghost use Rattle.eo_session.specs.Held.{state_of, IsWhole};
     ghost use Rattle.eo_session.specs.StateCode.{standing_code};
     ghost use Rattle.eo_session.specs.Stepping.{Standing};
 
@@ -111,16 +115,16 @@ impl Model for Session {
 
     ghost coded = { standing_code };
 
-    ghost view = { λ a. record { ended = a.ended; state = state_of a.held } };
+    ghost view = { λ a. record { ended = a.ended; state = state_of a.held; terms = a.held.table } };
 
-    ghost invariant = { λ a. a.ended ≡ false → IsSettled a.held };
+    ghost invariant = { λ a. a.ended ≡ false → IsWhole a.held };
 }
 
 impl Session {
     /// A session in which only `Type`, `Bool`, `true` and `false` are declared, without a reference
     /// file. `closed` says that the proof may declare no rules and programs.
     pub fn new(alloc: Global, closed: bool) -> Result<Session, AllocError>
-        ensures { IfOk result (λ s. s ≡ record { ended = false; state = first_state closed }) }
+        ensures { IfOk result (IsNew closed) }
     {
         let held = Held::new(alloc, closed)?;
         Ok(Session { held, ended: false })
@@ -132,14 +136,17 @@ impl Session {
     pub fn begin_reference(&mut self) -> Result<(), Refused>
         ensures steps { Steps result (begin_reference self.old.state) self.old self.new }
         ensures counted { self.new.state.commands ≡ self.old.state.commands }
+        ensures alive { OnOk result (IsAlive self.new) }
     {
         if self.ended {
             return Err(Refused::Ended);
         }
+        self.held.release();
         if self.held.has_reference {
             self.ended = true;
             return Err(Refused::Fault(FaultName::SecondReference));
         }
+        self.held.alive_law();
         self.held.has_reference = true;
         Ok(())
     }
@@ -198,20 +205,24 @@ impl Session {
     /// - `TermHeight`: a term is too tall.
     ///
     /// It answers what is done before the next command: a file that the command names is opened, or
-    /// the file of the command ends, which is no part of this call.
+    /// the file of the command ends, which is no part of this call. Then [`Session::table`] has as
+    /// many terms as are alive.
     ///
     /// `Ended`: an earlier call was refused. `Memory`: want of memory. A refused command is not counted.
     pub fn command(&mut self, s: &Sexp<'_>, from: Origin) -> Result<Next, Refused>
         ensures steps { StepsTo result (step self.old.state (origin_of from) s.now) self.old self.new }
         ensures present { result ≢ Err (Fault FileAbsent) }
         ensures counted { OnErr result (self.new.state.commands ≡ self.old.state.commands) }
+        ensures alive { OnOk result (IsAlive self.new) }
     {
         if self.ended {
             return Err(Refused::Ended);
         }
         let accepted = self.held.commands;
+        self.held.release();
         match run_command(&mut self.held, s, from) {
             Ok(next) => {
+                self.held.alive_law();
                 self.held.commands = self.held.commands.saturating_add(1);
                 Ok(next)
             }
@@ -221,6 +232,46 @@ impl Session {
                 Err(e)
             }
         }
+    }
+
+    /// The value of the macro without parameters that has this name. It is a term of
+    /// [`Session::table`] until the next call of this one, of [`Session::command`] or of
+    /// [`Session::begin_reference`], which first gives back the terms that were made for it.
+    ///
+    /// `UnknownSymbol`: there is no such macro. `Stuck`, `EvalDepth`, `EvalCalls`, `NumberRange` and
+    /// `TermHeight`: its term has no value, as [`Session::command`] says. A fault ends the session,
+    /// whose state stays.
+    ///
+    /// `Ended`: an earlier call was refused. `Memory`: out of memory.
+    pub fn value_of(&mut self, name: &[u8]) -> Result<Id, Refused>
+        ensures gives { GivesValue result (value_named self.old.state name.now) self.old self.new }
+        ensures state { self.new.state ≡ self.old.state }
+        ensures present { result ≢ Err (Fault FileAbsent) }
+    {
+        if self.ended {
+            return Err(Refused::Ended);
+        }
+        match run_name(&mut self.held, name) {
+            Ok(id) => Ok(id),
+            Err(e) => {
+                self.ended = true;
+                Err(e)
+            }
+        }
+    }
+
+    /// What is declared, with terms of [`Session::table`], in a session that is not ended.
+    pub fn signature(&self) -> &Signature
+        ensures { self.now.ended ≡ false → IsSignatureOf self.now result.now }
+    {
+        &self.held.signature
+    }
+
+    /// The terms.
+    pub fn table(&self) -> &Table
+        ensures { result.now ≡ self.now.terms }
+    {
+        &self.held.table
     }
 
     /// The check at the end of a proof, in a session that is not ended: `ScopeOpen` where a scope
@@ -246,7 +297,8 @@ impl Session {
     }
 
     /// How many terms are alive, in a session that is not ended: the different subtrees of what is
-    /// declared and asserted and of the facts. The table holds no others.
+    /// declared and asserted and of the facts. The table holds no others, but for those that
+    /// [`Session::value_of`] made.
     pub fn live(&self) -> usize
         requires { self.now.ended ≡ false }
         ensures { result ≡ live_count self.now.state }

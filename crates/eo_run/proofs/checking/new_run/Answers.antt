@@ -1,6 +1,4 @@
-use Rattle.std.proofs.Common.{ap}
 use Rattle.std.proofs.lemmas.Result.{IfOk-at_ok}
-use Rattle.eo_session.specs.Stepping.{Standing}
 use Rattle.eo_run.specs.Reading.{progress}
 use Rattle.eo_run.proofs.checking.new_run.Goals as goal
 
@@ -8,6 +6,6 @@ pub returns : goal.returns
 returns c =
     let new = IfOk-at_ok _ c.in_ok-session.ensures.called c.new.ensures in
     record {
-      going = ap (λ (s : Standing). s.ended) new;
-      is = λ i. progress (ap (λ (s : Standing). s.state) new i) (c.in_ok-session.ensures.other i);
+      going = new.going;
+      is = λ i. progress (new.state i) (c.in_ok-session.ensures.other i);
     }

@@ -6,7 +6,7 @@ use Rattle.eo_session.proofs.held.Held.conclusion.Goals as goal
 pub returns-clause-keeps : goal.returns-clause-keeps
 returns-clause-keeps c =
     let made = c.conclude-formula.ensures in
-    let k = keeps_types c.args.self.now c.requires.whole c.conclude-formula.new.table made.grows.stays made.grows.table c.conclude-formula.new.types made.fits.types c.laws.ensures in
+    let k = keeps_types c.args.self.now c.requires.whole c.conclude-formula.new.table made.grows.stays made.grows.table c.conclude-formula.new.types made.fits.fit.types c.laws.ensures in
     record {
       whole = record {
         held = record {

@@ -1,9 +1,9 @@
-use Rattle.std.proofs.Common.{◌≡◌, None, sym, subst, ◌∙◌}
+use Rattle.std.proofs.Common.{sym, subst}
 use Rattle.std.specs.Prelude.{Ok}
 use Rattle.eo_sig.specs.Adding.{entry_fault}
 use Rattle.eo_sig.specs.Reading.{read_entry, signature}
 use Rattle.eo_sig.specs.declared.records.Declared.{Declared}
-use Rattle.eo_session.specs.Deciding.{Decides, MayDeclare}
+use Rattle.eo_session.specs.Deciding.{Decides}
 use Rattle.eo_session.specs.Decisions.{entry_effect}
 use Rattle.eo_session.specs.Effects.{Declares}
 use Rattle.eo_session.specs.Held.{state_of}

@@ -7,6 +7,7 @@ use Rattle.eo_session.specs.Stepping.{Standing}
 use Rattle.eo_session.specs.State.{State}
 use Rattle.eo_session.proofs.Sessions.{step-fault, step-ok}
 use Rattle.eo_session.proofs.Dispatch.{steps-refused}
+use Rattle.eo_session.proofs.NamedValues.{counted-alike}
 use Rattle.eo_session.proofs.session.Session.command.Goals as goal
 
 pub returns-in-Ok-clause-steps : goal.returns-in-Ok-clause-steps
@@ -14,9 +15,11 @@ returns-in-Ok-clause-steps c =
     let same = sym c.self.view_is in
     let from = origin_of c.args.from in
     let s = c.args.s.now in
+    let kept = sym c.release.ensures.same in
     let new : State = state_of c.run_command.new.held in (
       ap (λ (x : Standing). x.ended) same ∙ c.if-self.false,
-      ap (λ (x : Standing). step x.state from s) same ∙ step-ok (state_of c.self.inside.held) from s new c.in-Ok.next c.in-Ok.ensures.does ∙ (λ i. Ok (record new { commands = sym c.saturating_add-self-inside.ensures i }, c.in-Ok.next)),
+      ap (λ (x : Standing). step x.state from s) same ∙ ap (λ (st : State). step st from s) kept
+          ∙ step-ok (state_of c.release.new.self) from s new c.in-Ok.next c.in-Ok.ensures.does ∙ (λ i. Ok (record new { commands = sym c.saturating_add-self-inside.ensures i }, c.in-Ok.next)),
       c.if-self.false,
     )
 
@@ -26,7 +29,10 @@ returns-in-Err-clause-steps c =
     let from = origin_of c.args.from in
     let s = c.args.s.now in
     steps-refused c.in-Err.e _ _ c.args.self.now _ (ap (λ (x : Standing). x.ended) same ∙ c.if-self.false) refl c.in-Err.ensures.does
-    (λ name h. ap (λ (x : Standing). step x.state from s) same ∙ step-fault (state_of c.self.inside.held) from s name h)
+    (λ name h. ap (λ (x : Standing). step x.state from s) same ∙ ap (λ (st : State). step st from s) (sym c.release.ensures.same) ∙ step-fault (state_of c.release.new.self) from s name h)
 
 pub run_command-requires : goal.run_command-requires
-run_command-requires c = (c.self.invariant c.if-self.false).whole
+run_command-requires c = c.release.ensures.settled.whole
+
+pub returns-in-Ok-clause-alive : goal.returns-in-Ok-clause-alive
+returns-in-Ok-clause-alive c = c.alive_law.ensures ∙ sym (counted-alike (state_of c.run_command.new.held) c.saturating_add-self-inside.result)

@@ -34,4 +34,4 @@ returns c =
     )
 
 pub refutes-requires : goal.refutes-requires
-refutes-requires c = (c.self.invariant (ap (λ (s : Standing). s.ended) c.self.view_is ∙ c.requires)).whole
+refutes-requires c = c.self.invariant (ap (λ (s : Standing). s.ended) c.self.view_is ∙ c.requires)
