@@ -19,7 +19,7 @@ use Rattle.eo_run.specs.declared.Verdict.TheVariants as answer
 use Rattle.eo_main.specs.Ends.{AbsentHasCause}
 
 -- the first of a front of a list, and the others
-front_head : (n x y : ℕ) (xs ys : List ℕ) → take n (x ∷ xs) ≡ y ∷ ys → x ≡ y
+pub front_head : (n x y : ℕ) (xs ys : List ℕ) → take n (x ∷ xs) ≡ y ∷ ys → x ≡ y
 front_head zero x y xs ys e = cc
 front_head (suc n) x y xs ys e = cc
 
@@ -81,7 +81,7 @@ added old t u w x ew ex eu =
     append_cancel_left old t u cc
 
 -- what was written for something due is a front of it
-front_of_due : (s : Status) (due : Due) (old u : List ℕ) (w x : Option (List ℕ)) → WritesDue s due w x → w ≡ Some old → x ≡ Some (old ++ u) → (n : ℕ) × (take n due.text ≡ u)
+pub front_of_due : (s : Status) (due : Due) (old u : List ℕ) (w x : Option (List ℕ)) → WritesDue s due w x → w ≡ Some old → x ≡ Some (old ++ u) → (n : ℕ) × (take n due.text ≡ u)
 front_of_due status.Ok due old u w x h ew eu = (length due.text, take-length due.text ∙ added old due.text u w x ew h.1 eu)
 front_of_due status.Incomplete due old u w x h ew eu = (length due.text, take-length due.text ∙ added old due.text u w x ew h.1 eu)
 front_of_due status.Refused due old u w x h ew eu = (length due.text, take-length due.text ∙ added old due.text u w x ew h.1 eu)

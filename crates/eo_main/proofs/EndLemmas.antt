@@ -83,7 +83,7 @@ of_verdict : (F : Type 0) (s : Status) (u v : verdict.Verdict) (w x : Option (Li
 of_verdict F s u v w x e h = verdict_ends F s v w x (subst (λ (u : verdict.Verdict). WritesDue s (verdict_due u) w x) (sym e) h)
 
 -- the line of a refusal
-refused_ends : (F : Type 0) (paths : List (List ℕ)) (fault : Fault) (v : verdict.Verdict) (s : Status) (w x : Option (List ℕ))
+pub refused_ends : (F : Type 0) (paths : List (List ℕ)) (fault : Fault) (v : verdict.Verdict) (s : Status) (w x : Option (List ℕ))
     → Answers paths (answer.Refused fault) v → WritesDue s (answer_due paths (answer.Refused fault)) w x → Ends F s (verdict_due v) w x
 unfolding answer_due
 refused_ends F paths fault v s w x (r, e, d) h = of_verdict F s (verdict.Refused (refusal_of paths fault)) v w x (e ∙ ap (λ (r : verdict.Refusal). verdict.Refused r) (sym (same_refusal paths fault r d))) h

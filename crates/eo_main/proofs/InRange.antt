@@ -4,6 +4,7 @@ use Rattle.eo_io.specs.Library.{Files}
 use Rattle.eo_run.specs.Answer.{FileInRange}
 use Rattle.eo_run.specs.Benching.{AnswersBench, EndInRange}
 use Rattle.eo_run.specs.Judging.{IsCheckAnswer, IsLoadAnswer}
+use Rattle.eo_run.specs.Opening.{IsStop}
 use Rattle.eo_run.specs.declared.BenchEnd.{BenchEnd}
 use Rattle.eo_run.specs.declared.BenchEnd.TheVariants as ends
 use Rattle.eo_run.specs.declared.CheckJob.{CheckJob}
@@ -22,3 +23,7 @@ pub bench_in_range : (files : Files) (job : CheckJob) (paths : List (List ℕ)) 
 bench_in_range files job paths (ends.Correct commands terms) h = tt
 bench_in_range files job paths (ends.Other (answer.Refused fault)) h = h.1
 bench_in_range files job paths (ends.Other v) h = tt
+
+pub stop_in_range : (paths : List (List ℕ)) (a : Verdict) → IsStop paths a → FileInRange paths a
+stop_in_range paths (answer.Refused fault) h = h
+stop_in_range paths a h = tt

@@ -3,5 +3,6 @@ mod EndLemmas
 mod InRange
 mod Readings
 mod Refuting
+mod ShowLemmas
 mod Taken
 mod WordVectors

@@ -5,7 +5,7 @@ use Rattle.clap.proofs.OnLiterals.{clap_on_literals}
 use Rattle.clap.specs.Words.{Text}
 use Rattle.eo_main.specs.CommandLine.{request}
 use Rattle.eo_main.specs.declared.Request.{Request}
-use Rattle.eo_main.specs.declared.Request.TheVariants.{Check, Load, Bench}
+use Rattle.eo_main.specs.declared.Request.TheVariants.{Check, Load, Bench, Show}
 
 -- the words behind the program's name are read so
 abbrev Reads : List Text → Option Request → Type 0
@@ -125,3 +125,11 @@ bench_alone = refl
 bench_of_two : Reads (codes "bench" ∷ codes "1" ∷ codes "2" ∷ []) None
 unfolding clap_on_literals request
 bench_of_two = refl
+
+a_name : Reads (codes "show" ∷ codes "a.eo" ∷ codes "b" ∷ []) (Some (Show (codes "a.eo") (codes "b")))
+unfolding clap_on_literals request
+a_name = refl
+
+no_name : Reads (codes "show" ∷ codes "a.eo" ∷ []) None
+unfolding clap_on_literals request
+no_name = refl

@@ -6,7 +6,7 @@ use Rattle.clap.specs.Words.{App, Row, Rule, Text, first_of, new_app, new_rule, 
 use Rattle.eo_lit.specs.Literals.{numeral}
 use Rattle.eo_run.specs.declared.CheckJob.{CheckJob}
 use Rattle.eo_main.specs.declared.Request.{Request}
-use Rattle.eo_main.specs.declared.Request.TheVariants.{Check, Load, Bench}
+use Rattle.eo_main.specs.declared.Request.TheVariants.{Check, Load, Bench, Show}
 
 -- ---- the commands
 
@@ -36,6 +36,10 @@ check_command =
 abbrev pub taking : (name word : Text) → App
 taking name word = command name (positional word ∷ [])
 
+-- a command that takes two words
+abbrev pub taking_two : (name first second : Text) → App
+taking_two name first second = command name (positional first ∷ positional second ∷ [])
+
 -- `load FILE`
 abbrev pub load_command : App
 load_command = taking (codes "load") (codes "FILE")
@@ -44,13 +48,18 @@ load_command = taking (codes "load") (codes "FILE")
 abbrev pub bench_command : App
 bench_command = taking (codes "bench") (codes "N")
 
+-- `show FILE NAME`
+abbrev pub show_command : App
+show_command = taking_two (codes "show") (codes "FILE") (codes "NAME")
+
 abbrev pub requires_subcommand : App → App
 requires_subcommand a = record a { top = record a.top { subcommand_required = true } }
 
--- `ethos`, with one of the three
+-- `ethos`, with one of the four
 abbrev pub program : App
 program =
-    with_subcommand (with_subcommand (with_subcommand (requires_subcommand (new_app (codes "ethos"))) check_command.top) load_command.top) bench_command.top
+    with_subcommand (with_subcommand (with_subcommand (with_subcommand (requires_subcommand (new_app (codes "ethos"))) check_command.top) load_command.top) bench_command.top)
+    show_command.top
 
 -- ---- what the words ask for
 
@@ -83,12 +92,16 @@ size_of word = option_and_then (λ n. if nat_le 1 n && nat_le n bench_limit then
 abbrev pub bench_of : List Row → Option Request
 bench_of rows = option_and_then (λ word. option_map Bench (size_of word)) (first_of (codes "N") rows)
 
+abbrev pub show_of : List Row → Option Request
+show_of rows = option_and_then (λ file. option_map (Show file) (first_of (codes "NAME") rows)) (first_of (codes "FILE") rows)
+
 -- by the name of the command that stands among the words, and what was found for it
 abbrev pub request_of : Text × List Row → Option Request
 request_of found =
     if bytes_eq found.0 (codes "check") then check_of found.1
     else if bytes_eq found.0 (codes "load") then load_of found.1
     else if bytes_eq found.0 (codes "bench") then bench_of found.1
+    else if bytes_eq found.0 (codes "show") then show_of found.1
     else None
 
 -- The reading of the words, the first of which is the program's name: none where `clap` does not take them, or a bench has no size.

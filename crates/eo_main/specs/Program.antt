@@ -6,6 +6,7 @@ use Rattle.eo_base.specs.declared.Status.TheVariants as status
 use Rattle.eo_io.specs.Library.{Files}
 use Rattle.eo_run.specs.Bench.{bench_files, bench_job}
 use Rattle.eo_run.specs.Check.{verdict, load_verdict}
+use Rattle.eo_main.specs.Showing.{show_due}
 use Rattle.eo_run.specs.Printed.{Due, verdict_due, usage_due, bench_text}
 use Rattle.eo_run.specs.Refutation.{Refutes, ClosedKeepsRules}
 use Rattle.eo_session.specs.Roots.{live_count}
@@ -14,7 +15,7 @@ use Rattle.eo_run.specs.Verdict.{Verdict, Correct, Refused}
 use Rattle.eo_run.specs.declared.CheckJob.{CheckJob}
 use Rattle.eo_main.specs.Ends.{Ends, EndsInFull}
 use Rattle.eo_main.specs.declared.Request.{Request}
-use Rattle.eo_main.specs.declared.Request.TheVariants.{Check, Load, Bench}
+use Rattle.eo_main.specs.declared.Request.TheVariants.{Check, Load, Bench, Show}
 
 -- A correct bench tells how many commands were accepted, and how many different trees are alive at the end of its run.
 abbrev pub correct_bench : ℕ → Ran → Due
@@ -34,6 +35,7 @@ due files None = usage_due
 due files (Some (Check job)) = verdict_due (verdict files job)
 due files (Some (Load file)) = verdict_due (load_verdict files file)
 due files (Some (Bench n)) = bench_due n
+due files (Some (Show file name)) = show_due files file name
 
 -- what is due does not depend on the library's files
 abbrev pub needs_no_files : Option Request → Bool
@@ -41,6 +43,7 @@ needs_no_files None = true
 needs_no_files (Some (Check job)) = false
 needs_no_files (Some (Load file)) = false
 needs_no_files (Some (Bench n)) = true
+needs_no_files (Some (Show file name)) = false
 
 -- the words ask for a bench, whose files are not the library's
 abbrev pub is_bench : Option Request → Bool
@@ -48,6 +51,7 @@ is_bench None = false
 is_bench (Some (Check job)) = false
 is_bench (Some (Load file)) = false
 is_bench (Some (Bench n)) = true
+is_bench (Some (Show file name)) = false
 
 -- The run ends as is due for the reading of its words, where files are told. The library failed only if `failed` holds.
 abbrev pub EndsAs : (failed : Type 0) → Option Files → Status → Option Request → (before after : Option (List ℕ)) → Type 0

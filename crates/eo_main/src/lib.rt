@@ -1,8 +1,9 @@
 //! The program as a call: it reads the words of a command line, runs what they ask for over a library
-//! of files, and writes one line to a sink.
+//! of files, and writes what is due to a sink.
 #![tactic(auto)]
 
 mod program;
+mod showing;
 mod words;
 
 use eo_base::Text;
@@ -19,4 +20,6 @@ pub enum Request {
     Load(Text),
     /// The bench with so many hops is to be run.
     Bench(u32),
+    /// The value that a name has at the end of a signature file is to be shown.
+    Show { file: Text, name: Text },
 }

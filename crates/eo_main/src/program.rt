@@ -9,6 +9,7 @@ ghost use Rattle.eo_main.specs.Ends.{Ends, EndHasCause, UsageFits, AbsentHasCaus
 ghost use Rattle.eo_main.specs.Program.{due, bench_due, needs_no_files, is_bench, EndsAs, OkRefutes, ClosedKeeps, Completes};
 ghost use Rattle.eo_main.specs.declared.Request.{Request as reading};
 
+use crate::showing::show;
 use crate::{Request, read_words};
 use eo_base::{Status, Text};
 use eo_io::{HonestLibrary, Library, Paths, Sink};
@@ -19,7 +20,7 @@ use std::alloc::{AllocError, Global};
 
 /// The line for words that have no reading.
 const USAGE: &[u8] =
-    b"usage: ethos check [--include=F] [--reference=F] [--closed] PROOF | ethos load FILE | ethos bench N\n";
+    b"usage: ethos check [--include=F] [--reference=F] [--closed] PROOF | ethos load FILE | ethos bench N | ethos show FILE NAME\n";
 
 /// The line for want of memory.
 pub const OUT_OF_MEMORY: &[u8] = b"out of memory\n";
@@ -28,11 +29,13 @@ pub const OUT_OF_MEMORY: &[u8] = b"out of memory\n";
 /// is ignored, over a library of files and a sink for what it writes.
 ///
 /// The words are read as `read_words` says: `check [--include=F] [--reference=F] [--closed] PROOF`
-/// checks a proof, `load FILE` runs a signature file, and `bench N` checks a proof of N hops that is
-/// made in memory. Then the line of the verdict is written, and for a correct bench as
-/// `bench 10: correct, 33 commands, 99 terms`.
+/// checks a proof, `load FILE` runs a signature file, `bench N` checks a proof of N hops that is
+/// made in memory, and `show FILE NAME` runs a signature file and shows the value of a name. Then
+/// the line of the verdict is written, for a correct bench as
+/// `bench 10: correct, 33 commands, 99 terms`, and for a value the lines that it is shown by.
 ///
-/// - `Ok`, `Incomplete`, `Refused`: exactly as the verdict of the files. With `Ok` of a check, where
+/// - `Ok`, `Incomplete`, `Refused`: exactly as the verdict of the files, and for a value as its name
+///   and its parts say. With `Ok` of a check, where
 ///   `correct` is written, `false` is derivable from what the reference file asserts, by rules that
 ///   are declared and not marked as unproved; with `--closed`, by none that the proof declares.
 /// - `Usage`: exactly where the words have no reading; the usage line is written.
@@ -68,6 +71,7 @@ pub fn ethos_main<L: Library, W: Sink>(
         Ok(Some(Request::Check(job))) => check(alloc, &job, files, out),
         Ok(Some(Request::Load(file))) => load(alloc, &file, files, out),
         Ok(Some(Request::Bench(n))) => run_bench(alloc, n, out),
+        Ok(Some(Request::Show { file, name })) => show(alloc, &file, &name, files, out),
         Ok(None) => print_line(out, Status::Usage, &[USAGE]),
         Err(AllocError) => print_line(out, Status::OutOfMemory, &[OUT_OF_MEMORY]),
     }

@@ -1,5 +1,5 @@
 //! The words of the command line, read by `clap`.
-ghost use Rattle.std.specs.Prelude.{◌≡◌, IfOk, map, option_map, option_and_then, false};
+ghost use Rattle.std.specs.Prelude.{◌≡◌, IfOk, codes, map, option_map, option_and_then, false};
 ghost use Rattle.clap.specs.Words.{app_of, first_of, rule_of, subcommand_rows_of, with_subcommand};
 ghost use Rattle.eo_main.specs.CommandLine as line;
 ghost use Rattle.eo_main.specs.Words.{rows_in};
@@ -20,9 +20,10 @@ const BENCH_LIMIT: u128 = 100_000;
 /// - `check [--include=F] [--reference=F] [--closed] PROOF`
 /// - `load FILE`
 /// - `bench N`, with N from 1 to 100,000 in digits without sign and without a leading zero
+/// - `show FILE NAME`
 ///
 /// A value F may also be the next word. Options and PROOF come in any order, and each option at most
-/// once. Behind `--` each word is PROOF, FILE or N. All other words have no reading, a request for help
+/// once. Behind `--` each word is PROOF, FILE, N or NAME. All other words have no reading, a request for help
 /// among them. `Err` is want of memory.
 pub fn read_words(alloc: Global, words: &[Text]) -> Result<Option<Request>, AllocError>
     ensures { IfOk result (λ reading. reading ≡ line.request words.now) }
@@ -50,7 +51,7 @@ fn texts_of<'a>(alloc: Global, words: &'a [Text]) -> Result<Vec<&'a str>, AllocE
 
 // ---- the command
 
-/// The command `ethos`, with one of its three.
+/// The command `ethos`, with one of its four.
 fn program<'a>(alloc: Global) -> Result<Command<'a>, AllocError>
     ensures { IfOk result (λ command. app_of command ≡ line.program) }
 {
@@ -63,7 +64,8 @@ fn program<'a>(alloc: Global) -> Result<Command<'a>, AllocError>
         .subcommand_required(true)
         .subcommand(check)?;
     let ethos = with_command(alloc, ethos, "load", "FILE")?;
-    with_command(alloc, ethos, "bench", "N")
+    let ethos = with_command(alloc, ethos, "bench", "N")?;
+    with_show(alloc, ethos)
 }
 
 /// The command, and below it one of this name that takes a word.
@@ -78,6 +80,17 @@ fn with_command<'a>(
     let below = Command::new(alloc, name).arg(positional(alloc, word));
     let (below, above) = both(below, command)?;
     above.subcommand(below)
+}
+
+/// The command, and below it the one that shows a value.
+fn with_show<'a>(alloc: Global, command: Command<'a>) -> Result<Command<'a>, AllocError>
+    ensures { IfOk result (λ with. app_of with ≡ with_subcommand (app_of command.entry) line.show_command.top) }
+{
+    let begun = Command::new(alloc, "show").arg(positional(alloc, "FILE"));
+    let (begun, above) = both(begun, command)?;
+    let whole = begun.arg(positional(alloc, "NAME"));
+    let (show, above) = both(whole, above)?;
+    above.subcommand(show)
 }
 
 /// `--name=VALUE` or `--name VALUE`
@@ -114,6 +127,7 @@ fn request_of(alloc: Global, matches: &ArgMatches<'_>) -> Result<Option<Request>
         Some(("check", found)) => check_of(alloc, found),
         Some(("load", found)) => load_of(alloc, found),
         Some(("bench", found)) => Ok(bench_of(found)),
+        Some(("show", found)) => show_of(alloc, found),
         _ => Ok(None),
     }
 }
@@ -141,6 +155,32 @@ fn bench_of(found: &ArgMatches<'_>) -> Option<Request>
 {
     let word = value_of(found, "N")?;
     Some(Request::Bench(size_of(word.as_bytes())?))
+}
+
+fn show_of(alloc: Global, found: &ArgMatches<'_>) -> Result<Option<Request>, AllocError>
+    ensures { IfOk result (λ reading. reading ≡ line.show_of (rows_in found.now)) }
+{
+    match value_of(found, "FILE") {
+        Some(file) => named_of(alloc, found, file),
+        None => Ok(None),
+    }
+}
+
+/// The value of the name among these words is to be shown, in this file.
+fn named_of(
+    alloc: Global,
+    found: &ArgMatches<'_>,
+    file: &str,
+) -> Result<Option<Request>, AllocError>
+    ensures { IfOk result (λ reading. reading ≡ option_map (Request.Show file.now) (first_of (codes "NAME") (rows_in found.now))) }
+{
+    match value_of(found, "NAME") {
+        Some(name) => Ok(Some(Request::Show {
+            file: Text::new(alloc, file)?,
+            name: Text::new(alloc, name)?,
+        })),
+        None => Ok(None),
+    }
 }
 
 /// The size of a bench, where it has these digits.

@@ -1,4 +1,4 @@
-//! The program `ethos`: it checks proofs against reference files, and loads signatures.
+//! The program `ethos`: it checks proofs against reference files, loads signatures, and shows values.
 #![tactic(auto)]
 
 use eo_base::{Status, Text};

@@ -6,6 +6,7 @@ mod extreme;
 mod failing;
 mod loads;
 mod opened;
+mod shows;
 
 use eo_base::Status;
 use eo_io::MemorySink;

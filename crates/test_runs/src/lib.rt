@@ -11,8 +11,8 @@ use eo_main::{ethos_main, run_in_memory};
 use std::alloc::{AllocError, Global};
 pub use texts::{Long, joined, long_text};
 
-/// Room for each line.
-pub const ROOM: usize = 256;
+/// Room for what is printed.
+pub const ROOM: usize = 8_192;
 
 /// The words that check a proof against a reference file.
 pub const CHECK: &str = "ethos check --reference=r.smt2 p.eo";

@@ -3,8 +3,8 @@ use std::alloc::{AllocError, Global};
 use std::fmt::Write;
 
 /// A long text: what it begins with, how many pieces follow, such a piece, and what it ends with. In
-/// a piece `~` stands for its number, from 0 on, `^` for the number after it, and `%` for sixteen
-/// hexadecimal digits of its number.
+/// a piece `~` stands for its number, from 0 on, `^` for the number after it, `&` for the one after
+/// that, and `%` for sixteen hexadecimal digits of its number.
 pub type Long<'a> = (&'a str, u32, &'a str, &'a str);
 
 /// Such a text, written out.
@@ -33,15 +33,16 @@ fn push_piece(text: &mut String, number: u32, piece: &str) -> Result<(), AllocEr
 fn push_char(text: &mut String, number: u32, c: char) -> Result<(), AllocError> {
     match c {
         '~' => write!(text, "{number}"),
-        '^' => push_next(text, number),
+        '^' => push_later(text, number, 1),
+        '&' => push_later(text, number, 2),
         '%' => write!(text, "{number:016x}"),
         _ => text.push(c),
     }
 }
 
-fn push_next(text: &mut String, number: u32) -> Result<(), AllocError> {
-    let next = u64::from(number) + 1;
-    write!(text, "{next}")
+fn push_later(text: &mut String, number: u32, more: u8) -> Result<(), AllocError> {
+    let later = u64::from(number) + u64::from(more);
+    write!(text, "{later}")
 }
 
 /// A text, and then another.

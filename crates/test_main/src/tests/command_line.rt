@@ -5,7 +5,7 @@ use std::alloc::{AllocError, Global};
 use test_runs::{File, Job, Want, does_in_pieces, first_wrong};
 
 const USAGE: &[u8] =
-    b"usage: ethos check [--include=F] [--reference=F] [--closed] PROOF | ethos load FILE | ethos bench N\n";
+    b"usage: ethos check [--include=F] [--reference=F] [--closed] PROOF | ethos load FILE | ethos bench N | ethos show FILE NAME\n";
 
 /// The files that a line may name, but for `p.eo`, each with its path.
 const FILES: &[File<'static>] = &[
@@ -143,6 +143,11 @@ fn words_that_are_read(rt: HostRuntime) {
             b"bench 10: correct, 33 commands, 99 terms\n",
         ),
         (
+            "ethos show c.eo p",
+            Status::Refused,
+            b"refused F13 UnknownSymbol c.eo:2:23\n",
+        ),
+        (
             "ethos bench -- 10",
             Status::Ok,
             b"bench 10: correct, 33 commands, 99 terms\n",
@@ -216,6 +221,12 @@ fn words_that_are_not_read(rt: HostRuntime) {
         "ethos bench N",
         "ethos bench --closed 1",
         "ethos bench --help",
+        "ethos show",
+        "ethos show c.eo",
+        "ethos show c.eo p q",
+        "ethos show c.eo -p",
+        "ethos show --closed c.eo p",
+        "ethos show --help",
     ];
     assert_none(&rt, first_wrong(rt.alloc(), LINES, is_usage));
 }

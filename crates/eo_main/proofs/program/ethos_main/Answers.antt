@@ -1,7 +1,7 @@
 use Rattle.std.proofs.Common.{◌≡◌, ◌∙◌, ap, sym, refl, arith, Some, None}
 use Rattle.eo_main.specs.CommandLine.{request}
 use Rattle.eo_main.specs.declared.Request.{Request}
-use Rattle.eo_main.specs.declared.Request.TheVariants.{Check, Load, Bench}
+use Rattle.eo_main.specs.declared.Request.TheVariants.{Check, Load, Bench, Show}
 use Rattle.eo_main.proofs.EndLemmas.{reading_ends, reads_ends, no_reading_ends, usage_ends, bench_ends_as, own_has_cause, own_ends, own_usage, own_bench, own_memory, wants_files, asks_bench}
 use Rattle.eo_main.proofs.AbsentLemmas.{absent_by_letter}
 use Rattle.eo_main.proofs.Refuting.{ok_refutes}
@@ -109,3 +109,29 @@ returns-in-Ok-Some-Load-clause-usage g c =
 
 pub returns-in-Ok-Some-Load-clause-absent : goal.returns-in-Ok-Some-Load-clause-absent
 returns-in-Ok-Some-Load-clause-absent g c = λ files. c.load.ensures.absent
+
+-- ---- the value of a name
+
+pub returns-in-Ok-Some-Show-clause-exact : goal.returns-in-Ok-Some-Show-clause-exact
+returns-in-Ok-Some-Show-clause-exact g c =
+    let reading : Some (Show c.in-Ok-Some-Show.file c.in-Ok-Some-Show.name) ≡ request c.args.words.now =
+    sym (c.in-Ok-Some-Show.field-0-is ∙ ap (λ (r : Request). Some r) c.in-Ok-Some-Show.field-0-0-is) ∙ c.in-Ok-Some-Show.ensures in
+    reading_ends _ _ _ _ _ _ _ reading c.show.ensures.exact
+
+pub returns-in-Ok-Some-Show-clause-own : goal.returns-in-Ok-Some-Show-clause-own
+returns-in-Ok-Some-Show-clause-own g c =
+    let reading : Some (Show c.in-Ok-Some-Show.file c.in-Ok-Some-Show.name) ≡ request c.args.words.now =
+    sym (c.in-Ok-Some-Show.field-0-is ∙ ap (λ (r : Request). Some r) c.in-Ok-Some-Show.field-0-0-is) ∙ c.in-Ok-Some-Show.ensures in
+    λ own. absurd (wants_files (Some (Show c.in-Ok-Some-Show.file c.in-Ok-Some-Show.name)) (request c.args.words.now) reading refl own)
+
+pub returns-in-Ok-Some-Show-clause-cause : goal.returns-in-Ok-Some-Show-clause-cause
+returns-in-Ok-Some-Show-clause-cause g c = c.show.ensures.cause
+
+pub returns-in-Ok-Some-Show-clause-usage : goal.returns-in-Ok-Some-Show-clause-usage
+returns-in-Ok-Some-Show-clause-usage g c =
+    let reading : Some (Show c.in-Ok-Some-Show.file c.in-Ok-Some-Show.name) ≡ request c.args.words.now =
+    sym (c.in-Ok-Some-Show.field-0-is ∙ ap (λ (r : Request). Some r) c.in-Ok-Some-Show.field-0-0-is) ∙ c.in-Ok-Some-Show.ensures in
+    reads_ends _ (Show c.in-Ok-Some-Show.file c.in-Ok-Some-Show.name) _ reading c.show.ensures.usage
+
+pub returns-in-Ok-Some-Show-clause-absent : goal.returns-in-Ok-Some-Show-clause-absent
+returns-in-Ok-Some-Show-clause-absent g c = λ files. c.show.ensures.absent

@@ -21,4 +21,5 @@ returns c =
     let with_check_is = c.in_ok-ethos.ensures.shape check_local
     ∙ ap₂ with_subcommand (ethos_is ∙ ap line.requires_subcommand c.new-2.ensures.app) (ap (λ (a : App). a.top) check_is) in
     let with_load_is = c.in_ok-ethos-2.ensures ∙ ap (λ a. with_subcommand a line.load_command.top) with_check_is in
-    IfOk-weaker c.with_command-2.result _ _ (λ m is. is ∙ ap (λ a. with_subcommand a line.bench_command.top) with_load_is) c.with_command-2.ensures
+    let with_bench_is = c.in_ok-ethos-3.ensures ∙ ap (λ a. with_subcommand a line.bench_command.top) with_load_is in
+    IfOk-weaker c.with_show.result _ _ (λ m is. is ∙ ap (λ a. with_subcommand a line.show_command.top) with_bench_is) c.with_show.ensures
