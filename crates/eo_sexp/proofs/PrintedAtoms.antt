@@ -11,7 +11,7 @@ use Rattle.eo_sexp.specs.AtomKind.{AtomKind}
 use Rattle.eo_sexp.specs.AtomKind as kind
 use Rattle.eo_sexp.specs.Sexp.{Atom}
 use Rattle.eo_sexp.specs.Lexicon.{Class, Quote, Bar, Word, class, Input, advance, Body, Closes, StringByte, Delimiter, Inside, Outside, string_byte, string_turn, string, bar_at, quoted, is_space, is_text, is_quotable, is_word, is_one_of, kind_of}
-use Rattle.eo_sexp.specs.Commands.{Whole, at_most, span, delimited_atom, delimited, word_before, word, atom}
+use Rattle.eo_sexp.specs.Commands.{Whole, at_most, span, delimited_atom, delimited, word_before, atom}
 use Rattle.eo_sexp.specs.Printing.{span_of, body_byte, is_body}
 use Rattle.eo_sexp.proofs.PlainTables.{word-class as table-class}
 use Rattle.eo_sexp.proofs.TokenTurns.{at_most-whole, word-of, run-whole, quoted-of}

@@ -8,7 +8,7 @@ ghost use Rattle.eo_sexp.specs.Lexicon.{class, Open, Close};
 ghost use Rattle.eo_sexp.specs.Texts.{AfterPair, Start, after as phase_after, next_spot};
 ghost use Rattle.eo_sexp.specs.Collecting.{Collecting, new_collector, HasRoom, Feeds, HasMemory};
 ghost use Rattle.eo_sexp.specs.Collecting.{Finishes, IsLive, start_of, here_of, IsAtCommand};
-ghost use Rattle.eo_sexp.specs.Collecting.{IsWithin, Holds, ready, finish_answer};
+ghost use Rattle.eo_sexp.specs.Collecting.{IsWithin, Holds, bytes_of, ready, finish_answer};
 ghost use Rattle.eo_sexp.specs.Parts.{HoldsParts};
 ghost use Rattle.eo_sexp.specs.Built.{nothing};
 ghost use Rattle.eo_sexp.specs.Machine.{phase_of, meaning, IsSound, IsBegun, IsPairFact, IsPlaced};
@@ -630,6 +630,13 @@ impl Machine {
         self.begun.first()
     }
 
+    fn bytes(&self) -> &[u8]
+        requires { IsAtCommand (meaning self.now) }
+        ensures { result.now ≡ bytes_of (meaning self.now) }
+    {
+        self.begun.bytes()
+    }
+
     fn parts_law(&self)
         requires sound { IsSound self.now }
         requires command { IsAtCommand (meaning self.now) }
@@ -718,6 +725,14 @@ impl Collector {
         ensures { Holds self.now result }
     {
         self.machine.command()
+    }
+
+    /// The bytes of the command that was answered last. It takes no memory.
+    pub fn bytes(&self) -> &[u8]
+        requires { IsAtCommand self.now }
+        ensures { result.now ≡ bytes_of self.now }
+    {
+        self.machine.bytes()
     }
 
     /// A law: the text of an atom of the command is the part of the command's bytes at its span,
