@@ -5,6 +5,7 @@
 mod laws;
 mod matched;
 mod matching;
+mod room;
 mod slots;
 mod subst;
 mod substitution;
@@ -12,5 +13,6 @@ mod tasks;
 
 pub use laws::{matching_law, putting_law};
 pub use matching::match_terms;
+pub use room::match_with_room;
 pub use subst::Subst;
 pub use substitution::substitute;

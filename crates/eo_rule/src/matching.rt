@@ -1,9 +1,8 @@
 //! What stands for the parameters of a rule: its patterns matched with what is given.
 ghost use Rattle.std.specs.Prelude.{◌≡◌, ◌<◌, length, option_map, option_to_list, All};
-ghost use Rattle.std.specs.Prelude.{None, Some, IfOk, OnOk, IsTrue, IsFalse};
 ghost use Rattle.eo_base.specs.Checks.{value_or};
 ghost use Rattle.eo_pattern.specs.Matching.{matching};
-ghost use Rattle.eo_pattern.specs.Slots.{held, AreBelow, HasRoom};
+ghost use Rattle.eo_pattern.specs.Slots.{held, AreBelow};
 ghost use Rattle.eo_sig.specs.Growth.{GrowsUnder};
 ghost use Rattle.eo_sig.specs.Reading.{IsBelow, RuleBelow, SomeBelow, read_premises, read_rule, signature};
 ghost use Rattle.eo_sig.specs.Signature.{premise_patterns};
@@ -16,10 +15,9 @@ use crate::laws::growing_law;
 use crate::{RuleRefused, RuleUse};
 use eo_base::FaultName;
 use eo_lists::spell_list;
-use eo_pattern::{Subst, match_terms, matching_law};
+use eo_pattern::{Subst, match_with_room};
 use eo_sig::{PremiseShape, RuleDecl, Signature};
 use eo_term::{Id, Table};
-use std::alloc::AllocError;
 
 /// Matches the patterns of a rule with what is given. The premises are joined before where the rule
 /// joins them. What stands for the parameters is then held, and nothing else.
@@ -138,46 +136,8 @@ pub(crate) fn match_list(
     ensures { GivesAssignment table.now result subst.new (value_or fault (matching (held table.now.trees subst.old)
         (trees_in table.now patterns.now) (trees_in table.now terms.now))) }
 {
-    if !does_match(table, subst, patterns, terms)? {
+    if !match_with_room(table, subst, patterns, terms)? {
         return Err(RuleRefused::Fault(fault));
-    }
-    Ok(())
-}
-
-// Whether the patterns match.
-fn does_match(
-    table: &Table,
-    subst: &mut Subst,
-    patterns: &[Id],
-    terms: &[Id],
-) -> Result<bool, AllocError>
-    requires patterns { All (λ i. i < length table.now.trees) patterns.now }
-    requires terms { All (λ i. i < length table.now.trees) terms.now }
-    requires below { AreBelow (length table.now.trees) subst.old }
-    ensures yes { IfOk result (λ b. IsTrue b → matching (held table.now.trees subst.old) (trees_in table.now patterns.now)
-        (trees_in table.now terms.now) ≡ Some (held table.now.trees subst.new)) }
-    ensures no { IfOk result (λ b. IsFalse b → matching (held table.now.trees subst.old) (trees_in table.now patterns.now)
-        (trees_in table.now terms.now) ≡ None) }
-    ensures below { OnOk result (AreBelow (length table.now.trees) subst.new) }
-{
-    matching_law();
-    if patterns.len() != terms.len() {
-        return Ok(false);
-    }
-    make_room(table, subst, patterns)?;
-    Ok(match_terms(table, patterns, terms, subst))
-}
-
-// Makes room for what the patterns may hold. What is held stays.
-fn make_room(table: &Table, subst: &mut Subst, patterns: &[Id]) -> Result<(), AllocError>
-    requires patterns { All (λ i. i < length table.now.trees) patterns.now }
-    requires below { AreBelow (length table.now.trees) subst.old }
-    ensures room { OnOk result (All (λ i. HasRoom subst.new (tree_in table.now i)) patterns.now) }
-    ensures held { OnOk result (held table.now.trees subst.new ≡ held table.now.trees subst.old) }
-    ensures below { OnOk result (AreBelow (length table.now.trees) subst.new) }
-{
-    for pattern in patterns {
-        subst.reserve_for(table, *pattern)?;
     }
     Ok(())
 }

@@ -5,12 +5,12 @@ ghost use Rattle.eo_term.specs.Tree.{is_tall};
 ghost use Rattle.eo_term.specs.Growth.{tree_in, trees_in};
 ghost use Rattle.eo_sig.specs.Reading.{CaseBelow, IsBelow, read_case, signature};
 ghost use Rattle.eo_pattern.specs.Matching.{empty, matching};
-ghost use Rattle.eo_pattern.specs.Slots.{held, AreBelow, AreEmpty, HasRoom, SlotBelow};
+ghost use Rattle.eo_pattern.specs.Slots.{held, AreBelow, SlotBelow};
 ghost use Rattle.eo_pattern.specs.Steps.{put_in};
 ghost use Rattle.eo_stack.specs.Bodies.{Finds, first_case, chosen_case};
 ghost use Rattle.eo_stack.specs.Scopes.{IsValueSlot, IsLightSlot};
 
-use eo_pattern::{Subst, match_terms, matching_law, putting_law};
+use eo_pattern::{Subst, match_with_room, putting_law};
 use eo_sig::{Case, Signature};
 use eo_term::{HEIGHT_LIMIT, Id, Table};
 use std::alloc::AllocError;
@@ -122,25 +122,6 @@ fn is_match(
     ensures no { IfOk result (λ b. IsFalse b → matching empty (trees_in table.now patterns.now) (trees_in table.now args.now) ≡ None) }
     ensures below { OnOk result (AreBelow (length table.now.trees) subst.new) }
 {
-    matching_law();
     subst.clear();
-    if patterns.len() != args.len() {
-        return Ok(false);
-    }
-    make_room(table, subst, patterns)?;
-    Ok(match_terms(table, patterns, args, subst))
-}
-
-// Makes room for what the patterns may hold.
-fn make_room(table: &Table, subst: &mut Subst, patterns: &[Id]) -> Result<(), AllocError>
-    requires patterns { All (λ i. i < length table.now.trees) patterns.now }
-    requires empty { AreEmpty subst.old }
-    ensures room { OnOk result (All (λ i. HasRoom subst.new (tree_in table.now i)) patterns.now) }
-    ensures held { OnOk result (held table.now.trees subst.new ≡ empty) }
-    ensures below { OnOk result (AreBelow (length table.now.trees) subst.new) }
-{
-    for pattern in patterns {
-        subst.reserve_for(table, *pattern)?;
-    }
-    Ok(())
+    match_with_room(table, subst, patterns, args)
 }

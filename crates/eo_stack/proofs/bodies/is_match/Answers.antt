@@ -1,20 +1,19 @@
-use Rattle.std.proofs.Common.{sym, subst}
+use Rattle.std.proofs.Common.{◌≡◌, Some, None, subst}
+use Rattle.std.specs.Prelude.{IfOk, IsTrue, IsFalse}
 use Rattle.eo_term.specs.Growth.{trees_in}
-use Rattle.eo_pattern.specs.Matching.{empty, Matches}
+use Rattle.eo_pattern.specs.Matching.{Assignment, matching}
 use Rattle.eo_pattern.specs.Slots.{held}
 use Rattle.eo_stack.proofs.bodies.is_match.Goals as goal
 
 pub returns-clause-yes : goal.returns-clause-yes
-returns-clause-yes c = λ y.
+returns-clause-yes c =
     let t = c.args.table.now in
-    let ps = trees_in t c.args.patterns.now in
-    let us = trees_in t c.args.args.now in
-    let found = held t.trees c.match_terms.new.subst in
-    c.matching_law.ensures.complete empty found ps us (subst (λ σ. Matches σ ps us found) c.in_ok-make_room.ensures.held (c.match_terms.ensures.yes y))
+    let found = held t.trees c.match_with_room.new.subst in
+    subst (λ (σ : Assignment). IfOk c.match_with_room.result (λ b. IsTrue b → matching σ (trees_in t c.args.patterns.now) (trees_in t c.args.args.now) ≡ Some found))
+    (c.clear.ensures.held t.trees) c.match_with_room.ensures.yes
 
 pub returns-clause-no : goal.returns-clause-no
-returns-clause-no c = λ n.
+returns-clause-no c =
     let t = c.args.table.now in
-    let ps = trees_in t c.args.patterns.now in
-    let us = trees_in t c.args.args.now in
-    c.matching_law.ensures.none empty ps us (λ ρ m. c.match_terms.ensures.no n ρ (subst (λ σ. Matches σ ps us ρ) (sym c.in_ok-make_room.ensures.held) m))
+    subst (λ (σ : Assignment). IfOk c.match_with_room.result (λ b. IsFalse b → matching σ (trees_in t c.args.patterns.now) (trees_in t c.args.args.now) ≡ None))
+    (c.clear.ensures.held t.trees) c.match_with_room.ensures.no

@@ -1,7 +1,7 @@
 use Rattle.std.proofs.Common.{◌≡◌, All, length, take}
 use Rattle.eo_term.specs.Growth.{tree_in}
 use Rattle.eo_pattern.specs.Slots.{held, AreBelow, HasRoom}
-use Rattle.eo_rule.proofs.matching.make_room.Given as goal
+use Rattle.eo_pattern.proofs.room.make_room.Given as goal
 
 abbrev pub invariant-loop-pattern : goal.invariant-loop-pattern
 invariant-loop-pattern l = record {

@@ -4,7 +4,7 @@ use Rattle.std.proofs.lemmas.List.{take_all}
 use Rattle.std.proofs.lemmas.List.Elements.{All-push, All-weaker}
 use Rattle.eo_term.specs.Growth.{tree_in}
 use Rattle.eo_pattern.specs.Slots.{Slots, HasRoom}
-use Rattle.eo_stack.proofs.bodies.make_room.Goals as goal
+use Rattle.eo_pattern.proofs.room.make_room.Goals as goal
 
 pub loop-pattern-preserved : goal.loop-pattern-preserved
 loop-pattern-preserved c =
@@ -25,3 +25,9 @@ pub returns-clause-room : goal.returns-clause-room
 returns-clause-room c =
     let t = c.args.table.now in
     subst (All (λ p. HasRoom c.loop-pattern.subst (tree_in t p))) (take_all c.loop-pattern.pattern-index c.args.patterns.now c.loop-pattern-test.false) c.loop-pattern.invariant.room
+
+pub returns-in_err-reserve_for-clause-held : goal.returns-in_err-reserve_for-clause-held
+returns-in_err-reserve_for-clause-held c = c.reserve_for.ensures.held c.args.table.now.trees ∙ c.loop-pattern.invariant.held
+
+pub returns-in_err-reserve_for-clause-below : goal.returns-in_err-reserve_for-clause-below
+returns-in_err-reserve_for-clause-below c = c.reserve_for.ensures.below (length c.args.table.now.trees) c.loop-pattern.invariant.below

@@ -2,7 +2,7 @@ use Rattle.std.proofs.Common.{sym, subst}
 use Rattle.eo_term.specs.Growth.{trees_in}
 use Rattle.eo_pattern.specs.Matching.{Matches}
 use Rattle.eo_pattern.specs.Slots.{held}
-use Rattle.eo_rule.proofs.matching.does_match.Goals as goal
+use Rattle.eo_pattern.proofs.room.match_with_room.Goals as goal
 
 pub returns-clause-yes : goal.returns-clause-yes
 returns-clause-yes c = λ y.
