@@ -1,5 +1,5 @@
 -- Names that are found by their numbers and by their hashes.
-use Rattle.std.proofs.Common.{◌≡◌, ◌≢◌, refl, sym, ap, subst, ◌∙◌, ℕ, zero, suc, ◌+◌, ◌≤◌, ◌<◌, ◌⊎◌, inl, inr, Bool, true, false, List, [], ◌∷◌, ◌++◌, length, length-append, take, drop, drop-cons, get_or, set, length-set, Option, Some, None, slice_get, if◌then◌else◌, arith}
+use Rattle.std.proofs.Common.{◌≡◌, ◌≢◌, refl, sym, ap, subst, ◌∙◌, ℕ, zero, suc, ◌+◌, ◌≤◌, ◌<◌, ◌⊎◌, inl, inr, Bool, true, false, List, [], ◌∷◌, ◌++◌, map, length, length-append, take, drop, drop-cons, get_or, set, length-set, Option, Some, None, slice_get, if◌then◌else◌, arith}
 use Rattle.std.specs.Prelude.{option_map, option_and_then, bytes_eq, cond, not, nat_lt}
 use Rattle.std.specs.List.{position, position_or_len, zip}
 use Rattle.std.specs.Map.{lookup, keys_of}
@@ -14,7 +14,7 @@ use Rattle.indexmap.proofs.MapLemmas.{Found-position, Missing-position, some_ind
 use Rattle.eo_base.proofs.Elements.{slice_get_left, slice_get_seam}
 use Rattle.eo_term.proofs.Grown.{slice_get_take}
 use Rattle.eo_term.proofs.Numbers.{none_from_is_some}
-use Rattle.eo_proof.specs.Kept.{NamedId}
+use Rattle.eo_proof.specs.Kept.{Made, NamedId}
 use Rattle.eo_proof.specs.Places.{Entry, next_number, number_from, number_in, held_at, at_place, first_of, place_in, AreFound, IsFree, LeadsTo}
 
 -- a byte more of a number
@@ -161,11 +161,11 @@ place-is es nb ot q h = first-or-none q es (place_in es nb ot q) (λ i e at same
 pub value-is : (es : List NamedId) (q : List ℕ) (i : ℕ) (e : NamedId) → position (bytes_eq q) (keys_of es) ≡ Some i → slice_get es i ≡ Some e → lookup (bytes_eq q) es ≡ Some e.1
 value-is es q i e p at = (Found-position (bytes_eq q) es i p).value ∙ slice_get-map (λ (e : NamedId). e.1) es i ∙ ap (option_map (λ (e : NamedId). e.1)) at
 
-pub found-value : (es : List NamedId) (q : List ℕ) (i r : ℕ) → position (bytes_eq q) (keys_of es) ≡ Some i → ((e : NamedId) → slice_get es i ≡ Some e → e.1 ≡ r) → Some r ≡ lookup (bytes_eq q) es
-found-value es q i r p f =
-    let e : NamedId = get_or es i ([], 0) in
-    let at : slice_get es i ≡ Some e = slice_get-get_or es i ([], 0) (Found-position (bytes_eq q) es i p).within in
-    sym (value-is es q i e p at ∙ ap Some (f e at))
+pub found-value : (g : Made → ℕ) (es : List NamedId) (q : List ℕ) (i r : ℕ) → position (bytes_eq q) (keys_of es) ≡ Some i → ((e : NamedId) → slice_get es i ≡ Some e → g e.1 ≡ r) → Some r ≡ option_map g (lookup (bytes_eq q) es)
+found-value g es q i r p f =
+    let e : NamedId = get_or es i ([], (0, 0)) in
+    let at : slice_get es i ≡ Some e = slice_get-get_or es i ([], (0, 0)) (Found-position (bytes_eq q) es i p).within in
+    sym (ap (option_map g) (value-is es q i e p at) ∙ ap Some (f e at))
 
 pub place-within : (es : List NamedId) (q : List ℕ) (i : ℕ) → position (bytes_eq q) (keys_of es) ≡ Some i → i < length es
 place-within es q i p = (Found-position (bytes_eq q) es i p).within
@@ -180,8 +180,26 @@ unplaced es ns nb ot q are h none =
     ∙ none_from_is_some (position (bytes_eq q) (keys_of es)) (lookup (bytes_eq q) es) (some_index (bytes_eq q) es) none
 
 -- there are as many terms by names as names
-pub named-count : (ns : List (List ℕ)) (is : List ℕ) → length is ≡ length ns → length (zip ns is) ≡ length ns
-named-count ns is same = length-zip ns is ∙ omega (arith, same)
+pub named-count : (ns : List (List ℕ)) (ms : List Made) → length ms ≡ length ns → length (zip ns ms) ≡ length ns
+named-count ns ms same = length-zip ns ms ∙ omega (arith, same)
+
+-- and as many pairs of a term and a command's number
+pub made-count : (ns : List (List ℕ)) (is ks : List ℕ) → length is ≡ length ns → length ks ≡ length ns → length (zip is ks) ≡ length ns
+made-count ns is ks a b = length-zip is ks ∙ omega (arith, a, b)
+
+pub terms-are : (ns : List (List ℕ)) (is ks : List ℕ) → length is ≡ length ns → length ks ≡ length ns → is ≡ map (λ (e : NamedId). e.1.0) (zip ns (zip is ks))
+terms-are [] [] ks a b = refl
+terms-are [] (i ∷ is) ks a b = absurd (omega (arith, a))
+terms-are (n ∷ ns) [] ks a b = absurd (omega (arith, a))
+terms-are (n ∷ ns) (i ∷ is) [] a b = absurd (omega (arith, b))
+terms-are (n ∷ ns) (i ∷ is) (k ∷ ks) a b = ap (λ (l : List ℕ). i ∷ l) (terms-are ns is ks (omega (arith, a)) (omega (arith, b)))
+
+pub commands-are : (ns : List (List ℕ)) (is ks : List ℕ) → length is ≡ length ns → length ks ≡ length ns → ks ≡ map (λ (e : NamedId). e.1.1) (zip ns (zip is ks))
+commands-are [] is [] a b = refl
+commands-are [] is (k ∷ ks) a b = absurd (omega (arith, b))
+commands-are (n ∷ ns) [] ks a b = absurd (omega (arith, a))
+commands-are (n ∷ ns) (i ∷ is) [] a b = absurd (omega (arith, b))
+commands-are (n ∷ ns) (i ∷ is) (k ∷ ks) a b = ap (λ (l : List ℕ). k ∷ l) (commands-are ns is ks (omega (arith, a)) (omega (arith, b)))
 
 -- ---- one name more
 

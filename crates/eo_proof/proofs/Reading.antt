@@ -15,8 +15,8 @@ use Rattle.eo_term.specs.Tree.{Tree, tree_eq, truth}
 use Rattle.eo_term.specs.Growth.{IsTable}
 use Rattle.eo_term.specs.Terms.{Terms, tree_at, first_trees}
 use Rattle.eo_proof.specs.declared.facts.Begun.{Begun}
-use Rattle.eo_proof.specs.Kept.{NamedId, Kept, read_fact, outer_facts, opened, scopes, outer_count, innermost, AreBelow, AreBegun, IsKept, with_named, with_begun, without_begun, holds_false}
-use Rattle.eo_proof.specs.Scopes.{depth, opened_facts, live_facts, formula_named, fact_named, with_fact, with_scope, outside, innermost_hypothesis, is_live, is_free_outside, has_false, formulas, no_facts}
+use Rattle.eo_proof.specs.Kept.{Made, NamedId, Kept, read_fact, term_named, command_named, outer_facts, opened, scopes, outer_count, innermost, AreBelow, AreBegun, IsKept, with_named, with_begun, without_begun, holds_false}
+use Rattle.eo_proof.specs.Scopes.{Fact, depth, opened_facts, live_facts, first_named, number_named, formula_named, fact_named, with_fact, with_scope, outside, innermost_hypothesis, is_live, is_free_outside, has_false, formulas, no_facts}
 
 -- ---- scopes that are open
 
@@ -54,14 +54,19 @@ kept_named k r s f h e = record {
 
 -- ---- look-ups
 
-pub lookup_below : (m : ℕ) (name : List ℕ) (es : List NamedId) (i : ℕ) → All (λ (f : NamedId). f.1 < m) es → lookup (bytes_eq name) es ≡ Some i → i < m
+pub lookup_below : (m : ℕ) (name : List ℕ) (es : List NamedId) (i : ℕ) → All (λ (f : NamedId). f.1.0 < m) es → term_named es name ≡ Some i → i < m
 lookup_below m name [] i a h = absurd cc
 lookup_below m name (e ∷ es) i a h =
-    by (bytes_eq name e.0) h (lookup_below m name es i (All-tail (λ (f : NamedId). f.1 < m) e es a))
+    by (bytes_eq name e.0) h (lookup_below m name es i (All-tail (λ (f : NamedId). f.1.0 < m) e es a))
   where
-    by : (b : Bool) → cond b (Some e.1) (lookup (bytes_eq name) es) ≡ Some i → (lookup (bytes_eq name) es ≡ Some i → i < m) → i < m
-    by true found rest = subst (λ j. j < m) (same_Some e.1 i found) (All-head (λ (f : NamedId). f.1 < m) e es a)
+    by : (b : Bool) → option_map (λ (m : Made). m.0) (cond b (Some e.1) (lookup (bytes_eq name) es)) ≡ Some i → (term_named es name ≡ Some i → i < m) → i < m
+    by true found rest = subst (λ j. j < m) (same_Some e.1.0 i found) (All-head (λ (f : NamedId). f.1.0 < m) e es a)
     by false found rest = rest found
+
+-- one reading after another
+in_turn : {A B C : Type 0} (f : B → C) (g : A → B) (o : Option A) → option_map f (option_map g o) ≡ option_map (λ x. f (g x)) o
+in_turn f g None = refl
+in_turn f g (Some x) = refl
 
 is_some_map : {A B : Type 0} (f : A → B) (o : Option A) → is_some (option_map f o) ≡ is_some o
 is_some_map f None = refl
@@ -123,13 +128,14 @@ module _ (ts : List Tree) where
       ∙ sym (map-append (read_fact ts) (take b.first fs) (drop b.first fs))
       ∙ ap (map (read_fact ts)) (take-append-drop b.first fs)
 
-  named_is : (name : List ℕ) (es : List NamedId) → formula_named (map (read_fact ts) es) name ≡ option_map (tree_at ts) (lookup (bytes_eq name) es)
-  named_is name [] = refl
-  named_is name (e ∷ es) = by (bytes_eq name e.0) (bytes_eq e.0 name) (bytes_eq-flip name e.0) (named_is name es)
+  named_is : {A : Type 0} (g : Fact → A) (r : Made → A) → ((f : NamedId) → g (read_fact ts f) ≡ r f.1) → (name : List ℕ) (es : List NamedId)
+      → option_map g (first_named (map (read_fact ts) es) name) ≡ option_map r (lookup (bytes_eq name) es)
+  named_is g r same name [] = refl
+  named_is g r same name (e ∷ es) = by (bytes_eq name e.0) (bytes_eq e.0 name) (bytes_eq-flip name e.0) (named_is g r same name es)
     where
-      by : (a b : Bool) → a ≡ b → formula_named (map (read_fact ts) es) name ≡ option_map (tree_at ts) (lookup (bytes_eq name) es)
-          → option_map (λ fact. fact.formula) (cond b (Some (read_fact ts e)) (find (λ fact. bytes_eq fact.name name) (map (read_fact ts) es))) ≡ option_map (tree_at ts) (cond a (Some e.1) (lookup (bytes_eq name) es))
-      by true true h rest = refl
+      by : (a b : Bool) → a ≡ b → option_map g (first_named (map (read_fact ts) es) name) ≡ option_map r (lookup (bytes_eq name) es)
+          → option_map g (cond b (Some (read_fact ts e)) (find (λ fact. bytes_eq fact.name name) (map (read_fact ts) es))) ≡ option_map r (cond a (Some e.1) (lookup (bytes_eq name) es))
+      by true true h rest = ap Some (same e)
       by false false h rest = rest
       by true false h rest = absurd (true≢false h)
       by false true h rest = absurd (true≢false (sym h))
@@ -138,11 +144,18 @@ module _ (ts : List Tree) where
   unfolding scopes
   all_live k = live_is k.facts k.begun
 
-  pub fact_is : (k : Kept) (name : List ℕ) → fact_named (scopes ts k) name ≡ option_map (tree_at ts) (lookup (bytes_eq name) k.facts)
-  fact_is k name = ap (λ fs. formula_named fs name) (all_live k) ∙ named_is name k.facts
+  pub fact_is : (k : Kept) (name : List ℕ) → fact_named (scopes ts k) name ≡ option_map (tree_at ts) (term_named k.facts name)
+  fact_is k name =
+      ap (λ fs. formula_named fs name) (all_live k) ∙ named_is (λ f. f.formula) (λ m. tree_at ts m.0) (λ f. refl) name k.facts
+      ∙ sym (in_turn (tree_at ts) (λ (m : Made). m.0) (lookup (bytes_eq name) k.facts))
+
+  pub number_is : (k : Kept) (name : List ℕ) → command_named k.facts name ≡ number_named (scopes ts k) name
+  number_is k name =
+      sym (ap (λ fs. option_map (λ (f : Fact). f.number) (first_named fs name)) (all_live k) ∙ named_is (λ f. f.number) (λ m. m.1) (λ f. refl) name k.facts)
 
   pub live_is_named : (k : Kept) (name : List ℕ) → is_live (scopes ts k) name ≡ is_some (lookup (bytes_eq name) k.facts)
-  live_is_named k name = ap is_some (fact_is k name) ∙ is_some_map (tree_at ts) (lookup (bytes_eq name) k.facts)
+  live_is_named k name =
+      ap is_some (fact_is k name) ∙ is_some_map (tree_at ts) (term_named k.facts name) ∙ is_some_map (λ (m : Made). m.0) (lookup (bytes_eq name) k.facts)
 
   pub depth_is : (k : Kept) → depth (scopes ts k) ≡ length k.begun
   unfolding scopes
@@ -152,17 +165,17 @@ module _ (ts : List Tree) where
       by fs [] = refl
       by fs (b ∷ bs) = ap suc (by (take b.first fs) bs)
 
-  pub formulas_are : (k : Kept) → formulas (scopes ts k) ≡ map (tree_at ts) (map (λ (f : NamedId). f.1) k.facts)
+  pub formulas_are : (k : Kept) → formulas (scopes ts k) ≡ map (tree_at ts) (map (λ (f : NamedId). f.1.0) k.facts)
   formulas_are k = ap (map (λ fact. fact.formula)) (all_live k) ∙ by k.facts
     where
-      by : (fs : List NamedId) → map (λ fact. fact.formula) (map (read_fact ts) fs) ≡ map (tree_at ts) (map (λ (f : NamedId). f.1) fs)
+      by : (fs : List NamedId) → map (λ fact. fact.formula) (map (read_fact ts) fs) ≡ map (tree_at ts) (map (λ (f : NamedId). f.1.0) fs)
       by [] = refl
-      by (f ∷ fs) = ap (λ xs. tree_at ts f.1 ∷ xs) (by fs)
+      by (f ∷ fs) = ap (λ xs. tree_at ts f.1.0 ∷ xs) (by fs)
 
   -- ---- one more
 
   pub added_is : (fs : List NamedId) (bs : List Begun) (f : NamedId) → AreBegun (length fs) bs
-      → scopes ts (with_named (record { facts = fs; begun = bs }) f) ≡ with_fact (scopes ts (record { facts = fs; begun = bs })) f.0 (tree_at ts f.1)
+      → scopes ts (with_named (record { facts = fs; begun = bs }) f) ≡ with_fact (scopes ts (record { facts = fs; begun = bs })) f.0 (tree_at ts f.1.0) f.1.1
   unfolding scopes with_fact
   added_is fs [] f h = ap (λ xs. record { outermost = xs; opened = [] }) (map-append (read_fact ts) fs (f ∷ []))
   added_is fs (b ∷ bs) f h =
@@ -175,18 +188,18 @@ module _ (ts : List Tree) where
       })
 
   pub begun_is : (fs : List NamedId) (bs : List Begun) (f : NamedId)
-      → scopes ts (with_begun (record { facts = fs; begun = bs }) f) ≡ with_scope (scopes ts (record { facts = fs; begun = bs })) f.0 (tree_at ts f.1)
+      → scopes ts (with_begun (record { facts = fs; begun = bs }) f) ≡ with_scope (scopes ts (record { facts = fs; begun = bs })) f.0 (tree_at ts f.1.0) f.1.1
   unfolding scopes with_scope
   begun_is fs bs f =
       (λ i. record {
         outermost = map (read_fact ts) (outer_facts (whole_front fs f i) bs);
-        opened = record { hypothesis = tree_at ts f.1; facts = map (read_fact ts) (drop-append_seam fs (f ∷ []) i) } ∷ opened ts (whole_front fs f i) bs;
+        opened = record { hypothesis = tree_at ts f.1.0; facts = map (read_fact ts) (drop-append_seam fs (f ∷ []) i) } ∷ opened ts (whole_front fs f i) bs;
       })
 
-  pub added_to : (k : Kept) (told : Bool) (f : NamedId) → IsKept k told → scopes ts (with_named k f) ≡ with_fact (scopes ts k) f.0 (tree_at ts f.1)
+  pub added_to : (k : Kept) (told : Bool) (f : NamedId) → IsKept k told → scopes ts (with_named k f) ≡ with_fact (scopes ts k) f.0 (tree_at ts f.1.0) f.1.1
   added_to k told f h = added_is k.facts k.begun f h.begun
 
-  pub begun_in : (k : Kept) (f : NamedId) → scopes ts (with_begun k f) ≡ with_scope (scopes ts k) f.0 (tree_at ts f.1)
+  pub begun_in : (k : Kept) (f : NamedId) → scopes ts (with_begun k f) ≡ with_scope (scopes ts k) f.0 (tree_at ts f.1.0) f.1.1
   begun_in k f = begun_is k.facts k.begun f
 
   -- ---- one less
@@ -251,7 +264,7 @@ module _ (ts : List Tree) where
 pub not_named : (k : Kept) (name : List ℕ) → ((ts : List Tree) → is_live (scopes ts k) name ≡ false) → lookup (bytes_eq name) k.facts ≡ None
 not_named k name free = by (lookup (bytes_eq name) k.facts) (sym (live_is_named [] k name) ∙ free [])
   where
-    by : (o : Option ℕ) → is_some o ≡ false → o ≡ None
+    by : (o : Option Made) → is_some o ≡ false → o ≡ None
     by None e = refl
     by (Some i) e = absurd (true≢false e)
 
@@ -260,9 +273,9 @@ same_names ts us k name = live_is_named ts k name ∙ sym (live_is_named us k na
 
 -- ---- `false` outside all scopes
 
-outer_below : (n : ℕ) (fs : List NamedId) (bs : List Begun) → All (λ (f : NamedId). f.1 < n) fs → All (λ (f : NamedId). f.1 < n) (outer_facts fs bs)
+outer_below : (n : ℕ) (fs : List NamedId) (bs : List Begun) → All (λ (f : NamedId). f.1.0 < n) fs → All (λ (f : NamedId). f.1.0 < n) (outer_facts fs bs)
 outer_below n fs [] a = a
-outer_below n fs (b ∷ bs) a = outer_below n (take b.first fs) bs (All-take (λ (f : NamedId). f.1 < n) b.first fs a)
+outer_below n fs (b ∷ bs) a = outer_below n (take b.first fs) bs (All-take (λ (f : NamedId). f.1.0 < n) b.first fs a)
 
 false_at : (ts : List Tree) → take 4 ts ≡ first_trees → (tree_at ts 3 ≡ truth false) × (3 < length ts)
 false_at [] h = absurd cc
@@ -271,13 +284,13 @@ false_at (a ∷ b ∷ []) h = absurd cc
 false_at (a ∷ b ∷ c ∷ []) h = absurd cc
 false_at (a ∷ b ∷ c ∷ d ∷ ts) h = (cc, omega arith)
 
-false_fact : (t : Terms) → IsTable t → (fs : List NamedId) → All (λ (f : NamedId). f.1 < length t.trees) fs
+false_fact : (t : Terms) → IsTable t → (fs : List NamedId) → All (λ (f : NamedId). f.1.0 < length t.trees) fs
     → list_any (λ fact. tree_eq fact.formula (truth false)) (map (read_fact t.trees) fs) ≡ holds_false fs
 false_fact t is [] a = refl
 false_fact t is (f ∷ fs) a =
     let three = false_at t.trees is.first in
-    (λ i. (ap (tree_eq (tree_at t.trees f.1)) (sym three.0) ∙ is.equals f.1 3 (All-head (λ (f : NamedId). f.1 < length t.trees) f fs a) three.1) i
-    || false_fact t is fs (All-tail (λ (f : NamedId). f.1 < length t.trees) f fs a) i)
+    (λ i. (ap (tree_eq (tree_at t.trees f.1.0)) (sym three.0) ∙ is.equals f.1.0 3 (All-head (λ (f : NamedId). f.1.0 < length t.trees) f fs a) three.1) i
+    || false_fact t is fs (All-tail (λ (f : NamedId). f.1.0 < length t.trees) f fs a) i)
 
 pub false_is : (t : Terms) (k : Kept) → IsTable t → AreBelow (length t.trees) k → holds_false (outer_facts k.facts k.begun) ≡ has_false (scopes t.trees k)
 unfolding scopes

@@ -1,14 +1,19 @@
 -- How facts that are kept with numbers of terms stand for facts in scopes.
-use Rattle.std.specs.Prelude.{◌≡◌, ℕ, ◌<◌, Bool, Option, Some, None, List, [], ◌∷◌, ◌++◌, map, take, drop, reverse, length, All, nat_eq}
+use Rattle.std.specs.Prelude.{◌≡◌, ℕ, ◌<◌, Bool, Option, Some, None, List, [], ◌∷◌, ◌++◌, map, take, drop, reverse, length, All, nat_eq, option_map, bytes_eq}
 use Rattle.std.specs.List.{list_any}
+use Rattle.std.specs.Map.{lookup}
 use Rattle.eo_term.specs.Tree.{Tree}
 use Rattle.eo_term.specs.Terms.{tree_at}
 use Rattle.eo_proof.specs.declared.facts.Begun.{Begun}
 use Rattle.eo_proof.specs.Scopes.{Fact, Scope, Scopes}
 
--- a name and a term
+-- a term, and the number of the command that made it a fact
+abbrev pub Made : Type 0
+Made = ℕ × ℕ
+
+-- a name, and what has it
 abbrev pub NamedId : Type 0
-NamedId = List ℕ × ℕ
+NamedId = List ℕ × Made
 
 pub record Kept : Type 0 where
   -- those of all scopes, the oldest first
@@ -17,7 +22,7 @@ pub record Kept : Type 0 where
   pub begun : List Begun
 
 abbrev pub read_fact : List Tree → NamedId → Fact
-read_fact ts f = record { name = f.0; formula = tree_at ts f.1 }
+read_fact ts f = record { name = f.0; formula = tree_at ts f.1.0; number = f.1.1 }
 
 -- the facts outside the open scopes
 abbrev pub outer_facts : List NamedId → List Begun → List NamedId
@@ -50,7 +55,7 @@ innermost k = by k.begun
 
 -- all terms are below n
 pub record AreBelow (n : ℕ) (k : Kept) : Type 0 where
-  pub facts : All (λ (f : NamedId). f.1 < n) k.facts
+  pub facts : All (λ (f : NamedId). f.1.0 < n) k.facts
   pub hypotheses : All (λ (b : Begun). b.hypothesis < n) k.begun
 
 -- each scope begins within the facts, and the inner ones behind the outer ones
@@ -60,7 +65,7 @@ AreBegun n (b ∷ bs) = (b.first < n) × AreBegun b.first bs
 
 -- whether the term 3, which is `false`, is one of the formulas
 abbrev pub holds_false : List NamedId → Bool
-holds_false facts = list_any (λ (f : NamedId). nat_eq f.1 3) facts
+holds_false facts = list_any (λ (f : NamedId). nat_eq f.1.0 3) facts
 
 -- what the code keeps, the innermost scope last
 abbrev pub kept_of : List NamedId → List Begun → Kept
@@ -71,6 +76,13 @@ pub record IsKept (k : Kept) (told : Bool) : Type 0 where
   pub begun : AreBegun (length k.facts) k.begun
   pub refutes : told ≡ holds_false (outer_facts k.facts k.begun)
 
+-- the term of the first fact with a name, and the number of the command that made it
+abbrev pub term_named : List NamedId → List ℕ → Option ℕ
+term_named facts name = option_map (λ (m : Made). m.0) (lookup (bytes_eq name) facts)
+
+abbrev pub command_named : List NamedId → List ℕ → Option ℕ
+command_named facts name = option_map (λ (m : Made). m.1) (lookup (bytes_eq name) facts)
+
 abbrev pub with_named : Kept → NamedId → Kept
 with_named k f = record k { facts = k.facts ++ f ∷ [] }
 
@@ -79,4 +91,4 @@ abbrev pub without_begun : Kept → Kept
 without_begun k = record { facts = take (outer_count k) k.facts; begun = drop 1 k.begun }
 
 abbrev pub with_begun : Kept → NamedId → Kept
-with_begun k f = record { facts = k.facts ++ f ∷ []; begun = record { first = length k.facts; hypothesis = f.1 } ∷ k.begun }
+with_begun k f = record { facts = k.facts ++ f ∷ []; begun = record { first = length k.facts; hypothesis = f.1.0 } ∷ k.begun }

@@ -8,16 +8,16 @@ use Rattle.eo_proof.specs.declared.facts.NoScope.{NoScope}
 use Rattle.eo_proof.specs.declared.facts.UnknownPremise.{UnknownPremise}
 use Rattle.eo_proof.specs.Scopes.{Scopes, is_live, depth, scope_limit, with_fact, with_scope, outside, innermost_hypothesis}
 
--- the fact was added to the innermost scope, or its name is that of another
+-- the fact, which no command made, was added to the innermost scope, or its name is that of another
 abbrev pub Added : Result (Unit {0}) FactRefused → (old : Scopes) → List ℕ → Tree → (new : Scopes) → Type 0
-Added (Ok x) old name t new = (is_live old name ≡ false) × (new ≡ with_fact old name t)
+Added (Ok x) old name t new = (is_live old name ≡ false) × (new ≡ with_fact old name t 0)
 Added (Err refused.Redeclared) old name t new = is_live old name ≡ true
 Added (Err refused.ScopeDepth) old name t new = ⊥
 Added (Err (refused.Memory e)) old name t new = ⊤
 
--- a scope was opened with its assumption, or there are as many as may be, or the name is that of a fact
+-- a scope was opened with its assumption, which no command made, or there are as many as may be, or the name is that of a fact
 abbrev pub Pushed : Result (Unit {0}) FactRefused → (old : Scopes) → List ℕ → Tree → (new : Scopes) → Type 0
-Pushed (Ok x) old name t new = (depth old < scope_limit) × (is_live old name ≡ false) × (new ≡ with_scope old name t)
+Pushed (Ok x) old name t new = (depth old < scope_limit) × (is_live old name ≡ false) × (new ≡ with_scope old name t 0)
 Pushed (Err refused.Redeclared) old name t new = (depth old < scope_limit) × (is_live old name ≡ true)
 Pushed (Err refused.ScopeDepth) old name t new = scope_limit ≤ depth old
 Pushed (Err (refused.Memory e)) old name t new = ⊤

@@ -7,10 +7,11 @@ use Rattle.eo_term.specs.Tree.{Tree, tree_eq, truth}
 abbrev pub scope_limit : ℕ
 scope_limit = 1000
 
--- a formula, with its name
+-- a formula, with its name and the number of the command that made it
 pub record Fact : Type 0 where
   pub name : List ℕ
   pub formula : Tree
+  pub number : ℕ
 
 -- a scope, with its assumption among its facts
 pub record Scope : Type 0 where
@@ -37,8 +38,15 @@ opened_facts (s ∷ ss) = opened_facts ss ++ s.facts
 abbrev pub live_facts : Scopes → List Fact
 live_facts f = f.outermost ++ opened_facts f.opened
 
+abbrev pub first_named : List Fact → List ℕ → Option Fact
+first_named facts name = find (λ fact. bytes_eq fact.name name) facts
+
 abbrev pub formula_named : List Fact → List ℕ → Option Tree
-formula_named facts name = option_map (λ fact. fact.formula) (find (λ fact. bytes_eq fact.name name) facts)
+formula_named facts name = option_map (λ fact. fact.formula) (first_named facts name)
+
+-- the number of the command that made the fact of this name
+abbrev pub number_named : Scopes → List ℕ → Option ℕ
+number_named f name = option_map (λ fact. fact.number) (first_named (live_facts f) name)
 
 abbrev pub fact_named : Scopes → List ℕ → Option Tree
 fact_named f name = formula_named (live_facts f) name
@@ -50,21 +58,21 @@ is_live f name = is_some (fact_named f name)
 abbrev pub hypotheses : Scopes → List Tree
 hypotheses f = map (λ s. s.hypothesis) f.opened
 
-abbrev pub fact : List ℕ → Tree → Fact
-fact name formula = record { name = name; formula = formula }
+abbrev pub fact : List ℕ → Tree → ℕ → Fact
+fact name formula number = record { name = name; formula = formula; number = number }
 
 -- one fact more, in the innermost scope
 abbrev pub in_innermost : List Fact → List Scope → Fact → Scopes
 in_innermost facts [] f = record { outermost = facts ++ f ∷ []; opened = [] }
 in_innermost facts (s ∷ ss) f = record { outermost = facts; opened = record s { facts = s.facts ++ f ∷ [] } ∷ ss }
 
-unfoldable pub with_fact : Scopes → List ℕ → Tree → Scopes
-with_fact f name formula = in_innermost f.outermost f.opened (fact name formula)
+unfoldable pub with_fact : Scopes → List ℕ → Tree → (number : ℕ) → Scopes
+with_fact f name formula number = in_innermost f.outermost f.opened (fact name formula number)
 
 -- a scope more, with its assumption as the first fact
-unfoldable pub with_scope : Scopes → List ℕ → Tree → Scopes
-with_scope f name hypothesis =
-    record f { opened = record { hypothesis = hypothesis; facts = fact name hypothesis ∷ [] } ∷ f.opened }
+unfoldable pub with_scope : Scopes → List ℕ → Tree → (number : ℕ) → Scopes
+with_scope f name hypothesis number =
+    record f { opened = record { hypothesis = hypothesis; facts = fact name hypothesis number ∷ [] } ∷ f.opened }
 
 -- without the innermost scope
 unfoldable pub outside : Scopes → Scopes

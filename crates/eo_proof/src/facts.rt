@@ -6,7 +6,8 @@ ghost use Rattle.std.specs.Str.{bytes_eq};
 ghost use Rattle.eo_term.specs.Growth.{IsTable};
 ghost use Rattle.eo_term.specs.Terms.{Terms, tree_at};
 ghost use Rattle.eo_term.specs.Tree.{Tree};
-ghost use Rattle.eo_proof.specs.Kept.{scopes, outer_count, innermost, outer_facts, holds_false, with_named, with_begun, AreBelow, AreBegun};
+ghost use Rattle.eo_proof.specs.Kept.{scopes, term_named, command_named, outer_count, innermost, outer_facts};
+ghost use Rattle.eo_proof.specs.Kept.{holds_false, with_named, with_begun, AreBelow, AreBegun};
 ghost use Rattle.eo_proof.specs.Outcomes.{Added, Found};
 ghost use Rattle.eo_proof.specs.Scopes as scope;
 ghost use Rattle.eo_proof.specs.Scopes.{no_facts};
@@ -91,33 +92,34 @@ impl Facts {
         }
     }
 
-    /// Adds a fact to the innermost scope.
+    /// Adds a fact to the innermost scope, which no command made: its number is 0.
     ///
     /// `Redeclared`: a fact has the name. `Memory`: want of memory.
     #[tactic(auto, using(crate::proofs::Reading::live_is_named))]
     pub fn add(&mut self, name: &[u8], id: Id) -> Result<(), FactRefused>
         ensures adds { (ts : List Tree) → Added result (scopes ts self.old) name.now (tree_at ts id) (scopes ts self.new) }
-        ensures kept { OnOk result (self.new ≡ with_named self.old (name.now, id)) }
+        ensures kept { OnOk result (self.new ≡ with_named self.old (name.now, (id, 0))) }
         ensures below { (m : ℕ) → AreBelow m self.old → id < m → AreBelow m self.new }
         ensures same { OnErr result (self.new ≡ self.old) }
     {
-        if !self.put(name, id)? {
+        if !self.put(name, id, 0)? {
             return Err(FactRefused::Redeclared);
         }
         Ok(())
     }
 
-    /// Adds a fact to the innermost scope, by a name that no fact has. It is not looked up. `Err` is
-    /// want of memory, and no fact is added.
+    /// Adds a fact to the innermost scope, made by the command of this number, by a name that no fact
+    /// has. It is not looked up. `Err` is want of memory, and no fact is added.
     #[tactic(auto, using(crate::proofs::Reading::not_named))]
-    pub fn add_free(&mut self, name: &[u8], id: Id) -> Result<(), AllocError>
+    pub fn add_free(&mut self, name: &[u8], id: Id, command: u64) -> Result<(), AllocError>
         requires free { (ts : List Tree) → scope.is_live (scopes ts self.old) name.now ≡ false }
-        ensures adds { OnOk result ((ts : List Tree) → scopes ts self.new ≡ scope.with_fact (scopes ts self.old) name.now (tree_at ts id)) }
-        ensures kept { OnOk result (self.new ≡ with_named self.old (name.now, id)) }
+        ensures adds { OnOk result ((ts : List Tree) →
+            scopes ts self.new ≡ scope.with_fact (scopes ts self.old) name.now (tree_at ts id) command) }
+        ensures kept { OnOk result (self.new ≡ with_named self.old (name.now, (id, command))) }
         ensures below { (m : ℕ) → AreBelow m self.old → id < m → AreBelow m self.new }
         ensures same { OnErr result (self.new ≡ self.old) }
     {
-        self.put_free(name, id)?;
+        self.put_free(name, id, command)?;
         Ok(())
     }
 
@@ -141,6 +143,14 @@ impl Facts {
             Some(id) => Ok(id),
             None => Err(UnknownPremise),
         }
+    }
+
+    /// The number of the command that made the fact with the name, in any scope.
+    #[tactic(auto, using(crate::proofs::Reading::number_is))]
+    pub fn command(&self, name: &[u8]) -> Option<u64>
+        ensures { (ts : List Tree) → result ≡ scope.number_named (scopes ts self.now) name.now }
+    {
+        self.command_named(name)
     }
 
     /// Whether no fact outside the innermost scope has the name.
@@ -189,9 +199,16 @@ impl Facts {
 
     // The term with the name.
     fn named(&self, name: &[u8]) -> Option<Id>
-        ensures { result ≡ lookup (bytes_eq name.now) self.now.facts }
+        ensures { result ≡ term_named self.now.facts name.now }
     {
         self.formulas.get(name)
+    }
+
+    // The number of the command that made the fact with the name.
+    fn command_named(&self, name: &[u8]) -> Option<u64>
+        ensures { result ≡ command_named self.now.facts name.now }
+    {
+        self.formulas.command(name)
     }
 
     // Whether a fact has the name.
@@ -230,7 +247,8 @@ impl Facts {
 
     // Whether `false` is a fact of the outermost scope once this is a fact of the innermost.
     fn refutes_with(&self, id: Id) -> bool
-        ensures { (name : List ℕ) → result ≡ holds_false (outer_facts (self.now.facts ++ (name, id) ∷ []) self.now.begun) }
+        ensures { (name : List ℕ) (command : ℕ) →
+            result ≡ holds_false (outer_facts (self.now.facts ++ (name, (id, command)) ∷ []) self.now.begun) }
     {
         if !self.begun.is_empty() {
             return self.refutes;
@@ -239,16 +257,16 @@ impl Facts {
     }
 
     // Adds a fact to the innermost scope, and answers whether no other has the name.
-    fn put(&mut self, name: &[u8], id: Id) -> Result<bool, AllocError>
+    fn put(&mut self, name: &[u8], id: Id, command: u64) -> Result<bool, AllocError>
         ensures free { IfOk result (λ added. added ≡ not (is_some (lookup (bytes_eq name.now) self.old.facts))) }
-        ensures added { IfOk result (λ added. added ≡ true → self.new ≡ with_named self.old (name.now, id)) }
+        ensures added { IfOk result (λ added. added ≡ true → self.new ≡ with_named self.old (name.now, (id, command))) }
         ensures adds { IfOk result (λ added. added ≡ true →
-            (ts : List Tree) → scopes ts self.new ≡ scope.with_fact (scopes ts self.old) name.now (tree_at ts id)) }
+            (ts : List Tree) → scopes ts self.new ≡ scope.with_fact (scopes ts self.old) name.now (tree_at ts id) command) }
         ensures taken { IfOk result (λ added. added ≡ false → self.new ≡ self.old) }
         ensures same { OnErr result (self.new ≡ self.old) }
     {
         let refutes = self.refutes_with(id);
-        if !self.formulas.add(name, id)? {
+        if !self.formulas.add(name, id, command)? {
             return Ok(false);
         }
         self.refutes = refutes;
@@ -256,28 +274,30 @@ impl Facts {
     }
 
     // Adds a fact to the innermost scope, by a name that no fact has.
-    fn put_free(&mut self, name: &[u8], id: Id) -> Result<(), AllocError>
+    fn put_free(&mut self, name: &[u8], id: Id, command: u64) -> Result<(), AllocError>
         requires { lookup (bytes_eq name.now) self.old.facts ≡ None }
-        ensures added { OnOk result (self.new ≡ with_named self.old (name.now, id)) }
-        ensures adds { OnOk result ((ts : List Tree) → scopes ts self.new ≡ scope.with_fact (scopes ts self.old) name.now (tree_at ts id)) }
+        ensures added { OnOk result (self.new ≡ with_named self.old (name.now, (id, command))) }
+        ensures adds { OnOk result ((ts : List Tree) →
+            scopes ts self.new ≡ scope.with_fact (scopes ts self.old) name.now (tree_at ts id) command) }
         ensures same { OnErr result (self.new ≡ self.old) }
     {
         let refutes = self.refutes_with(id);
-        self.formulas.push(name, id)?;
+        self.formulas.push(name, id, command)?;
         self.refutes = refutes;
         Ok(())
     }
 
     // Opens a scope, with an assumption whose name no fact has.
-    pub(crate) fn begin(&mut self, name: &[u8], id: Id) -> Result<(), AllocError>
+    pub(crate) fn begin(&mut self, name: &[u8], id: Id, command: u64) -> Result<(), AllocError>
         requires { lookup (bytes_eq name.now) self.old.facts ≡ None }
-        ensures added { OnOk result (self.new ≡ with_begun self.old (name.now, id)) }
-        ensures begins { OnOk result ((ts : List Tree) → scopes ts self.new ≡ scope.with_scope (scopes ts self.old) name.now (tree_at ts id)) }
+        ensures added { OnOk result (self.new ≡ with_begun self.old (name.now, (id, command))) }
+        ensures begins { OnOk result ((ts : List Tree) →
+            scopes ts self.new ≡ scope.with_scope (scopes ts self.old) name.now (tree_at ts id) command) }
         ensures same { OnErr result (self.new ≡ self.old) }
     {
         self.begun.reserve(1)?;
         let first = self.formulas.len();
-        self.formulas.push(name, id)?;
+        self.formulas.push(name, id, command)?;
         self.begun.push(Begun {
             first,
             hypothesis: id,

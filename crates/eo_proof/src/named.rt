@@ -1,10 +1,10 @@
-//! Terms by their names, in order.
+//! Terms by their names, in order, each with the number of the command that made it a fact.
 ghost use Rattle.std.specs.Prelude.{◌≡◌, ◌<◌, ◌∷◌, ◌++◌, [], Some, None, true, false, not};
 ghost use Rattle.std.specs.Prelude.{length, take, map, is_some, slice_get, IfOk, OnOk, OnErr};
 ghost use Rattle.std.specs.List.{position};
 ghost use Rattle.std.specs.Map.{lookup, keys_of};
 ghost use Rattle.std.specs.Str.{bytes_eq};
-ghost use Rattle.eo_proof.specs.Kept.{NamedId};
+ghost use Rattle.eo_proof.specs.Kept.{NamedId, term_named, command_named};
 ghost use Rattle.eo_proof.specs.Places.{number_in};
 
 use crate::places::{Places, number_in};
@@ -20,6 +20,8 @@ pub(crate) struct NamedIds {
     names: Texts,
     // As many as names, in the same order.
     ids: Vec<Id>,
+    // The numbers of commands, in the same order.
+    commands: Vec<u64>,
     places: Places,
 }
 
@@ -31,9 +33,10 @@ impl Model for NamedIds {
 
     ghost Value = { List NamedId };
 
-    ghost view = { λ a. zip a.names a.ids.items };
+    ghost view = { λ a. zip a.names (zip a.ids.items a.commands.items) };
 
-    ghost invariant = { λ a. (length a.ids.items ≡ length a.names) × AreFound a.names a.places.numbered.items a.places.others.entries };
+    ghost invariant = { λ a. (length a.ids.items ≡ length a.names) × (length a.commands.items ≡ length a.names)
+        × AreFound a.names a.places.numbered.items a.places.others.entries };
 }
 
 impl NamedIds {
@@ -45,6 +48,7 @@ impl NamedIds {
             alloc,
             names: Texts::new(alloc),
             ids: Vec::new(alloc),
+            commands: Vec::new(alloc),
             places: Places::new(alloc),
         }
     }
@@ -89,7 +93,7 @@ impl NamedIds {
 
     /// The term with the name.
     pub(crate) fn get(&self, name: &[u8]) -> Option<Id>
-        ensures { result ≡ lookup (bytes_eq name.now) self.now }
+        ensures { result ≡ term_named self.now name.now }
     {
         match self.place(name) {
             Some(place) => Some(self.id_at(place)),
@@ -97,19 +101,37 @@ impl NamedIds {
         }
     }
 
+    /// The number of the command that made the fact with the name.
+    pub(crate) fn command(&self, name: &[u8]) -> Option<u64>
+        ensures { result ≡ command_named self.now name.now }
+    {
+        match self.place(name) {
+            Some(place) => Some(self.command_at(place)),
+            None => None,
+        }
+    }
+
     // The term at a place.
     fn id_at(&self, place: usize) -> Id
         requires { place < length self.now }
-        ensures { (e : NamedId) → slice_get self.now place ≡ Some e → e.1 ≡ result }
+        ensures { (e : NamedId) → slice_get self.now place ≡ Some e → e.1.0 ≡ result }
     {
         self.ids()[place]
     }
 
+    // The number of the command at a place.
+    fn command_at(&self, place: usize) -> u64
+        requires { place < length self.now }
+        ensures { (e : NamedId) → slice_get self.now place ≡ Some e → e.1.1 ≡ result }
+    {
+        self.commands()[place]
+    }
+
     /// Puts a term at the end, by a name that no other has, and answers whether none had it. The error
     /// is want of memory.
-    pub(crate) fn add(&mut self, name: &[u8], id: Id) -> Result<bool, AllocError>
+    pub(crate) fn add(&mut self, name: &[u8], id: Id, command: u64) -> Result<bool, AllocError>
         ensures added { IfOk result (λ added. added ≡ not (is_some (lookup (bytes_eq name.now) self.old))) }
-        ensures new { IfOk result (λ added. added ≡ true → self.new ≡ self.old ++ (name.now, id) ∷ []) }
+        ensures new { IfOk result (λ added. added ≡ true → self.new ≡ self.old ++ (name.now, (id, command)) ∷ []) }
         ensures taken { IfOk result (λ added. added ≡ false → self.new ≡ self.old) }
         ensures same { OnErr result (self.new ≡ self.old) }
     {
@@ -117,31 +139,39 @@ impl NamedIds {
         if self.has_by(name, number) {
             return Ok(false);
         }
-        self.push_by(name, number, id)?;
+        self.push_by(name, number, id, command)?;
         Ok(true)
     }
 
     /// Puts a term at the end, by a name that no other has.
-    pub(crate) fn push(&mut self, name: &[u8], id: Id) -> Result<(), AllocError>
+    pub(crate) fn push(&mut self, name: &[u8], id: Id, command: u64) -> Result<(), AllocError>
         requires { lookup (bytes_eq name.now) self.old ≡ None }
-        ensures new { OnOk result (self.new ≡ self.old ++ (name.now, id) ∷ []) }
+        ensures new { OnOk result (self.new ≡ self.old ++ (name.now, (id, command)) ∷ []) }
         ensures same { OnErr result (self.new ≡ self.old) }
     {
-        self.push_by(name, number_in(name), id)
+        self.push_by(name, number_in(name), id, command)
     }
 
     // The same by a name that ends in this number.
-    fn push_by(&mut self, name: &[u8], number: usize, id: Id) -> Result<(), AllocError>
+    fn push_by(
+        &mut self,
+        name: &[u8],
+        number: usize,
+        id: Id,
+        command: u64,
+    ) -> Result<(), AllocError>
         requires number { number ≡ number_in name.now }
         requires free { lookup (bytes_eq name.now) self.old ≡ None }
-        ensures new { OnOk result (self.new ≡ self.old ++ (name.now, id) ∷ []) }
+        ensures new { OnOk result (self.new ≡ self.old ++ (name.now, (id, command)) ∷ []) }
         ensures same { OnErr result (self.new ≡ self.old) }
     {
         self.ids.reserve(1)?;
+        self.commands.reserve(1)?;
         // Where the name itself then finds no memory, its place leads to nothing.
         self.places.add(self.alloc, &self.names, name, number)?;
         self.names.push(name)?;
         self.ids.push_reserved(id);
+        self.commands.push_reserved(command);
         Ok(())
     }
 
@@ -152,12 +182,20 @@ impl NamedIds {
         self.places.cut(n);
         self.names.truncate(n);
         self.ids.truncate(n);
+        self.commands.truncate(n);
     }
 
     /// The terms.
     pub(crate) fn ids(&self) -> &[Id]
-        ensures { result.now ≡ map (λ (e : NamedId). e.1) self.now }
+        ensures { result.now ≡ map (λ (e : NamedId). e.1.0) self.now }
     {
         self.ids.as_slice()
+    }
+
+    // The numbers of the commands.
+    fn commands(&self) -> &[u64]
+        ensures { result.now ≡ map (λ (e : NamedId). e.1.1) self.now }
+    {
+        self.commands.as_slice()
     }
 }

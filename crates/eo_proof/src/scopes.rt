@@ -15,14 +15,15 @@ use eo_term::Id;
 use std::alloc::AllocError;
 
 impl Facts {
-    /// Opens a scope with an assumption, which is its first fact.
+    /// Opens a scope with an assumption, which is its first fact and which no command made: its number
+    /// is 0.
     ///
     /// `ScopeDepth`: 1,000 scopes are open. `Redeclared`: a fact has the name. `Memory`: want of
     /// memory.
     #[tactic(auto, using(crate::proofs::Reading::live_is_named))]
     pub fn push(&mut self, name: &[u8], id: Id) -> Result<(), FactRefused>
         ensures pushes { (ts : List Tree) → Pushed result (scopes ts self.old) name.now (tree_at ts id) (scopes ts self.new) }
-        ensures kept { OnOk result (self.new ≡ with_begun self.old (name.now, id)) }
+        ensures kept { OnOk result (self.new ≡ with_begun self.old (name.now, (id, 0))) }
         ensures below { (m : ℕ) → AreBelow m self.old → id < m → AreBelow m self.new }
         ensures same { OnErr result (self.new ≡ self.old) }
     {
@@ -32,21 +33,22 @@ impl Facts {
         if self.has(name) {
             return Err(FactRefused::Redeclared);
         }
-        self.begin(name, id)?;
+        self.begin(name, id, 0)?;
         Ok(())
     }
 
-    /// Opens a scope with an assumption, by a name that no fact has. It is not looked up. `Err` is
-    /// want of memory, and no scope is opened.
+    /// Opens a scope with an assumption, made by the command of this number, by a name that no fact has.
+    /// It is not looked up. `Err` is want of memory, and no scope is opened.
     #[tactic(auto, using(crate::proofs::Reading::not_named))]
-    pub fn push_free(&mut self, name: &[u8], id: Id) -> Result<(), AllocError>
+    pub fn push_free(&mut self, name: &[u8], id: Id, command: u64) -> Result<(), AllocError>
         requires free { (ts : List Tree) → scope.is_live (scopes ts self.old) name.now ≡ false }
-        ensures pushes { OnOk result ((ts : List Tree) → scopes ts self.new ≡ scope.with_scope (scopes ts self.old) name.now (tree_at ts id)) }
-        ensures kept { OnOk result (self.new ≡ with_begun self.old (name.now, id)) }
+        ensures pushes { OnOk result ((ts : List Tree) →
+            scopes ts self.new ≡ scope.with_scope (scopes ts self.old) name.now (tree_at ts id) command) }
+        ensures kept { OnOk result (self.new ≡ with_begun self.old (name.now, (id, command))) }
         ensures below { (m : ℕ) → AreBelow m self.old → id < m → AreBelow m self.new }
         ensures same { OnErr result (self.new ≡ self.old) }
     {
-        self.begin(name, id)?;
+        self.begin(name, id, command)?;
         Ok(())
     }
 

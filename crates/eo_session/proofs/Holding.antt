@@ -148,17 +148,17 @@ module _ (h : Held) (whole : IsHeld h) where
     state_facts f e = (λ j. record (state_of h) { scopes = e j })
 
     module _ (name : List ℕ) (i : ℕ) (value : is_value (tree_at trees i) ≡ true) where
-      module _ (is : scopes trees facts ≡ proof.with_fact (scopes trees h.facts) name (tree_at trees i)) where
+      module _ (is : scopes trees facts ≡ proof.with_fact (scopes trees h.facts) name (tree_at trees i) h.commands) where
         pub whole_fact : IsHeld (record h { facts = facts })
-        whole_fact = whole_facts (subst AreValues (sym is) (values_fact name (tree_at trees i) value (scopes trees h.facts) whole.values))
+        whole_fact = whole_facts (subst AreValues (sym is) (values_fact name (tree_at trees i) h.commands value (scopes trees h.facts) whole.values))
 
         pub state_fact : state_of (record h { facts = facts }) ≡ with_fact (state_of h) name (tree_at trees i)
-        state_fact = state_facts (proof.with_fact (scopes trees h.facts) name (tree_at trees i)) is
+        state_fact = state_facts (proof.with_fact (scopes trees h.facts) name (tree_at trees i) h.commands) is
 
-      module _ (is : scopes trees facts ≡ proof.with_scope (scopes trees h.facts) name (tree_at trees i)) where
+      module _ (is : scopes trees facts ≡ proof.with_scope (scopes trees h.facts) name (tree_at trees i) h.commands) where
         -- a scope is opened, whose mark is still to come
         pub whole_scope : IsHeld (record h { facts = facts })
-        whole_scope = whole_facts (subst AreValues (sym is) (values_scope name (tree_at trees i) value (scopes trees h.facts) whole.values))
+        whole_scope = whole_facts (subst AreValues (sym is) (values_scope name (tree_at trees i) h.commands value (scopes trees h.facts) whole.values))
 
         module _ (marks : List ScopeMark) (marked : marks ≡ own_mark h ∷ h.marks) where
           pub whole_begun : IsHeld (record h { facts = facts; marks = marks })

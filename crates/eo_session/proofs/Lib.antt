@@ -14,8 +14,10 @@ pub mod Fitting
 pub mod Holding
 pub mod Labels
 pub mod NamedPaths
+pub mod Noted
 pub mod Reclaiming
 pub mod Scoping
 pub mod Sessions
+pub mod Shown
 pub mod Used
 pub mod NamedValues

@@ -297,9 +297,9 @@ module _ (h : Held) (whole : IsWhole h) (stays : (k : Kept) → StaysSince k) wh
         live = all_alive h whole.live stays more (roots (state_of (record h { facts = fs }))) only kept added;
       }
 
-      pub whole_put_fact : (f : NamedId) → fs ≡ with_named h.facts f → AreBegun (length h.facts.facts) h.facts.begun → state_of (record h { facts = fs }) ≡ state.with_fact (state_of h) f.0 (tree_in h.table f.1) → HoldsOnly (tree_in h.table f.1 ∷ []) h → IsWhole (record h { facts = fs; kept = now h.table })
+      pub whole_put_fact : (f : NamedId) → fs ≡ with_named h.facts f → AreBegun (length h.facts.facts) h.facts.begun → state_of (record h { facts = fs }) ≡ state.with_fact (state_of h) f.0 (tree_in h.table f.1.0) → HoldsOnly (tree_in h.table f.1.0 ∷ []) h → IsWhole (record h { facts = fs; kept = now h.table })
       whole_put_fact f is begun st only =
-          let t = tree_in h.table f.1 in
+          let t = tree_in h.table f.1.0 in
           let exact = exact_facts (t ∷ []) only (λ u c. subst (λ (s : State). Contains (roots s) u) (sym st) (fact_stays (state_of h) u f.0 t c)) (λ u c. subst (λ (s : State). Contains (roots s) u) (sym st) (fact_comes (state_of h) u f.0 t c)) in
           record {
             held = refit (record h { facts = fs }) (now h.table) held;
@@ -307,10 +307,10 @@ module _ (h : Held) (whole : IsWhole h) (stays : (k : Kept) → StaysSince k) wh
                 live_facts h whole.live mark fs exact (λ l. ap without_begun is ∙ named_outside h.facts f begun l) (ap (λ (k : fact.Kept). length k.begun) is);
           }
 
-      pub whole_put_scope : (f : NamedId) → fs ≡ with_begun h.facts f → (ms : List ScopeMark) → ms ≡ own_mark h ∷ h.marks → IsHeld (record h { facts = fs; marks = ms }) → state_of (record h { facts = fs; marks = ms }) ≡ state.with_scope (state_of h) f.0 (tree_in h.table f.1) → HoldsOnly (tree_in h.table f.1 ∷ []) h → IsWhole (record h { facts = fs; marks = ms; kept = now h.table })
+      pub whole_put_scope : (f : NamedId) → fs ≡ with_begun h.facts f → (ms : List ScopeMark) → ms ≡ own_mark h ∷ h.marks → IsHeld (record h { facts = fs; marks = ms }) → state_of (record h { facts = fs; marks = ms }) ≡ state.with_scope (state_of h) f.0 (tree_in h.table f.1.0) → HoldsOnly (tree_in h.table f.1.0 ∷ []) h → IsWhole (record h { facts = fs; marks = ms; kept = now h.table })
       unfolding roots
       whole_put_scope f is ms e begun st only =
-          let t = tree_in h.table f.1 in
+          let t = tree_in h.table f.1.0 in
           let exact = exact_facts (t ∷ []) only (λ u c. subst (λ (s : State). Contains (roots s) u) (sym st) (scope_stays (state_of h) u f.0 t c)) (λ u c. subst (λ (s : State). Contains (roots s) u) (sym st) (scope_comes (state_of h) u f.0 t c)) in
           record { held = refit (record h { facts = fs; marks = ms }) (now h.table) begun; live = live_begun h whole.live mark fs exact f is ms e }
 

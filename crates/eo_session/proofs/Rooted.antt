@@ -74,20 +74,20 @@ module _ (ts : List Tree) (n : ℕ) (P : Tree → Type 0) (each : (i : ℕ) → 
   join : (xs ys : List Fact) → All P (forms xs) → All P (forms ys) → All P (forms (xs ++ ys))
   join xs ys a b = subst (All P) (sym (map-append (λ (f : Fact). f.formula) xs ys)) (All-append P (forms xs) (forms ys) a b)
 
-  of_facts : (fs : List NamedId) → All (λ (f : NamedId). f.1 < n) fs → All P (forms (map (read_fact ts) fs))
+  of_facts : (fs : List NamedId) → All (λ (f : NamedId). f.1.0 < n) fs → All P (forms (map (read_fact ts) fs))
   of_facts fs a =
       All-map P (λ (f : Fact). f.formula) (map (read_fact ts) fs)
-      (All-map (λ (f : Fact). P f.formula) (read_fact ts) fs (All-weaker (λ (f : NamedId). f.1 < n) (λ (f : NamedId). P (tree_at ts f.1)) (λ f. each f.1) fs a))
+      (All-map (λ (f : Fact). P f.formula) (read_fact ts) fs (All-weaker (λ (f : NamedId). f.1.0 < n) (λ (f : NamedId). P (tree_at ts f.1.0)) (λ f. each f.1.0) fs a))
 
-  of_outer : (fs : List NamedId) (bs : List Begun) → All (λ (f : NamedId). f.1 < n) fs → All P (forms (map (read_fact ts) (outer_facts fs bs)))
+  of_outer : (fs : List NamedId) (bs : List Begun) → All (λ (f : NamedId). f.1.0 < n) fs → All P (forms (map (read_fact ts) (outer_facts fs bs)))
   of_outer fs [] a = of_facts fs a
-  of_outer fs (b ∷ bs) a = of_outer (take b.first fs) bs (All-take (λ (f : NamedId). f.1 < n) b.first fs a)
+  of_outer fs (b ∷ bs) a = of_outer (take b.first fs) bs (All-take (λ (f : NamedId). f.1.0 < n) b.first fs a)
 
-  of_opened : (fs : List NamedId) (bs : List Begun) → All (λ (f : NamedId). f.1 < n) fs → All P (forms (opened_facts (opened ts fs bs)))
+  of_opened : (fs : List NamedId) (bs : List Begun) → All (λ (f : NamedId). f.1.0 < n) fs → All P (forms (opened_facts (opened ts fs bs)))
   of_opened fs [] a = All-nil P
   of_opened fs (b ∷ bs) a =
-      join (opened_facts (opened ts (take b.first fs) bs)) (map (read_fact ts) (drop b.first fs)) (of_opened (take b.first fs) bs (All-take (λ (f : NamedId). f.1 < n) b.first fs a))
-      (of_facts (drop b.first fs) (All-drop (λ (f : NamedId). f.1 < n) b.first fs a))
+      join (opened_facts (opened ts (take b.first fs) bs)) (map (read_fact ts) (drop b.first fs)) (of_opened (take b.first fs) bs (All-take (λ (f : NamedId). f.1.0 < n) b.first fs a))
+      (of_facts (drop b.first fs) (All-drop (λ (f : NamedId). f.1.0 < n) b.first fs a))
 
   of_scopes : (k : fact.Kept) → AreBelow n k → All P (formulas (scopes ts k))
   unfolding scopes
@@ -164,25 +164,25 @@ macros_come (m ∷ ms) ns t h = Contains-append_right (macro_trees m) (flat_map 
 
 -- ---- facts
 
-pub facts_added : (f : Scopes) (name : List ℕ) (t : Tree) → formulas (with_fact f name t) ≡ formulas f ++ t ∷ []
+pub facts_added : (f : Scopes) (name : List ℕ) (t : Tree) (number : ℕ) → formulas (with_fact f name t number) ≡ formulas f ++ t ∷ []
 unfolding with_fact
-facts_added f name t = by f.outermost f.opened
+facts_added f name t number = by f.outermost f.opened
   where
-    by : (fs : List Fact) (ss : List Scope) → formulas (in_innermost fs ss (one_fact name t)) ≡ forms (fs ++ opened_facts ss) ++ t ∷ []
-    by fs [] = ap forms (append-nil (fs ++ one_fact name t ∷ [])) ∙ map-append (λ (f : Fact). f.formula) fs (one_fact name t ∷ []) ∙ ap (λ (xs : List Fact). forms xs ++ t ∷ []) (sym (append-nil fs))
+    by : (fs : List Fact) (ss : List Scope) → formulas (in_innermost fs ss (one_fact name t number)) ≡ forms (fs ++ opened_facts ss) ++ t ∷ []
+    by fs [] = ap forms (append-nil (fs ++ one_fact name t number ∷ [])) ∙ map-append (λ (f : Fact). f.formula) fs (one_fact name t number ∷ []) ∙ ap (λ (xs : List Fact). forms xs ++ t ∷ []) (sym (append-nil fs))
     by fs (s ∷ ss) = at_end fs (opened_facts ss) s.facts
       where
-        at_end : (xs ys zs : List Fact) → forms (xs ++ (ys ++ (zs ++ one_fact name t ∷ []))) ≡ forms (xs ++ (ys ++ zs)) ++ t ∷ []
-        at_end [] [] zs = map-append (λ (f : Fact). f.formula) zs (one_fact name t ∷ [])
+        at_end : (xs ys zs : List Fact) → forms (xs ++ (ys ++ (zs ++ one_fact name t number ∷ []))) ≡ forms (xs ++ (ys ++ zs)) ++ t ∷ []
+        at_end [] [] zs = map-append (λ (f : Fact). f.formula) zs (one_fact name t number ∷ [])
         at_end [] (y ∷ ys) zs = ap (λ us. y.formula ∷ us) (at_end [] ys zs)
         at_end (x ∷ xs) ys zs = ap (λ us. x.formula ∷ us) (at_end xs ys zs)
 
-pub facts_begun : (f : Scopes) (name : List ℕ) (t : Tree) → formulas (with_scope f name t) ≡ formulas f ++ t ∷ []
+pub facts_begun : (f : Scopes) (name : List ℕ) (t : Tree) (number : ℕ) → formulas (with_scope f name t number) ≡ formulas f ++ t ∷ []
 unfolding with_scope
-facts_begun f name t = at_end f.outermost (opened_facts f.opened)
+facts_begun f name t number = at_end f.outermost (opened_facts f.opened)
   where
-    at_end : (xs ys : List Fact) → forms (xs ++ (ys ++ one_fact name t ∷ [])) ≡ forms (xs ++ ys) ++ t ∷ []
-    at_end [] ys = map-append (λ (f : Fact). f.formula) ys (one_fact name t ∷ [])
+    at_end : (xs ys : List Fact) → forms (xs ++ (ys ++ one_fact name t number ∷ [])) ≡ forms (xs ++ ys) ++ t ∷ []
+    at_end [] ys = map-append (λ (f : Fact). f.formula) ys (one_fact name t number ∷ [])
     at_end (x ∷ xs) ys = ap (λ us. x.formula ∷ us) (at_end xs ys)
 
 -- ---- roots
@@ -289,19 +289,19 @@ module _ (st : State) (u : Tree) where
   module _ (name : List ℕ) (t : Tree) where
     pub fact_stays : Contains (roots st) u → Contains (roots (state.with_fact st name t)) u
     unfolding roots
-    fact_stays h = facts_kept st.signature st.macros st.assertions st.scopes u (with_fact st.scopes name t) t (facts_added st.scopes name t) h
+    fact_stays h = facts_kept st.signature st.macros st.assertions st.scopes u (with_fact st.scopes name t st.commands) t (facts_added st.scopes name t st.commands) h
 
     pub fact_comes : Contains (t ∷ []) u → Contains (roots (state.with_fact st name t)) u
     unfolding roots
-    fact_comes h = fact_added st.signature st.macros st.assertions st.scopes u (with_fact st.scopes name t) t (facts_added st.scopes name t) h
+    fact_comes h = fact_added st.signature st.macros st.assertions st.scopes u (with_fact st.scopes name t st.commands) t (facts_added st.scopes name t st.commands) h
 
     pub scope_stays : Contains (roots st) u → Contains (roots (state.with_scope st name t)) u
     unfolding roots
-    scope_stays h = facts_kept st.signature st.macros st.assertions st.scopes u (with_scope st.scopes name t) t (facts_begun st.scopes name t) h
+    scope_stays h = facts_kept st.signature st.macros st.assertions st.scopes u (with_scope st.scopes name t st.commands) t (facts_begun st.scopes name t st.commands) h
 
     pub scope_comes : Contains (t ∷ []) u → Contains (roots (state.with_scope st name t)) u
     unfolding roots
-    scope_comes h = fact_added st.signature st.macros st.assertions st.scopes u (with_scope st.scopes name t) t (facts_begun st.scopes name t) h
+    scope_comes h = fact_added st.signature st.macros st.assertions st.scopes u (with_scope st.scopes name t st.commands) t (facts_begun st.scopes name t st.commands) h
 
   module _ (t : Tree) where
     pub assertion_stays : Contains (roots st) u → Contains (roots (with_assertion st t)) u

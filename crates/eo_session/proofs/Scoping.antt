@@ -22,22 +22,22 @@ map_grown f g P h [] a = refl
 map_grown f g P h (x ∷ xs) a = (λ k. h x (All-head P x xs a) k ∷ map_grown f g P h xs (All-tail P x xs a) k)
 
 module _ (ts us : List Tree) (n : ℕ) (same : (i : ℕ) → i < n → tree_at us i ≡ tree_at ts i) where
-  facts_grown : (fs : List NamedId) → All (λ (f : NamedId). f.1 < n) fs → map (read_fact us) fs ≡ map (read_fact ts) fs
+  facts_grown : (fs : List NamedId) → All (λ (f : NamedId). f.1.0 < n) fs → map (read_fact us) fs ≡ map (read_fact ts) fs
   facts_grown [] a = refl
   facts_grown (f ∷ fs) a =
-      (λ k. record { name = f.0; formula = same f.1 (All-head (λ (f : NamedId). f.1 < n) f fs a) k } ∷ facts_grown fs (All-tail (λ (f : NamedId). f.1 < n) f fs a) k)
+      (λ k. record { name = f.0; formula = same f.1.0 (All-head (λ (f : NamedId). f.1.0 < n) f fs a) k; number = f.1.1 } ∷ facts_grown fs (All-tail (λ (f : NamedId). f.1.0 < n) f fs a) k)
 
-  outer_grown : (fs : List NamedId) (bs : List Begun) → All (λ (f : NamedId). f.1 < n) fs → map (read_fact us) (outer_facts fs bs) ≡ map (read_fact ts) (outer_facts fs bs)
+  outer_grown : (fs : List NamedId) (bs : List Begun) → All (λ (f : NamedId). f.1.0 < n) fs → map (read_fact us) (outer_facts fs bs) ≡ map (read_fact ts) (outer_facts fs bs)
   outer_grown fs [] a = facts_grown fs a
-  outer_grown fs (b ∷ bs) a = outer_grown (take b.first fs) bs (All-take (λ (f : NamedId). f.1 < n) b.first fs a)
+  outer_grown fs (b ∷ bs) a = outer_grown (take b.first fs) bs (All-take (λ (f : NamedId). f.1.0 < n) b.first fs a)
 
-  opened_grown : (fs : List NamedId) (bs : List Begun) → All (λ (f : NamedId). f.1 < n) fs → All (λ (b : Begun). b.hypothesis < n) bs → opened us fs bs ≡ opened ts fs bs
+  opened_grown : (fs : List NamedId) (bs : List Begun) → All (λ (f : NamedId). f.1.0 < n) fs → All (λ (b : Begun). b.hypothesis < n) bs → opened us fs bs ≡ opened ts fs bs
   opened_grown fs [] a h = refl
   opened_grown fs (b ∷ bs) a h =
       (λ k. record {
         hypothesis = same b.hypothesis (All-head (λ (b : Begun). b.hypothesis < n) b bs h) k;
-        facts = facts_grown (drop b.first fs) (All-drop (λ (f : NamedId). f.1 < n) b.first fs a) k;
-      } ∷ opened_grown (take b.first fs) bs (All-take (λ (f : NamedId). f.1 < n) b.first fs a) (All-tail (λ (b : Begun). b.hypothesis < n) b bs h) k)
+        facts = facts_grown (drop b.first fs) (All-drop (λ (f : NamedId). f.1.0 < n) b.first fs a) k;
+      } ∷ opened_grown (take b.first fs) bs (All-take (λ (f : NamedId). f.1.0 < n) b.first fs a) (All-tail (λ (b : Begun). b.hypothesis < n) b bs h) k)
 
   pub scopes_grown : (k : Kept) → AreBelow n k → scopes us k ≡ scopes ts k
   unfolding scopes
@@ -45,7 +45,7 @@ module _ (ts us : List Tree) (n : ℕ) (same : (i : ℕ) → i < n → tree_at u
 
 pub below_more : (n m : ℕ) → n ≤ m → (k : Kept) → AreBelow n k → AreBelow m k
 below_more n m l k h = record {
-  facts = All-weaker (λ (f : NamedId). f.1 < n) (λ (f : NamedId). f.1 < m) (λ f h. omega (arith, l, h)) k.facts h.facts;
+  facts = All-weaker (λ (f : NamedId). f.1.0 < n) (λ (f : NamedId). f.1.0 < m) (λ f h. omega (arith, l, h)) k.facts h.facts;
   hypotheses = All-weaker (λ (b : Begun). b.hypothesis < n) (λ (b : Begun). b.hypothesis < m) (λ b h. omega (arith, l, h)) k.begun h.hypotheses;
 }
 
@@ -55,7 +55,7 @@ unfolding scopes
 none_below n k e = by k.facts k.begun (ap (λ (f : Scopes). f.outermost) (e [])) (ap (λ (f : Scopes). f.opened) (e []))
   where
     by : (fs : List NamedId) (bs : List Begun) → map (read_fact []) (outer_facts fs bs) ≡ [] → opened [] fs bs ≡ [] → AreBelow n (record { facts = fs; begun = bs })
-    by [] [] a b = record { facts = All-nil (λ (f : NamedId). f.1 < n); hypotheses = All-nil (λ (b : Begun). b.hypothesis < n) }
+    by [] [] a b = record { facts = All-nil (λ (f : NamedId). f.1.0 < n); hypotheses = All-nil (λ (b : Begun). b.hypothesis < n) }
     by (f ∷ fs) [] a b = absurd cc
     by fs (x ∷ bs) a b = absurd cc
 
@@ -83,25 +83,25 @@ join xs ys p q = values_append xs ys ∙ (λ i. p i && q i)
 pub none_values : AreValues no_facts
 none_values = record { facts = refl; hypotheses = refl }
 
-module _ (name : List ℕ) (t : Tree) (v : is_value t ≡ true) where
+module _ (name : List ℕ) (t : Tree) (number : ℕ) (v : is_value t ≡ true) where
   abbrev one : List Fact
-  one = fact name t ∷ []
+  one = fact name t number ∷ []
 
   one_value : values_in one ≡ true
   one_value = (λ i. v i && true)
 
-  pub values_fact : (f : Scopes) → AreValues f → AreValues (with_fact f name t)
+  pub values_fact : (f : Scopes) → AreValues f → AreValues (with_fact f name t number)
   unfolding with_fact
   values_fact f h = by f.outermost f.opened h
     where
-      by : (fs : List Fact) (ss : List Scope) → AreValues (record { outermost = fs; opened = ss }) → AreValues (in_innermost fs ss (fact name t))
+      by : (fs : List Fact) (ss : List Scope) → AreValues (record { outermost = fs; opened = ss }) → AreValues (in_innermost fs ss (fact name t number))
       by fs [] h = record { facts = join (fs ++ one) [] (join fs one (split fs [] h.facts).0 one_value) refl; hypotheses = refl }
       by fs (s ∷ ss) h =
           let a = split fs (opened_facts ss ++ s.facts) h.facts in
           let b = split (opened_facts ss) s.facts a.1 in
           record { facts = join fs (opened_facts ss ++ (s.facts ++ one)) a.0 (join (opened_facts ss) (s.facts ++ one) b.0 (join s.facts one b.1 one_value)); hypotheses = h.hypotheses }
 
-  pub values_scope : (f : Scopes) → AreValues f → AreValues (with_scope f name t)
+  pub values_scope : (f : Scopes) → AreValues f → AreValues (with_scope f name t number)
   unfolding with_scope
   values_scope f h =
       let a = split f.outermost (opened_facts f.opened) h.facts in

@@ -13,3 +13,5 @@ pub mod Using
 pub mod Effects
 pub mod Deciding
 pub mod Decisions
+pub mod Notes
+pub mod Noting

@@ -45,12 +45,13 @@ with_entry st e = record st { signature = st.signature ++ e ∷ [] }
 abbrev pub with_macro : State → Macro → State
 with_macro st m = record st { macros = st.macros ++ m ∷ [] }
 
+-- a fact has the number of the command that makes it
 abbrev pub with_fact : State → List ℕ → Tree → State
-with_fact st name t = record st { scopes = proof.with_fact st.scopes name t }
+with_fact st name t = record st { scopes = proof.with_fact st.scopes name t st.commands }
 
 -- a scope is opened with its assumption
 abbrev pub with_scope : State → List ℕ → Tree → State
-with_scope st name t = record st { scopes = proof.with_scope st.scopes name t; outer_macros = length st.macros ∷ st.outer_macros }
+with_scope st name t = record st { scopes = proof.with_scope st.scopes name t st.commands; outer_macros = length st.macros ∷ st.outer_macros }
 
 -- the macros before the innermost scope
 abbrev pub macros_before : List ℕ → List Macro → List Macro

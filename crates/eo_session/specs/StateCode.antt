@@ -12,7 +12,7 @@ use Rattle.eo_session.specs.State.{State}
 use Rattle.eo_session.specs.Stepping.{Standing}
 
 abbrev pub fact_code : Coded Fact
-fact_code = code_by (List ℕ × Tree) (coded× (coded_list coded_ℕ) tree_code) (λ f. (f.name, f.formula)) (λ p. record { name = p.0; formula = p.1 }) (λ _. refl)
+fact_code = code_by (List ℕ × (Tree × ℕ)) (coded× (coded_list coded_ℕ) (coded× tree_code coded_ℕ)) (λ f. (f.name, (f.formula, f.number))) (λ p. record { name = p.0; formula = p.1.0; number = p.1.1 }) (λ _. refl)
 
 abbrev pub scope_code : Coded Scope
 scope_code = code_by (Tree × List Fact) (coded× tree_code (coded_list fact_code)) (λ s. (s.hypothesis, s.facts)) (λ p. record { hypothesis = p.0; facts = p.1 }) (λ _. refl)

@@ -124,7 +124,7 @@ impl Held {
             }
             Effect::Open { name, hypothesis } => {
                 let macros = self.signature.mark();
-                self.facts.push_free(name, hypothesis)?;
+                self.facts.push_free(name, hypothesis, self.commands)?;
                 self.marks.add(ScopeMark { table, macros })?;
                 Ok(())
             }
@@ -133,7 +133,8 @@ impl Held {
                 conclusion,
                 ..
             } => {
-                self.facts.add_free(name, conclusion.formula)?;
+                self.facts
+                    .add_free(name, conclusion.formula, self.commands)?;
                 self.sorry |= conclusion.sorry;
                 Ok(())
             }

@@ -15,6 +15,8 @@ mod effects;
 mod evaluating;
 mod held;
 mod naming;
+mod noting;
+mod observing;
 mod premises;
 mod refused;
 mod rules;
@@ -24,6 +26,7 @@ mod steps;
 mod valuing;
 
 use eo_base::Text;
+pub use observing::{Act, Nobody, Note, Numbers, Observer, StepNote};
 pub use refused::Refused;
 pub use session::{EndAnswer, Session};
 

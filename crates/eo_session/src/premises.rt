@@ -83,8 +83,8 @@ impl Held {
         }
     }
 
-    // The values of terms in order.
-    fn values(&mut self, terms: &Children<'_>) -> Result<Ids, Refused>
+    /// The values of terms in order.
+    pub(crate) fn values(&mut self, terms: &Children<'_>) -> Result<Ids, Refused>
         requires { IsWhole self.old }
         ensures gives { GivesIds self.new result (step.values (state_of self.old) terms.now) }
         ensures keeps { Keeps self.old self.new }

@@ -1,5 +1,5 @@
 //! A run between two commands.
-ghost use Rattle.std.specs.Prelude.{◌≡◌, ◌≢◌, false, true, not, ◌||◌, IfOk, Err, OnOk, OnErr};
+ghost use Rattle.std.specs.Prelude.{◌≡◌, ◌≢◌, false, true, not, ◌||◌, IfOk, Err, OnOk, OnErr, IfErr, List, ◌++◌};
 ghost use Rattle.eo_base.specs.declared.FaultName.TheVariants.{FileAbsent};
 ghost use Rattle.eo_session.specs.declared.refused.Refused.TheVariants.{Fault};
 ghost use Rattle.eo_session.specs.Held.{state_of, IsWhole, IsSettled};
@@ -11,13 +11,17 @@ ghost use Rattle.eo_session.specs.Step.{is_in_proof, is_in_reference, setting_of
 ghost use Rattle.eo_session.specs.Commands.{placed_command, uncounted, step};
 ghost use Rattle.eo_session.specs.Commands as definition;
 ghost use Rattle.eo_shape.specs.Reading.{read_command};
+ghost use Rattle.eo_session.specs.Notes.{Seen, seen_by, shown};
+ghost use Rattle.eo_session.specs.Noting.{UnlessMemory};
+ghost use Rattle.eo_session.specs.Decisions.{placed_decision};
 ghost use Rattle.eo_session.specs.Stepping.{DoesNext, Steps, StepsTo, EndsWith};
 ghost use Rattle.eo_session.specs.Stepping.{IsNew, IsAlive, GivesValue, IsSignatureOf};
 
 use crate::held::Held;
+use crate::noting::Source;
 use crate::valuing::run_name;
-use crate::{Next, Origin, Refused};
-use eo_base::FaultName;
+use crate::{Next, Nobody, Observer, Origin, Refused};
+use eo_base::{FaultName, Place};
 use eo_elab::Setting;
 use eo_sexp::Sexp;
 use eo_shape::{Command, command_of};
@@ -215,12 +219,39 @@ impl Session {
         ensures counted { OnErr result (self.new.state.commands ≡ self.old.state.commands) }
         ensures alive { OnOk result (IsAlive self.new) }
     {
+        let place = Place {
+            file: from.file(),
+            line: 1,
+            offset: 0,
+        };
+        self.command_by(s, from, &[], place, &mut Nobody)
+    }
+
+    /// Does the same as [`Session::command`], and shows an accepted command, which has these bytes and
+    /// begins at this place, to an observer, before it is done. One that has a fault is not shown.
+    pub fn command_by<O: Observer>(
+        &mut self,
+        s: &Sexp<'_>,
+        from: Origin,
+        bytes: &[u8],
+        place: Place,
+        observer: &mut O,
+    ) -> Result<Next, Refused>
+        ensures steps { StepsTo result (step self.old.state (origin_of from) s.now) self.old self.new }
+        ensures present { result ≢ Err (Fault FileAbsent) }
+        ensures counted { OnErr result (self.new.state.commands ≡ self.old.state.commands) }
+        ensures alive { OnOk result (IsAlive self.new) }
+        ensures sees { OnOk result ((l : List Seen) → O.tells observer.old l →
+            O.tells observer.new (l ++ shown self.old.state (origin_of from) bytes.now place s.now)) }
+        ensures unseen { IfErr result (λ e. UnlessMemory e ((l : List Seen) → O.tells observer.old l → O.tells observer.new l)) }
+    {
         if self.ended {
             return Err(Refused::Ended);
         }
         let accepted = self.held.commands;
         self.held.release();
-        match run_command(&mut self.held, s, from) {
+        let source = Source { bytes, place };
+        match run_command(&mut self.held, s, from, &source, observer) {
             Ok(next) => {
                 self.held.alive_law();
                 self.held.commands = self.held.commands.saturating_add(1);
@@ -235,8 +266,9 @@ impl Session {
     }
 
     /// The value of the macro without parameters that has this name. It is a term of
-    /// [`Session::table`] until the next call of this one, of [`Session::command`] or of
-    /// [`Session::begin_reference`], which first gives back the terms that were made for it.
+    /// [`Session::table`] until the next call of this one, of [`Session::command`], of
+    /// [`Session::command_by`] or of [`Session::begin_reference`], which first gives back the terms
+    /// that were made for it.
     ///
     /// `UnknownSymbol`: there is no such macro. `Stuck`, `EvalDepth`, `EvalCalls`, `NumberRange` and
     /// `TermHeight`: its term has no value, as [`Session::command`] says. A fault ends the session,
@@ -315,26 +347,46 @@ impl Session {
     }
 }
 
-// Checks a command, and does what it says.
-fn run_command(held: &mut Held, s: &Sexp<'_>, from: Origin) -> Result<Next, Refused>
+// Checks a command, shows it, and does what it says.
+fn run_command<O: Observer>(
+    held: &mut Held,
+    s: &Sexp<'_>,
+    from: Origin,
+    source: &Source<'_>,
+    observer: &mut O,
+) -> Result<Next, Refused>
     requires { IsWhole held.old }
     ensures settled { OnOk result (IsSettled held.new) }
     ensures does { DoesNext result (uncounted (state_of held.old) (origin_of from) s.now) held.new }
+    ensures sees { OnOk result ((l : List Seen) → O.tells observer.old l →
+        O.tells observer.new (l ++ shown (state_of held.old) (origin_of from) source.now.bytes.now source.now.place s.now)) }
+    ensures unseen { IfErr result (λ e. UnlessMemory e ((l : List Seen) → O.tells observer.old l → O.tells observer.new l)) }
 {
     let read = command_of(s, from.is_reference());
     match &read {
-        Ok(command) => run_decided(held, command, from),
+        Ok(command) => run_decided(held, command, from, source, observer),
         Err(e) => Err(Refused::from(*e)),
     }
 }
 
-// Decides what a command does, and does it.
-fn run_decided(held: &mut Held, command: &Command<'_>, from: Origin) -> Result<Next, Refused>
+// Decides what a command does, shows it, and does it.
+fn run_decided<O: Observer>(
+    held: &mut Held,
+    command: &Command<'_>,
+    from: Origin,
+    source: &Source<'_>,
+    observer: &mut O,
+) -> Result<Next, Refused>
     requires { IsWhole held.old }
     ensures settled { OnOk result (IsSettled held.new) }
     ensures does { DoesNext result (placed_command (state_of held.old) (origin_of from) (read_command command.now)) held.new }
+    ensures sees { OnOk result ((l : List Seen) → O.tells observer.old l → O.tells observer.new
+        (l ++ seen_by (state_of held.old) (origin_of from) source.now.bytes.now source.now.place (read_command command.now)
+        (placed_decision (state_of held.old) (origin_of from) (read_command command.now)))) }
+    ensures unseen { IfErr result (λ e. UnlessMemory e ((l : List Seen) → O.tells observer.old l → O.tells observer.new l)) }
 {
     let decided = held.decide(command, from)?;
+    held.show(command, from, &decided.effect, source, observer)?;
     held.commit(decided.effect)?;
     Ok(decided.next)
 }

@@ -66,9 +66,9 @@ module _ (allowed : List ℕ → Bool) where
       (All-push (OfFormula (DerivesBy allowed S (in_force assertions (s ∷ ss)))) s.facts f d.0 own, d.1)
 
   -- a scope more, whose only fact is its assumption
-  pub scope_derives : (S : Signature) (assertions : List Tree) (out : List Fact) (ss : List Scope) (name : List ℕ) (t : Tree) → FactsDerive allowed S assertions out ss → FactsDerive allowed S assertions out (record { hypothesis = t; facts = fact name t ∷ [] } ∷ ss)
-  scope_derives S assertions out ss name t d =
-      (All-cons P (fact name t) [] (by_assumption (Contains-append_left (t ∷ []) (in_force assertions ss) t (0, omega arith, refl))) (All-nil P), d)
+  pub scope_derives : (S : Signature) (assertions : List Tree) (out : List Fact) (ss : List Scope) (name : List ℕ) (t : Tree) (number : ℕ) → FactsDerive allowed S assertions out ss → FactsDerive allowed S assertions out (record { hypothesis = t; facts = fact name t number ∷ [] } ∷ ss)
+  scope_derives S assertions out ss name t number d =
+      (All-cons P (fact name t number) [] (by_assumption (Contains-append_left (t ∷ []) (in_force assertions ss) t (0, omega arith, refl))) (All-nil P), d)
     where
       P : Fact → Type 0
       P = OfFormula (DerivesBy allowed S (t ∷ in_force assertions ss))

@@ -185,9 +185,9 @@ module _ (allowed : List ℕ → Bool) where
     fact_sound name t sorry is less own = record {
       usable = h.usable;
       terms = h.terms;
-      values = values_fact name t is st.scopes h.values;
-      formulas = fact_holds (λ (t : Tree). type_of st.signature t ≡ Typed bool_tree) st.scopes.outermost st.scopes.opened (fact name t) h.formulas;
-      facts = λ s. fact_derives allowed st.signature st.assertions st.scopes.outermost st.scopes.opened (fact name t) (h.facts (less s)) (own s);
+      values = values_fact name t st.commands is st.scopes h.values;
+      formulas = fact_holds (λ (t : Tree). type_of st.signature t ≡ Typed bool_tree) st.scopes.outermost st.scopes.opened (fact name t st.commands) h.formulas;
+      facts = λ s. fact_derives allowed st.signature st.assertions st.scopes.outermost st.scopes.opened (fact name t st.commands) (h.facts (less s)) (own s);
     }
 
     scope_sound : (name : List ℕ) (t : Tree) → is_value t ≡ true → type_of st.signature t ≡ Typed bool_tree → IsSoundBy allowed (with_scope st name t)
@@ -195,9 +195,9 @@ module _ (allowed : List ℕ → Bool) where
     scope_sound name t is type = record {
       usable = h.usable;
       terms = h.terms;
-      values = values_scope name t is st.scopes h.values;
+      values = values_scope name t st.commands is st.scopes h.values;
       formulas = All-cons (λ (t : Tree). type_of st.signature t ≡ Typed bool_tree) t (hypotheses st.scopes) type h.formulas;
-      facts = λ s. scope_derives allowed st.signature st.assertions st.scopes.outermost st.scopes.opened name t (h.facts s);
+      facts = λ s. scope_derives allowed st.signature st.assertions st.scopes.outermost st.scopes.opened name t st.commands (h.facts s);
     }
 
     outside_terms : (ns : List ℕ) → FitsTerms (record (context st) { macros = macros_before ns st.macros })

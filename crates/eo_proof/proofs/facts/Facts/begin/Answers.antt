@@ -13,17 +13,17 @@ returns-clause-added c =
     let facts_is = c.in_ok-push.ensures.new in
     let items_is = c.in_ok-push-2.ensures.items ∙ ap (λ (xs : List Begun). xs ++ scope ∷ []) c.in_ok-reserve.ensures.items in
     (λ i. kept_of (facts_is i) (items_is i))
-    ∙ ap (λ (bs : List Begun). record { facts = es ++ (name, c.args.id) ∷ []; begun = bs }) (reverse-append c.self.inside.begun.items (scope ∷ []))
-    ∙ ap (λ (n : ℕ). record { facts = es ++ (name, c.args.id) ∷ []; begun = record { first = n; hypothesis = c.args.id } ∷ reverse c.self.inside.begun.items }) c.len-first.ensures
-    ∙ ap (λ k. with_begun k (name, c.args.id)) c.self.view_is
+    ∙ ap (λ (bs : List Begun). record { facts = es ++ (name, (c.args.id, c.args.command)) ∷ []; begun = bs }) (reverse-append c.self.inside.begun.items (scope ∷ []))
+    ∙ ap (λ (n : ℕ). record { facts = es ++ (name, (c.args.id, c.args.command)) ∷ []; begun = record { first = n; hypothesis = c.args.id } ∷ reverse c.self.inside.begun.items }) c.len-first.ensures
+    ∙ ap (λ k. with_begun k (name, (c.args.id, c.args.command))) c.self.view_is
 
 pub returns-clause-begins : goal.returns-clause-begins
 returns-clause-begins c =
-    let f : NamedId = (c.args.name.now, c.args.id) in
+    let f : NamedId = (c.args.name.now, (c.args.id, c.args.command)) in
     (λ ts. ap (scopes ts) (returns-clause-added c) ∙ begun_in ts c.args.self.now f)
 
 pub invariant_of-self-2 : goal.invariant_of-self-2
 invariant_of-self-2 c =
-    let f : NamedId = (c.args.name.now, c.args.id) in
+    let f : NamedId = (c.args.name.now, (c.args.id, c.args.command)) in
     subst (λ k. IsKept k c.self.inside.refutes) (sym (returns-clause-added c))
     (kept_begun c.args.self.now c.self.inside.refutes f (subst (λ k. IsKept k c.self.inside.refutes) c.self.view_is c.self.invariant))

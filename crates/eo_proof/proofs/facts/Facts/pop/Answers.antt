@@ -50,7 +50,7 @@ returns-clause-below c =
     let new_is = ap (λ (xs : List NamedId). kept_of xs c.take_last.new.begun.items) c.truncate.ensures in
     (λ m h. let g : AreBelow m (record { facts = es; begun = scope ∷ bs }) = subst (AreBelow m) (old_is c) h in
     subst (AreBelow m) (sym new_is) (record {
-      facts = All-take (λ (f : NamedId). f.1 < m) scope.first es g.facts;
+      facts = All-take (λ (f : NamedId). f.1.0 < m) scope.first es g.facts;
       hypotheses = All-tail (λ (b : Begun). b.hypothesis < m) scope bs g.hypotheses;
     }))
 

@@ -5,16 +5,16 @@ use Rattle.eo_proof.proofs.facts.Facts.put_free.Goals as goal
 
 pub invariant_of-self-2 : goal.invariant_of-self-2
 invariant_of-self-2 c =
-    let f : NamedId = (c.args.name.now, c.args.id) in
+    let f : NamedId = (c.args.name.now, (c.args.id, c.args.command)) in
     let k = c.args.self.now in
     let added : kept_of c.push.new.self c.self.inside.begun.items ≡ with_named k f =
     ap (λ xs. kept_of xs c.self.inside.begun.items) c.in_ok-push.ensures.new ∙ ap (λ (k : Kept). with_named k f) c.self.view_is in
     subst (λ (k : Kept). IsKept k c.refutes_with-refutes.result) (sym added)
-    (kept_named k c.self.inside.refutes c.refutes_with-refutes.result f (subst (λ (k : Kept). IsKept k c.self.inside.refutes) c.self.view_is c.self.invariant) (c.refutes_with-refutes.ensures c.args.name.now))
+    (kept_named k c.self.inside.refutes c.refutes_with-refutes.result f (subst (λ (k : Kept). IsKept k c.self.inside.refutes) c.self.view_is c.self.invariant) (c.refutes_with-refutes.ensures c.args.name.now c.args.command))
 
 pub returns-clause-adds : goal.returns-clause-adds
 returns-clause-adds c =
-    let f : NamedId = (c.args.name.now, c.args.id) in
+    let f : NamedId = (c.args.name.now, (c.args.id, c.args.command)) in
     let k = c.args.self.now in
     let added : kept_of c.push.new.self c.self.inside.begun.items ≡ with_named k f =
     ap (λ xs. kept_of xs c.self.inside.begun.items) c.in_ok-push.ensures.new ∙ ap (λ (k : Kept). with_named k f) c.self.view_is in

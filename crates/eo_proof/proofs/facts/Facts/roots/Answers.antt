@@ -6,5 +6,5 @@ use Rattle.eo_proof.proofs.facts.Facts.roots.Goals as goal
 
 pub returns : goal.returns
 returns c = λ ts.
-    ap (map (tree_at ts)) (c.ids.ensures ∙ ap (λ (k : Kept). map (λ (f : NamedId). f.1) k.facts) c.self.view_is)
+    ap (map (tree_at ts)) (c.ids.ensures ∙ ap (λ (k : Kept). map (λ (f : NamedId). f.1.0) k.facts) c.self.view_is)
     ∙ sym (formulas_are ts c.args.self.now)

@@ -98,7 +98,7 @@ returns-in_ok-add-in-Open-clause-settled c =
     let st = state_begun h w fs below name i may.value.value is c.add-in-Open.new.self marked in
     let at = c.mark-self.ensures.mark in
     settled_now (record h { facts = fs; marks = c.add-in-Open.new.self }) _ at
-    (whole_put_scope h c.requires.whole c.growth_law.ensures.stays (subst (IsMark h.table) at c.mark-self.ensures.holds) fs held (name, i) told.kept c.add-in-Open.new.self marked begun st only)
+    (whole_put_scope h c.requires.whole c.growth_law.ensures.stays (subst (IsMark h.table) at c.mark-self.ensures.holds) fs held (name, (i, h.commands)) told.kept c.add-in-Open.new.self marked begun st only)
 
 pub returns-in_ok-add_free-in-Add-clause-settled : goal.returns-in_ok-add_free-in-Add-clause-settled
 returns-in_ok-add_free-in-Add-clause-settled c =
@@ -115,7 +115,7 @@ returns-in_ok-add_free-in-Add-clause-settled c =
     let held = whole_fact h w fs below name i may.value.value (told.adds ts) in
     let st = state_fact h w fs below name i may.value.value (told.adds ts) in
     let at = c.mark-self.ensures.mark in
-    let all = whole_put_fact h c.requires.whole c.growth_law.ensures.stays (subst (IsMark h.table) at c.mark-self.ensures.holds) fs held (name, i) told.kept c.laws.ensures.begun st only in
+    let all = whole_put_fact h c.requires.whole c.growth_law.ensures.stays (subst (IsMark h.table) at c.mark-self.ensures.holds) fs held (name, (i, h.commands)) told.kept c.laws.ensures.begun st only in
     settled_sorry _ _ (settled_now (record h { facts = fs }) _ at all)
 
 pub returns-in-Nothing-clause-settled : goal.returns-in-Nothing-clause-settled
