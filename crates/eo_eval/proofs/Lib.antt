@@ -1,6 +1,7 @@
 mod Memory
 pub mod OperatorValues
 mod Values
+pub mod Yields
 mod Steps
 mod Entered
 mod Same

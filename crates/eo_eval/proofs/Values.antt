@@ -1,7 +1,7 @@
 -- Evaluation gives values, none of them too tall, in a signature whose terminators are values.
 use Rattle.std.specs.Prelude.{◌≡◌, ℕ, zero, suc, Bool, true, false, if◌then◌else◌, List, [], ◌∷◌, length, Option, Some, None, is_some, refl}
 use Rattle.std.specs.List.{list_all}
-use Rattle.std.proofs.Common.{sym, ◌∙◌, ap, subst}
+use Rattle.std.proofs.Common.{ap, subst}
 use Rattle.eo_base.proofs.Tests.{both, join, clash}
 use Rattle.eo_base.specs.Limits.{open_calls_limit, calls_limit}
 use Rattle.eo_term.specs.declared.OpName.{OpName}
@@ -15,54 +15,12 @@ use Rattle.eo_lists.specs.Lists.{list_value}
 use Rattle.eo_lists.proofs.Values.{list_value_value}
 use Rattle.eo_type.specs.Types.{TypeOutcome, Typed, Untyped, TypeRange, TypeTall, typed_answer, chosen, value_type}
 use Rattle.eo_eval.proofs.OperatorValues.{value_type_value, tree_op_values}
-use Rattle.eo_stack.specs.Evaluation.{Outcome, Value, Stuck, Deep, Calls, Range, Tall, Call, Begun, Ended, Eval, ends, on_outcome, on_value, or_none, node, are_equal, type_value, answer_value, value_or, operator_value, eval_with, eval_all_with, begin, on_body, body_of, call_within, eval, eval0}
+use Rattle.eo_stack.specs.Evaluation.{Outcome, Value, Stuck, Deep, Calls, Range, Tall, Call, Begun, Eval, ends, on_outcome, on_value, or_none, node, are_equal, type_value, answer_value, value_or, operator_value, eval_with, eval_all_with, begin, on_body, body_of, call_within, eval, eval0}
+use Rattle.eo_eval.proofs.Yields.{Yields, has_value, value_inj, ends_yields, none_yields, bind_yields}
 use Rattle.eo_eval.specs.Outcomes.{MayBeValue}
 use Rattle.eo_stack.specs.Reading.{outcome_in, OutcomeBelow}
 use Rattle.eo_stack.specs.declared.Outcome as code_outcome
 use Rattle.eo_stack.specs.declared.Outcome.TheVariants as outcome
-
--- what holds of each value that a computation gives
-abbrev Yields : {A : Type 0} → Eval A → (A → Type 0) → Type 0
-Yields {A} F P = (c : Begun) (v : A) (d : Begun) → F c ≡ (Value v, d) → P v
-
-abbrev has_value : {A : Type 0} → Outcome A → Bool
-has_value (Value v) = true
-has_value Stuck = false
-has_value Deep = false
-has_value Calls = false
-has_value Range = false
-has_value Tall = false
-
-no_value : {A P : Type 0} (o : Outcome A) (c d : Begun) (v : A) → has_value o ≡ false → ◌≡◌ {A = Ended A} (o, c) (Value v, d) → P
-no_value {A} o c d v h e = clash (sym h ∙ ap (λ (r : Ended A). has_value r.0) e)
-
-value_inj : {A : Type 0} (u v : A) → Value u ≡ Value v → u ≡ v
-value_inj {A} u v e = ap or_u e
-  where
-    or_u : Outcome A → A
-    or_u (Value w) = w
-    or_u Stuck = u
-    or_u Deep = u
-    or_u Calls = u
-    or_u Range = u
-    or_u Tall = u
-
-ends_yields : {A : Type 0} (P : A → Type 0) (u : A) → P u → Yields (ends (Value u)) P
-ends_yields {A} P u p c v d e = subst P (value_inj u v (ap (λ (r : Ended A). r.0) e)) p
-
-none_yields : {A : Type 0} (P : A → Type 0) (o : Outcome A) → has_value o ≡ false → Yields (ends o) P
-none_yields P o h c v d e = no_value o c d v h e
-
-bind_yields : {A B : Type 0} (first : Eval A) (go : A → Eval B) (P : A → Type 0) (Q : B → Type 0) → Yields first P → ((a : A) → P a → Yields (go a) Q) → Yields (λ c. on_value (first c) go) Q
-bind_yields {A} {B} first go P Q f g c v d e = by_outcome (first c).0 (first c).1 refl e
-  where
-    by_outcome : (o : Outcome A) (b : Begun) → first c ≡ (o, b) → on_outcome o go b ≡ (Value v, d) → Q v
-    by_outcome (Value a) b p q = g a (f c a b p) b v d q
-    by_outcome Stuck b p q = no_value Stuck b d v refl q
-    by_outcome Deep b p q = no_value Deep b d v refl q
-    by_outcome Calls b p q = no_value Calls b d v refl q
-    by_outcome Range b p q = no_value Range b d v refl q
-    by_outcome Tall b p q = no_value Tall b d v refl q
 
 -- a value that is not too tall
 abbrev IsFit : Tree → Type 0

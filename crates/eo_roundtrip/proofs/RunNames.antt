@@ -1,5 +1,5 @@
 -- Each run ends in a state whose constants have names that can be read and printed.
-use Rattle.std.specs.Prelude.{◌≡◌, ℕ, Bool, true, false, if◌then◌else◌, List, Ok, Err}
+use Rattle.std.specs.Prelude.{◌≡◌, ℕ, Bool, true, false, if◌then◌else◌, List, None, Ok, Err}
 use Rattle.std.proofs.Common.{subst}
 use Rattle.eo_base.proofs.ChecksLemmas.{ok_injective, err_is_not_ok}
 use Rattle.eo_base.specs.Limits.{limits}
@@ -9,9 +9,9 @@ use Rattle.eo_sexp.specs.ReadBack.{SymbolsPrintAgain}
 use Rattle.eo_sexp.specs.ReadNames.{SymbolsFit}
 use Rattle.eo_session.specs.Origin.{Origin}
 use Rattle.eo_session.specs.State.{State, first_state, begin_reference}
-use Rattle.eo_run.specs.Run.{Progress, if_given, first_progress, first_load, run_signature, run_job_reference, before_proof, run_check, run_load}
+use Rattle.eo_run.specs.Run.{Progress, first_progress, first_load, run_signature, run_job_reference, before_proof_after, run_check_after, run_check, run_load}
 use Rattle.eo_run.specs.declared.CheckJob.{CheckJob}
-use Rattle.eo_run.proofs.Runs.{Keeping, run_bind, signature_keeps, job_reference_keeps, proof_keeps, given_keeps}
+use Rattle.eo_run.proofs.Runs.{Keeping, run_bind, prelude_keeps, signature_keeps, job_reference_keeps, proof_keeps, given_keeps}
 use Rattle.eo_roundtrip.specs.Shown.{IsNamed}
 use Rattle.eo_roundtrip.proofs.Names.{AreNamed, first-named, have-names, printed-names}
 use Rattle.eo_roundtrip.proofs.ShapeNames.{read-step-names}
@@ -53,19 +53,17 @@ module _ (symbols : SymbolsPrintAgain limits) where
       named final.state (signature_keeps Named Any (SymbolsFit limits) keeping files tt name (first_load name) final (start-named false) e)
 
   pub check-named : (files : Files) (job : CheckJob) (final : Progress) → run_check files job ≡ Ok final → IsNamed final.state.signature
-  unfolding run_check before_proof
+  unfolding run_check run_check_after before_proof_after
   check-named files job final e =
       let before = run_bind _ _ final e in
-      let included = run_bind _ _ before.0 before.1 in
+      let begun = run_bind _ _ before.0 before.1 in
+      let included = run_bind _ _ before.0 begun.2 in
+      let begun_named = prelude_keeps Named Any (SymbolsFit limits) keeping files tt None (first_progress job) begun.0 (start-named job.closed) begun.1 in
+      let include_named = given_keeps Named Any (SymbolsFit limits) keeping files (run_signature files) job.include begun.0 included.0
+      (λ name k. signature_keeps Named Any (SymbolsFit limits) keeping files tt name begun.0 included.0 begun_named k) begun_named included.1 in
       named final.state
       (proof_keeps Named Any (SymbolsFit limits) keeping files tt job.proof before.0 final
       (given_keeps Named Any (SymbolsFit limits) keeping files (run_job_reference files) job.reference included.0 before.0
-      (λ name k. job_reference_keeps Named Any (SymbolsFit limits) keeping files name included.0 before.0 (include_named included.0 included.1) k)
-      (include_named included.0 included.1) included.2)
+      (λ name k. job_reference_keeps Named Any (SymbolsFit limits) keeping files name included.0 before.0 include_named k)
+      include_named included.2)
       before.2)
-    where
-      include_named : (p : Progress) → if_given (run_signature files) job.include (first_progress job) ≡ Ok p → Named p.state
-      include_named p k =
-          given_keeps Named Any (SymbolsFit limits) keeping files (run_signature files) job.include (first_progress job) p
-          (λ name m. signature_keeps Named Any (SymbolsFit limits) keeping files tt name (first_progress job) p (start-named job.closed) m)
-          (start-named job.closed) k

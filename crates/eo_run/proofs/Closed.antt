@@ -1,14 +1,14 @@
 -- In a closed check the proof declares no program and no rule.
-use Rattle.std.specs.Prelude.{◌≡◌, ◌≢◌, Bool, true, false, if◌then◌else◌, List, Ok, Err, refl}
+use Rattle.std.specs.Prelude.{◌≡◌, ◌≢◌, ℕ, Bool, true, false, if◌then◌else◌, List, Option, None, Ok, Err, refl}
 use Rattle.std.proofs.Common.{◌∙◌, subst}
 use Rattle.eo_base.proofs.ChecksLemmas.{ok_injective, err_is_not_ok}
 use Rattle.eo_base.specs.declared.FaultName.TheVariants.{SecondReference}
 use Rattle.eo_io.specs.Library.{Files}
-use Rattle.eo_run.proofs.Runs.{Keeping, any_commands, run_bind, signature_keeps, job_reference_keeps, proof_keeps, given_keeps}
+use Rattle.eo_run.proofs.Runs.{Keeping, any_commands, run_bind, prelude_keeps, signature_keeps, job_reference_keeps, proof_keeps, given_keeps}
 use Rattle.eo_session.specs.Origin.{Origin}
 use Rattle.eo_session.specs.Origin as origin
 use Rattle.eo_run.specs.Refutation.{ClosedKeepsRules}
-use Rattle.eo_run.specs.Run.{Progress, if_given, first_progress, run_signature, run_job_reference, before_proof, run_check}
+use Rattle.eo_run.specs.Run.{Progress, first_progress, run_signature, run_job_reference, before_proof_after, run_check_after, before_proof, run_check}
 use Rattle.eo_sound.specs.Quiet.{IsQuiet}
 use Rattle.eo_session.specs.State.{State, first_state, begin_reference}
 use Rattle.eo_session.specs.Commands.{step}
@@ -76,31 +76,30 @@ module _ (keeps : (st : State) (from : Origin) (s : Sexp) (r : State × Next) �
   closing : Keeping IsClosed Any Each
   closing = record { read = λ proof bytes. any_commands Each (λ s. tt) _; steps = λ st from s r al read h e. keeps st from s r e ∙ h; begins = begin_closed; reference = tt }
 
-  module _ (files : Files) (job : CheckJob) (closed : job.closed ≡ true) where
+  module _ (files : Files) (prelude : Option (List ℕ)) (job : CheckJob) (closed : job.closed ≡ true) where
     first_closed : IsClosed (first_state job.closed)
     unfolding first_state
     first_closed = closed
 
-    include_closed : (p : Progress) → if_given (run_signature files) job.include (first_progress job) ≡ Ok p → IsClosed p.state
-    include_closed p e =
-        given_keeps IsClosed Any Each closing files (run_signature files) job.include (first_progress job) p
-        (λ name k. signature_keeps IsClosed Any Each closing files tt name (first_progress job) p first_closed k) first_closed e
-
-    before_closed : (p : Progress) → before_proof files job ≡ Ok p → IsClosed p.state
-    unfolding before_proof
+    before_closed : (p : Progress) → before_proof_after files prelude job ≡ Ok p → IsClosed p.state
+    unfolding before_proof_after
     before_closed p e =
-        let included = run_bind _ _ p e in
+        let begun = run_bind _ _ p e in
+        let included = run_bind _ _ p begun.2 in
+        let begun_closed = prelude_keeps IsClosed Any Each closing files tt prelude (first_progress job) begun.0 first_closed begun.1 in
+        let include_closed = given_keeps IsClosed Any Each closing files (run_signature files) job.include begun.0 included.0
+        (λ name k. signature_keeps IsClosed Any Each closing files tt name begun.0 included.0 begun_closed k) begun_closed included.1 in
         given_keeps IsClosed Any Each closing files (run_job_reference files) job.reference included.0 p
-        (λ name k. job_reference_keeps IsClosed Any Each closing files name included.0 p (include_closed included.0 included.1) k)
-        (include_closed included.0 included.1) included.2
+        (λ name k. job_reference_keeps IsClosed Any Each closing files name included.0 p include_closed k)
+        include_closed included.2
 
   -- The proof of a closed check declares no program and no rule, nor does a file that it includes.
   module _ (quiet : (st : State) (from : Origin) (s : Sexp) (r : State × Next) → st.closed ≡ true → from ≢ origin.Signature → step st from s ≡ Ok r → IsQuiet st r.0) where
     pub closed_keeps_rules : (files : Files) (job : CheckJob) → ClosedKeepsRules files job
-    unfolding run_check
+    unfolding run_check run_check_after before_proof
     closed_keeps_rules files job closed final e =
         let before = run_bind _ _ final e in
         let ps = programs before.0.state.signature in
         let rs = rules before.0.state.signature in
-        let kept = proof_keeps (Stays ps rs) Allowed Each (keeping quiet ps rs) files proof-other job.proof before.0 final (record { closed = before_closed files job closed before.0 before.1; programs_are = refl; rules_are = refl }) before.2 in
+        let kept = proof_keeps (Stays ps rs) Allowed Each (keeping quiet ps rs) files proof-other job.proof before.0 final (record { closed = before_closed files None job closed before.0 before.1; programs_are = refl; rules_are = refl }) before.2 in
         record { before = before.0; begins = before.1; programs_stay = kept.programs_are; rules_stay = kept.rules_are }

@@ -11,7 +11,7 @@ use Rattle.eo_io.specs.Paths.{fold_path}
 use Rattle.eo_sexp.specs.Texts.{first_spot, spot_after}
 use Rattle.eo_proof.specs.Scopes.{has_false}
 use Rattle.eo_session.specs.State.{State, begin_reference, end_fault, is_in_scope}
-use Rattle.eo_run.specs.Run.{Progress, Ran, ◌>>=◌, placed, or_fault, refusal_at, shown, commands_of, run_commands, run_reference, run_file, job_file, first_progress, first_load, if_given, run_signature, run_proof, run_job_reference, before_proof, run_check, run_load}
+use Rattle.eo_run.specs.Run.{Progress, Ran, ◌>>=◌, placed, or_fault, refusal_at, shown, commands_of, run_commands, run_reference, run_file, job_file, first_progress, first_load, if_given, run_signature, run_proof, run_job_reference, run_prelude, before_proof_after, run_check_after, before_proof, run_check, run_load}
 use Rattle.eo_run.specs.Check.{verdict, checked, ended, file_end, loaded, load_verdict}
 use Rattle.eo_run.specs.Verdict.{Refusal, Refused}
 use Rattle.eo_run.specs.Answer.{Answers, AnswerHasCause}
@@ -110,23 +110,23 @@ module _ (files : Files) (job : CheckJob) where
   then_proof m = m >>= run_proof files job.proof
 
   pub before-refused : (refusal : Refusal) → if_given (run_signature files) job.include (first_progress job) ≡ Err refusal → before_proof files job ≡ Err refusal
-  unfolding before_proof ◌>>=◌
+  unfolding before_proof before_proof_after run_prelude ◌>>=◌
   before-refused refusal e = ap then_reference e
 
   pub before-included : (p : Progress) → if_given (run_signature files) job.include (first_progress job) ≡ Ok p → before_proof files job ≡ if_given (run_job_reference files) job.reference p
-  unfolding before_proof ◌>>=◌
+  unfolding before_proof before_proof_after run_prelude ◌>>=◌
   before-included p e = ap then_reference e
 
   pub verdict-before : (refusal : Refusal) → before_proof files job ≡ Err refusal → verdict files job ≡ Refused refusal
-  unfolding verdict run_check ◌>>=◌
+  unfolding verdict run_check run_check_after before_proof ◌>>=◌
   verdict-before refusal e = ap (λ m. checked files job.proof (then_proof m)) e
 
   pub verdict-proof : (p : Progress) → before_proof files job ≡ Ok p → verdict files job ≡ checked files job.proof (run_proof files job.proof p)
-  unfolding verdict run_check ◌>>=◌
+  unfolding verdict run_check run_check_after before_proof ◌>>=◌
   verdict-proof p e = ap (λ m. checked files job.proof (then_proof m)) e
 
   pub check-proof : (p : Progress) → before_proof files job ≡ Ok p → run_check files job ≡ run_proof files job.proof p
-  unfolding run_check ◌>>=◌
+  unfolding run_check run_check_after before_proof ◌>>=◌
   check-proof p e = ap then_proof e
 
 pub load-is : (files : Files) (name : List ℕ) → load_verdict files name ≡ loaded (run_load files name)

@@ -13,7 +13,7 @@ use Rattle.eo_sexp.specs.ReadNames.{AllCommands}
 use Rattle.eo_sexp.specs.Texts.{Reads, Then, Ends, Fails}
 use Rattle.eo_session.specs.State.{State, begin_reference}
 use Rattle.eo_session.specs.Commands.{step}
-use Rattle.eo_run.specs.Run.{Progress, Ran, Opener, Runner, with_included, ◌>>=◌, placed, or_fault, refusal_at, is_exit, run_commands, open_nothing, run_reference, include_file, refer_to_file, open_file, run_file, included_runner, include_limit, commands_of, run_signature, run_proof, run_job_reference, if_given}
+use Rattle.eo_run.specs.Run.{Progress, Ran, Opener, Runner, with_included, ◌>>=◌, placed, or_fault, refusal_at, is_exit, run_commands, open_nothing, run_reference, include_file, refer_to_file, open_file, run_file, included_runner, include_limit, commands_of, prelude_path, run_prelude, run_signature, run_proof, run_job_reference, if_given}
 use Rattle.eo_run.specs.Verdict.{Refusal}
 use Rattle.eo_session.specs.Origin.{Origin}
 use Rattle.eo_session.specs.Origin as origin
@@ -127,6 +127,12 @@ module _ (P : State → Type 0) (Allowed : Origin → Type 0) (R : Sexp → Type
     unfolding run_signature
     signature_keeps al name p q h e =
         let file = run_bind _ _ q e in file_keeps (included_runner files include_limit) (included_keeps include_limit) false file.0.0 origin.Signature file.0.1 p q al h file.2
+
+    pub prelude_keeps : Allowed origin.Signature → (prelude : Option (List ℕ)) (p q : Progress) → P p.state → run_prelude files prelude p ≡ Ok q → P q.state
+    unfolding run_prelude
+    prelude_keeps al None p q h e = same_keeps p q h e
+    prelude_keeps al (Some bytes) p q h e =
+        file_keeps (included_runner files include_limit) (included_keeps include_limit) false prelude_path origin.Signature bytes (with_included p prelude_path) q al h e
 
     pub proof_keeps : Allowed origin.Proof → (name : List ℕ) (p q : Progress) → P p.state → run_proof files name p ≡ Ok q → P q.state
     unfolding run_proof

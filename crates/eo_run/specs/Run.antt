@@ -1,5 +1,5 @@
 -- The run of the files of a check or a load: how far it comes, or the first fault with its place.
-use Rattle.std.specs.Prelude.{ℕ, zero, suc, Bool, true, false, if◌then◌else◌, List, [], Option, Some, None, Result, Ok, Err, bytes_eq, unwrap_or}
+use Rattle.std.specs.Prelude.{ℕ, zero, suc, Bool, true, false, if◌then◌else◌, List, [], Option, Some, None, Result, Ok, Err, bytes_eq, codes, unwrap_or}
 use Rattle.std.specs.List.{list_any}
 use Rattle.eo_base.specs.declared.FaultName.{FaultName}
 use Rattle.eo_base.specs.declared.FaultName.TheVariants.{BadPath, IncludeDepth, FileAbsent}
@@ -108,6 +108,10 @@ with_folded paths (Some name) = with_option paths (fold_path [] name)
 abbrev pub first_progress : CheckJob → Progress
 first_progress job = record { state = first_state job.closed; included = with_folded (with_folded [] job.include) (Some job.proof) }
 
+-- the path of a prelude
+abbrev pub prelude_path : List ℕ
+prelude_path = codes "cpc.eo"
+
 abbrev pub first_load : List ℕ → Progress
 first_load name = record { state = first_state false; included = with_folded [] (Some name) }
 
@@ -176,17 +180,31 @@ module _ (files : Files) where
     file ← job_file name
     run_reference file.0 file.1 (record p { state = st })
 
-  -- the include file, and then the reference file
-  unfoldable pub before_proof : CheckJob → Ran
-  before_proof job = do
-    p ← if_given run_signature job.include (first_progress job)
+  -- A prelude is the text of a signature. Its commands are run as those of an included file with this path.
+  unfoldable pub run_prelude : (prelude : Option (List ℕ)) → Progress → Ran
+  run_prelude None p = Ok p
+  run_prelude (Some bytes) p =
+      run_file (included_runner include_limit) false prelude_path origin.Signature bytes (with_included p prelude_path)
+
+  -- the prelude, the include file, and then the reference file
+  unfoldable pub before_proof_after : (prelude : Option (List ℕ)) → CheckJob → Ran
+  before_proof_after prelude job = do
+    first ← run_prelude prelude (first_progress job)
+    p ← if_given run_signature job.include first
     if_given run_job_reference job.reference p
 
   -- and then the proof
-  unfoldable pub run_check : CheckJob → Ran
-  run_check job = do
-    p ← before_proof job
+  unfoldable pub run_check_after : (prelude : Option (List ℕ)) → CheckJob → Ran
+  run_check_after prelude job = do
+    p ← before_proof_after prelude job
     run_proof job.proof p
+
+  -- without a prelude
+  unfoldable pub before_proof : CheckJob → Ran
+  before_proof job = before_proof_after None job
+
+  unfoldable pub run_check : CheckJob → Ran
+  run_check job = run_check_after None job
 
   -- a signature file alone
   unfoldable pub run_load : List ℕ → Ran

@@ -14,4 +14,3 @@ pub mod Special
 pub mod SuiteRun
 pub mod TruthVectors
 pub mod Validity
-pub mod Yields

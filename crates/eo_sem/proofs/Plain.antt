@@ -7,7 +7,7 @@ use Rattle.eo_sig.specs.Signature.{Signature}
 use Rattle.eo_type.specs.Types.{Typed, Untyped, on_typed, typed_if, application_type, type_of}
 use Rattle.eo_type.proofs.SettleLemmas.{typed_before, is_typed}
 use Rattle.eo_stack.specs.Evaluation.{Call, Eval, Stuck, node, on_value, eval_with}
-use Rattle.eo_sem.proofs.Yields.{Yields, ends_yields, none_yields, bind_yields, node_yields}
+use Rattle.eo_eval.proofs.Yields.{Yields, ends_yields, none_yields, bind_yields, node_yields}
 
 module _ (S : Signature) where
   pub typed_plain : (t u : Tree) → type_of S t ≡ Typed u → is_plain t ≡ true

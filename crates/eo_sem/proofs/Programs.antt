@@ -12,7 +12,7 @@ use Rattle.eo_stack.specs.Evaluation.{Call, Eval, first_match, body_of, eval_wit
 use Rattle.eo_sem.specs.Connectives.{disj, neg}
 use Rattle.eo_sem.specs.SuitePrograms.{program_cl, program_uncl, program_rl}
 use Rattle.eo_sem.specs.Truth.{Valuation, holds}
-use Rattle.eo_sem.proofs.Yields.{Yields}
+use Rattle.eo_eval.proofs.Yields.{Yields}
 use Rattle.eo_sem.proofs.Plain.{plain_yields}
 use Rattle.eo_sem.proofs.Lists.{items_plain, spell_plain, append_plain, erase_plain, or_list, or_spell, any_append, any_erase}
 use Rattle.eo_sem.proofs.Operators.{AnyChosen, first_chosen, call_yields, on_three, erase_yields, concat_yields}

@@ -12,7 +12,6 @@ use Rattle.eo_run.specs.Check.{checked}
 use Rattle.eo_run.specs.Run.{Ran, commands_of}
 use Rattle.eo_run.specs.Verdict.{Verdict, Correct, Refused}
 use Rattle.eo_sem.proofs.Accepted.{after_all, IfThere, then_there, all_there}
-use Rattle.eo_sem.specs.AfterPrelude.{run_prelude, before_proof_after, run_check_after}
 use Rattle.eo_sem.specs.Proving.{prove_run}
 use Rattle.eo_sem.specs.Reached.{ReachedBy, is_first, begins, accepts}
 use Rattle.eo_sem.specs.SemanticRules.{is_semantic}
@@ -88,7 +87,7 @@ contradicting =
     lines (codes "unsat" ∷ codes "(" ∷ codes "(declare-const p Bool)" ∷ codes "(define @t1 () (not p))" ∷ codes "(assume @p1 p)" ∷ codes "(assume @p2 @t1)" ∷ codes "(step @p3 false :rule contra :premises (@p1 @p2))" ∷ codes ")" ∷ [])
 
 contradicted : verdict contradiction contradicting ≡ Correct
-unfolding computed suite suite_state prove_run run_check_after before_proof_after run_prelude
+unfolding computed suite suite_state prove_run
 contradicted = refl
 
 contradicted_by_semantic : is_semantic_proof contradiction contradicting ≡ true
@@ -107,7 +106,7 @@ resolving =
     lines (assumed ++ (codes "(step @p4 q :rule resolution :premises (@p1 @p2) :args (true p))" ∷ codes "(step @p5 false :rule resolution :premises (@p4 @p3) :args (true q))" ∷ []))
 
 resolved : verdict clauses resolving ≡ Correct
-unfolding computed suite suite_state prove_run run_check_after before_proof_after run_prelude
+unfolding computed suite suite_state prove_run
 resolved = refl
 
 resolved_by_semantic : is_semantic_proof clauses resolving ≡ true
@@ -120,7 +119,7 @@ chaining =
     lines (assumed ++ codes "(step @p4 false :rule chain_resolution :premises (@p1 @p2 @p3) :args ((@list true true) (@list p q)))" ∷ [])
 
 chained : verdict clauses chaining ≡ Correct
-unfolding computed suite suite_state prove_run run_check_after before_proof_after run_prelude
+unfolding computed suite suite_state prove_run
 chained = refl
 
 chained_by_other : is_semantic_proof clauses chaining ≡ false
@@ -137,7 +136,7 @@ declaring =
     lines (codes "(declare-rule bad () :args () :conclusion false)" ∷ codes "(step @p1 false :rule bad)" ∷ [])
 
 declared : fault (verdict one_assertion declaring) ≡ Some (ProofDeclares, 1, 0)
-unfolding computed suite prove_run run_check_after before_proof_after run_prelude
+unfolding computed suite prove_run
 declared = refl
 
 -- a scope
@@ -150,7 +149,7 @@ discharging =
     lines (codes "(assume-push @h q)" ∷ codes "(step-pop @i :rule scope :premises (@h))" ∷ codes "(assume @n (not (=> q q)))" ∷ codes "(step @f false :rule contra :premises (@i @n))" ∷ [])
 
 discharged : verdict implications discharging ≡ Correct
-unfolding computed suite suite_state prove_run run_check_after before_proof_after run_prelude
+unfolding computed suite suite_state prove_run
 discharged = refl
 
 discharged_by_semantic : is_semantic_proof implications discharging ≡ true

@@ -1,15 +1,13 @@
 -- A proof by rules that keep truth refutes its assertions, and what a run of a proof reaches.
-use Rattle.std.specs.Prelude.{◌≡◌, ◌≢◌, ℕ, Bool, true, false, List, Option, Some, None, Ok, refl}
+use Rattle.std.specs.Prelude.{◌≡◌, ◌≢◌, ℕ, true, List, Option, Some, None, Ok, refl}
 use Rattle.std.proofs.Common.{sym, ◌∙◌, ap, subst}
 use Rattle.std.proofs.lemmas.Option.{same_Some}
-use Rattle.eo_base.specs.declared.FaultName.{FaultName}
 use Rattle.eo_cpc.specs.Suite.{suite}
 use Rattle.eo_io.specs.Library.{Files}
 use Rattle.eo_io.specs.Paths.{with_path}
 use Rattle.eo_run.proofs.Runs.{Keeping, any_commands, run_bind, run_ok, job_reference_keeps, proof_keeps}
-use Rattle.eo_run.specs.Check.{ended}
-use Rattle.eo_run.specs.Run.{Progress, included_runner, include_limit, first_progress}
-use Rattle.eo_sem.specs.AfterPrelude.{run_check_after, before_proof_after, prelude_path, run_prelude}
+use Rattle.eo_run.proofs.Soundness.{correct_ended}
+use Rattle.eo_run.specs.Run.{Progress, included_runner, include_limit, first_progress, run_check_after, before_proof_after, prelude_path, run_prelude}
 use Rattle.eo_rule.specs.ByRules.{any_rule}
 use Rattle.eo_sem.proofs.SuiteRun.{state_after, suite_runs}
 use Rattle.eo_sem.proofs.Validity.{reached_refutes}
@@ -17,7 +15,6 @@ use Rattle.eo_sem.specs.CommandLaws.{CommandLaws}
 use Rattle.eo_sem.specs.Proving.{prove_job, prove_run, IsProved, IsRefuted}
 use Rattle.eo_sem.specs.Reached.{ReachedBy, is_first, begins, accepts}
 use Rattle.eo_sem.specs.Suite.{suite_state}
-use Rattle.eo_run.specs.Verdict.{Correct}
 use Rattle.eo_session.specs.Origin.{Origin}
 use Rattle.eo_session.specs.Origin as origin
 use Rattle.eo_session.specs.State.{State, end_fault}
@@ -25,11 +22,6 @@ use Rattle.eo_sexp.specs.Sexp.{Sexp}
 use Rattle.eo_sound.specs.RulesUsed.{may_use, sexp_rule}
 
 -- ---- what is proved
-
-correct_ended : (files : Files) (proof : List ℕ) (sorry : Bool) (o : Option FaultName) → ended files proof sorry o ≡ Correct → (o ≡ None) × (sorry ≡ false)
-correct_ended files proof sorry (Some name) e = absurd (cc e)
-correct_ended files proof true None e = absurd (cc e)
-correct_ended files proof false None e = (refl, refl)
 
 pub proved_refutes : CommandLaws → (files : Files) (reference proof : List ℕ) → IsProved files reference proof → IsRefuted files reference proof
 proved_refutes laws files reference proof h =

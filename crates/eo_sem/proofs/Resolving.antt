@@ -6,7 +6,7 @@ use Rattle.eo_sig.specs.Signature.{Signature}
 use Rattle.eo_stack.specs.Evaluation.{Call, Eval, eval_with, eval_all_with, call_within}
 use Rattle.eo_sem.specs.Building.{call}
 use Rattle.eo_sem.specs.Truth.{Valuation}
-use Rattle.eo_sem.proofs.Yields.{Yields, bind_yields}
+use Rattle.eo_eval.proofs.Yields.{Yields, bind_yields}
 use Rattle.eo_sem.proofs.Plain.{plain_yields}
 use Rattle.eo_sem.proofs.Operators.{Nothing, First, none_yield, more_yield}
 use Rattle.eo_sem.proofs.Programs.{HasClauses, IsAsTrue, IsResolvent, cl_yields, uncl_yields, rl_yields}

@@ -15,7 +15,7 @@ use Rattle.eo_rule.specs.Instance.{IsInstance, guarded_conclusion}
 use Rattle.eo_sem.specs.Connectives.{impl}
 use Rattle.eo_sem.specs.SuiteRules.{the_and_elim, the_and_intro, the_resolution, the_scope}
 use Rattle.eo_sem.specs.Truth.{Valuation, holds}
-use Rattle.eo_sem.proofs.Yields.{Yields}
+use Rattle.eo_eval.proofs.Yields.{Yields}
 use Rattle.eo_sem.proofs.Plain.{typed_plain, plain_yields}
 use Rattle.eo_sem.proofs.Fixed.{EachHolds}
 use Rattle.eo_sem.proofs.Lists.{and_list, and_spell, item_holds}

@@ -1,4 +1,3 @@
-pub mod AfterPrelude
 pub mod Building
 pub mod CommandLaws
 pub mod Connectives

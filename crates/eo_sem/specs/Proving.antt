@@ -3,8 +3,7 @@ use Rattle.std.specs.Prelude.{◌≡◌, ℕ, true, List, Some, None, Ok}
 use Rattle.eo_cpc.specs.Suite.{suite}
 use Rattle.eo_io.specs.Library.{Files}
 use Rattle.eo_run.specs.Check.{checked}
-use Rattle.eo_run.specs.Run.{Progress, Ran}
-use Rattle.eo_sem.specs.AfterPrelude.{run_check_after}
+use Rattle.eo_run.specs.Run.{Progress, Ran, run_check_after}
 use Rattle.eo_run.specs.Verdict.{Correct}
 use Rattle.eo_run.specs.declared.CheckJob.{CheckJob}
 use Rattle.eo_sem.specs.Reached.{ReachedBy}
