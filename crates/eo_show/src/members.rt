@@ -89,7 +89,8 @@ impl Members {
             (tree_at table.now.trees id) self.new.found.keys self.new.forms.items frames.new.items) }
         ensures shorter { OnOk result (turns_in (signature table.now.trees sig.now) table.now
             (tree_at table.now.trees id) self.new.found.keys frames.new.items
-            < turns_in (signature table.now.trees sig.now) table.now (tree_at table.now.trees id) self.old.found.keys (frames.old.items ++ frame ∷ [])) }
+            < turns_in (signature table.now.trees sig.now) table.now (tree_at table.now.trees id) self.old.found.keys
+            (frames.old.items ++ frame ∷ [])) }
         ensures refused { IsUnprintable result → is_unprintable (signature table.now.trees sig.now) (tree_at table.now.trees id) ≡ true }
     {
         let Some(part) = frame.part() else {

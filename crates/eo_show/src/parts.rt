@@ -8,7 +8,8 @@ ghost use Rattle.eo_show.specs.Forms as forms;
 ghost use Rattle.eo_show.specs.Forms.{alone, is_this, name_of, form, by_head, head_of, arguments_of};
 ghost use Rattle.eo_show.specs.declared.Shape.TheVariants as shape;
 ghost use Rattle.eo_show.specs.Members.{has_no_spelling};
-ghost use Rattle.eo_show.specs.Plan.{TellsLengths, IsMemberOf, AreMembersOf, IsForm, IsLive, member_tree, first_items, last_arguments, without_arguments, Applies, Knows, KnowsAll, GivesForm, short_list, folding};
+ghost use Rattle.eo_show.specs.Plan.{TellsLengths, IsMemberOf, AreMembersOf, IsForm, IsLive, member_tree, first_items, last_arguments};
+ghost use Rattle.eo_show.specs.Plan.{without_arguments, Applies, Knows, KnowsAll, GivesForm, short_list, folding};
 
 use crate::lengths::{Lengths, MANY_ARGUMENTS, MANY_ITEMS, unlink};
 use crate::spelling::spell_string;

@@ -21,7 +21,8 @@ pub(crate) fn count_places(
     requires live { All (IsLive table.now) members.now.found.keys }
     requires parts { All (λ f. All (IsLive table.now) f.parts.items) members.now.forms.items }
     ensures { (S : Signature) → HaveForms S table.now members.now.found.keys members.now.forms.items →
-        IfOk result (λ v. v.items ≡ map (some_places S (member_trees table.now members.now.found.keys)) (member_trees table.now members.now.found.keys)) }
+        IfOk result (λ v. v.items ≡ map (some_places S (member_trees table.now members.now.found.keys))
+        (member_trees table.now members.now.found.keys)) }
 {
     let mut places = vec![in alloc; 0u8; members.len()]?;
     for form in &members.forms {

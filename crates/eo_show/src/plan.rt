@@ -70,7 +70,8 @@ fn plan_of(
     ensures members { IfOk result (λ p. p.members ≡ members) }
     ensures numbers { (u : Tree) → member_trees table.now members.found.keys ≡ spec.members (signature table.now.trees sig.now) u →
         IfOk result (λ p. p.numbers.items ≡ numbers_from (signature table.now.trees sig.now) (macros table.now.trees sig.now) 1
-        (map (gets_line (signature table.now.trees sig.now) (member_trees table.now members.found.keys) u) (member_trees table.now members.found.keys))) }
+        (map (gets_line (signature table.now.trees sig.now) (member_trees table.now members.found.keys) u)
+        (member_trees table.now members.found.keys))) }
 {
     let places = count_places(alloc, table, &members)?;
     let wants = find_lines(alloc, sig, table, &members, places.as_slice())?;

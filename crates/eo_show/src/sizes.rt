@@ -1,5 +1,6 @@
 //! How high and how long members are written, and which of them get a line.
-ghost use Rattle.std.specs.Prelude.{◌≡◌, ◌&&◌, ◌||◌, ◌<◌, if◌then◌else◌, false, ℕ, List, Some, [], Contains, fold, length, nat_le, map, slice_get, slice_index_or, take, All, IfOk};
+ghost use Rattle.std.specs.Prelude.{◌≡◌, ◌&&◌, ◌||◌, ◌<◌, if◌then◌else◌, false, ℕ, List, Some, []};
+ghost use Rattle.std.specs.Prelude.{Contains, fold, length, nat_le, map, slice_get, slice_index_or, take, All, IfOk};
 ghost use Rattle.eo_term.specs.Tree.{Tree, Con};
 ghost use Rattle.eo_sexp.specs.AtomKind.{AtomKind};
 ghost use Rattle.eo_sig.specs.Reading.{signature};

@@ -1,5 +1,6 @@
 //! The lines as bytes.
-ghost use Rattle.std.specs.Prelude.{◌≡◌, ◌+◌, ◌^◌, ◌<◌, ◌++◌, ◌∷◌, [], false, IfSome, ℕ, List, Option, Some, length, map, slice_get, slice_index_or, All, OnOk};
+ghost use Rattle.std.specs.Prelude.{◌≡◌, ◌+◌, ◌^◌, ◌<◌, ◌++◌, ◌∷◌, [], false, IfSome, ℕ};
+ghost use Rattle.std.specs.Prelude.{List, Option, Some, length, map, slice_get, slice_index_or, All, OnOk};
 ghost use Rattle.eo_sexp.specs.AtomKind.{AtomKind};
 ghost use Rattle.eo_sexp.specs.Printing.{printed, printed_atom, printed_lines};
 ghost use Rattle.eo_sig.specs.Reading.{signature};

@@ -7,7 +7,8 @@ use super::Table;
 impl Table {
     /// No two texts are the same. A call costs nothing: it tells a proof this.
     pub fn text_laws(&self)
-        ensures { (i j : ℕ) → i < length self.now.texts → j < length self.now.texts → text_at self.now.texts i ≡ text_at self.now.texts j → i ≡ j }
+        ensures { (i j : ℕ) → i < length self.now.texts → j < length self.now.texts →
+            text_at self.now.texts i ≡ text_at self.now.texts j → i ≡ j }
     {
         let _count = self.nodes.len();
     }
