@@ -1,12 +1,15 @@
 //! Commands of a session, by known answers.
 mod run;
+mod watcher;
 
 use eo_base::FaultName::UnknownRule;
+use eo_session::Origin;
 use run::Answer::{Done, Ended, Fault};
 use run::{Row, Run, tell};
 use std::alloc::Global;
 use std::process::Abort;
 use std::test::Fail;
+use watcher::{Kind, Noted};
 
 // A function that is lent a new session finds no row that is wrong.
 fn all_right<F: FnOnce(&mut Run) -> Result<Option<usize>, Fail>>(
@@ -244,4 +247,160 @@ fn doubled(before: u16, k: u16) -> [u8; 32] {
     text[28] = digit(before / 10);
     text[29] = digit(before);
     text
+}
+
+#[test]
+fn commands_in_scopes_are_seen(rt: HostRuntime) -> Result<(), Fail> {
+    all_right(&rt, rt.alloc(), with_scopes_seen)
+}
+
+// Rules over formulas, and two scopes with an assumption of the same name, one of which has a macro.
+const SEEN_IN_SCOPES: &[Noted<'static>] = &[
+    (b"(declare-const p Bool)", Kind::Declare, 0, &[]),
+    (b"(declare-const not (-> Bool Bool))", Kind::Declare, 0, &[]),
+    (
+        b"(declare-const or (-> Bool Bool Bool) :right-assoc-nil false)",
+        Kind::Declare,
+        0,
+        &[],
+    ),
+    (
+        b"(declare-rule id ((a Bool)) :premises (a) :args (a) :conclusion a)",
+        Kind::Declare,
+        0,
+        &[],
+    ),
+    (
+        b"(declare-rule first ((a Bool) (b Bool)) :premises (a b) :conclusion a)",
+        Kind::Declare,
+        0,
+        &[],
+    ),
+    (
+        b"(declare-rule scope ((a Bool) (b Bool)) :assumption a :premises (b) :conclusion (or (not a) b))",
+        Kind::Declare,
+        0,
+        &[],
+    ),
+    (b"(assume-push @h p)", Kind::Push, 0, &[]),
+    (b"(define @t () p)", Kind::Define, 1, &[]),
+    (
+        b"(step @i :rule id :premises (@h) :args (@t))",
+        Kind::Step,
+        1,
+        &[6],
+    ),
+    (b"(assume-push @k (not p))", Kind::Push, 1, &[]),
+    (
+        b"(step @j :rule first :premises (@k @i))",
+        Kind::Step,
+        2,
+        &[9, 8],
+    ),
+    (
+        b"(step-pop @a :rule scope :premises (@i))",
+        Kind::Pop,
+        2,
+        &[8],
+    ),
+    (
+        b"(step-pop @b :rule scope :premises (@a))",
+        Kind::Pop,
+        1,
+        &[11],
+    ),
+    (b"(assume-push @h (not p))", Kind::Push, 0, &[]),
+    (
+        b"(step @i :rule first :premises (@h @h))",
+        Kind::Step,
+        1,
+        &[13, 13],
+    ),
+    (
+        b"(step-pop @c :rule scope :premises (@h))",
+        Kind::Pop,
+        1,
+        &[13],
+    ),
+    (
+        b"(step @d :rule first :premises (@c @b))",
+        Kind::Step,
+        0,
+        &[15, 12],
+    ),
+    (
+        b"(step @e :rule first :premises (@d @h))",
+        Kind::Refused,
+        0,
+        &[],
+    ),
+    (b"(define @u () p)", Kind::Refused, 0, &[]),
+];
+
+fn with_scopes_seen(run: &mut Run) -> Result<Option<usize>, Fail> {
+    run.seen_wrong(SEEN_IN_SCOPES, Origin::Proof(0))
+}
+
+#[test]
+fn commands_of_a_reference_file_are_seen(rt: HostRuntime) -> Result<(), Fail> {
+    all_right(&rt, rt.alloc(), with_reference_seen)
+}
+
+// What a signature declares.
+const SEEN_IN_SIGNATURE: &[Noted<'static>] = &[
+    (b"(declare-const not (-> Bool Bool))", Kind::Declare, 0, &[]),
+    (b"(declare-consts <string> Bool)", Kind::Declare, 0, &[]),
+    (
+        b"(program $same ((a Bool)) :signature (Bool) Bool ((($same a) a)))",
+        Kind::Declare,
+        0,
+        &[],
+    ),
+    (
+        b"(declare-rule contra ((a Bool)) :premises (a (not a)) :conclusion false)",
+        Kind::Declare,
+        0,
+        &[],
+    ),
+    (b"(include \"more.eo\")", Kind::Other, 0, &[]),
+];
+
+// A reference file that declares, defines and asserts.
+const SEEN_IN_REFERENCE: &[Noted<'static>] = &[
+    (b"(set-logic QF_UF)", Kind::Other, 0, &[]),
+    (b"(declare-const p Bool)", Kind::Declare, 0, &[]),
+    (b"(declare-fun q () Bool)", Kind::Declare, 0, &[]),
+    (b"(define-fun np () Bool (not p))", Kind::Define, 0, &[]),
+    (b"(assert p)", Kind::Assert, 0, &[]),
+    (b"(assert np)", Kind::Assert, 0, &[]),
+    (b"(exit)", Kind::Other, 0, &[]),
+];
+
+// A proof that repeats a constant and a macro of the reference file.
+const SEEN_IN_PROOF: &[Noted<'static>] = &[
+    (b"(declare-const p Bool)", Kind::Other, 0, &[]),
+    (b"(define np () (not p))", Kind::Other, 0, &[]),
+    (b"(define @q () q)", Kind::Define, 0, &[]),
+    (b"(assume @p1 p)", Kind::Assume, 0, &[]),
+    (b"(assume @p2 np)", Kind::Assume, 0, &[]),
+    (
+        b"(step @p3 false :rule contra :premises (@p1 @p2))",
+        Kind::Step,
+        0,
+        &[15, 16],
+    ),
+    (b"(assume @p4 q)", Kind::Refused, 0, &[]),
+];
+
+fn with_reference_seen(run: &mut Run) -> Result<Option<usize>, Fail> {
+    let first = run.seen_wrong(SEEN_IN_SIGNATURE, Origin::Signature(0))?;
+    if first.is_some() {
+        return Ok(first);
+    }
+    run.begin_reference()?;
+    let second = run.seen_wrong(SEEN_IN_REFERENCE, Origin::Reference(1))?;
+    if second.is_some() {
+        return Ok(second);
+    }
+    run.seen_wrong(SEEN_IN_PROOF, Origin::Proof(2))
 }

@@ -2,6 +2,7 @@
 ghost use Rattle.std.specs.Prelude.{IsTrue};
 ghost use Rattle.eo_sexp.specs.Collecting.{IsAtCommand, IsLive};
 
+use crate::tests::watcher::{Noted, Watcher};
 use eo_base::FaultName;
 use eo_session::{Origin, Refused, Session};
 use eo_sexp::{Collector, Fed, Sexp};
@@ -63,6 +64,40 @@ impl Run {
         Ok(self.answer(text)? == want)
     }
 
+    /// Begins the reference file.
+    pub(super) fn begin_reference(&mut self) -> Result<(), Fail> {
+        match self.session.begin_reference() {
+            Ok(()) => Ok(()),
+            Err(Refused::Memory(e)) => Err(e.into()),
+            Err(_) => Err(Fail::new("a second reference file")),
+        }
+    }
+
+    /// The first row whose text, as a command of this file, is seen in another way than the row says, if
+    /// one is.
+    pub(super) fn seen_wrong(
+        &mut self,
+        rows: &[Noted<'_>],
+        from: Origin,
+    ) -> Result<Option<usize>, Fail> {
+        for i in 0..rows.len() {
+            if !self.is_seen_right(rows[i], from)? {
+                return Ok(Some(i));
+            }
+        }
+        Ok(None)
+    }
+
+    // Whether the command of a row is seen as the row says.
+    fn is_seen_right(&mut self, row: Noted<'_>, from: Origin) -> Result<bool, Fail> {
+        let Some(text) = read(self.alloc, row.0)? else {
+            return Err(Fail::new("no command"));
+        };
+        let right = watched(&mut self.session, &text, row, from);
+        drop(text);
+        right
+    }
+
     // What the command of a text is answered.
     fn answer(&mut self, text: &[u8]) -> Result<Answer, Fail> {
         let Some(text) = read(self.alloc, text)? else {
@@ -95,6 +130,17 @@ fn told(session: &mut Session, text: &Text) -> Result<Answer, Fail> {
         Err(Refused::Fault(name)) => Ok(Answer::Fault(name)),
         Err(Refused::Ended) => Ok(Answer::Ended),
         Err(Refused::Memory(e)) => Err(e.into()),
+    }
+}
+
+// Whether the command of a text is seen as its row says.
+fn watched(session: &mut Session, text: &Text, row: Noted<'_>, from: Origin) -> Result<bool, Fail> {
+    let mut watcher = Watcher::new(row, from, session.commands());
+    let (bytes, place) = (watcher.text(), watcher.place());
+    match session.command_by(&text.sexp(), from, bytes, place, &mut watcher) {
+        Ok(_) => Ok(watcher.is_seen()),
+        Err(Refused::Memory(e)) => Err(e.into()),
+        Err(_) => Ok(watcher.is_unseen()),
     }
 }
 
