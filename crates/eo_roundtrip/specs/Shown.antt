@@ -1,5 +1,5 @@
 -- The lines that a value is shown by read back as it.
-use Rattle.std.specs.Prelude.{◌≡◌, ℕ, false, None, Some, List, [], ◌∷◌, ◌++◌, map, Ok}
+use Rattle.std.specs.Prelude.{◌≡◌, ℕ, ◌+◌, ◌^◌, ◌<◌, false, None, Some, List, [], ◌∷◌, ◌++◌, map, length, Ok}
 use Rattle.eo_base.specs.Checks.{Checked, ◌>>=◌}
 use Rattle.eo_base.specs.Limits.{limits}
 use Rattle.eo_term.specs.Operators.{operator_named}
@@ -15,8 +15,10 @@ use Rattle.eo_stack.specs.Evaluation.{Value, eval0}
 use Rattle.eo_session.specs.State.{State, context}
 use Rattle.eo_session.specs.Origin.{Signature as InSignature}
 use Rattle.eo_session.specs.Commands.{step}
+use Rattle.eo_session.specs.Step.{value_named}
 use Rattle.eo_show.specs.Forms.{name_of, symbol}
 use Rattle.eo_show.specs.Lines.{Line, lines_of, shown_lines, shown}
+use Rattle.eo_show.specs.Members.{defined, is_unprintable}
 use Rattle.eo_show.specs.Printable.{ArePrintedNames, CanShow}
 
 -- the commands of a signature, one after another
@@ -57,3 +59,13 @@ pub record ReadsBack (st : State) (t : Tree) : Type 0 where
 -- Each value of a state that can be shown is shown by lines that read back as it.
 abbrev pub ShowsBack : State → Type 0
 ShowsBack st = (t : Tree) → CanShow st.signature st.macros t → ReadsBack st t
+
+-- ---- the values of names
+
+-- Lines few enough that their numbers, and those of the names that are taken, are below 2^64.
+abbrev pub HasRoom : State → Tree → Type 0
+HasRoom st t = length (defined st.signature t) + length st.signature + length st.macros < 2 ^ 64
+
+-- Each value that a name has in a state is shown by lines that read back as it, where it has a spelling and room for its lines.
+abbrev pub ValuesShowBack : State → Type 0
+ValuesShowBack st = (name : List ℕ) (t : Tree) → value_named st name ≡ Ok t → is_unprintable st.signature t ≡ false → HasRoom st t → ReadsBack st t

@@ -6,10 +6,12 @@ ghost use Rattle.eo_io.specs.Library.{Files};
 ghost use Rattle.eo_run.specs.Run.{Progress, run_check, run_load};
 ghost use Rattle.eo_run.specs.declared.CheckJob.{CheckJob};
 ghost use Rattle.eo_session.specs.State.{State};
-ghost use Rattle.eo_roundtrip.specs.Shown.{IsNamed, ShowsBack};
+ghost use Rattle.eo_roundtrip.specs.Shown.{IsNamed, ShowsBack, ValuesShowBack};
 
+use eo_eval::values_law;
 use eo_sexp::printed_law;
 use eo_show::lines_law;
+use eo_sound::commands_law;
 
 /// A law: the lines that a value is shown by read back as it. They are read as commands; these are
 /// accepted, one after another; and then the name of the last of them stands for a tree that
@@ -17,9 +19,15 @@ use eo_show::lines_law;
 ///
 /// So it is in each state whose constants have names that can be read and printed. Each file that is
 /// loaded ends in such a state, and so does each check.
+///
+/// Each value that a name has at the end of a file is within the limits of height, of numbers, bit
+/// strings and characters. So it reads back where each part of it has a spelling and its lines, with
+/// the declarations and macros of the file, are fewer than 2^64.
 pub fn shown_law()
     ensures state { (st : State) → IsNamed st.signature → ShowsBack st }
     ensures load { (files : Files) (name : List ℕ) (final : Progress) → run_load files name ≡ Ok final → ShowsBack final.state }
+    ensures load_values { (files : Files) (name : List ℕ) (final : Progress) → run_load files name ≡ Ok final →
+        ValuesShowBack final.state }
     ensures load_names { (files : Files) (name : List ℕ) (final : Progress) → run_load files name ≡ Ok final →
         IsNamed final.state.signature }
     ensures check_names { (files : Files) (job : CheckJob) (final : Progress) → run_check files job ≡ Ok final →
@@ -27,4 +35,6 @@ pub fn shown_law()
 {
     printed_law();
     lines_law();
+    values_law();
+    commands_law();
 }

@@ -1,0 +1,171 @@
+-- What a head makes of arguments within their ranges is within its ranges.
+use Rattle.std.specs.Prelude.{◌≡◌, ℕ, ◌≤◌, Bool, true, false, ◌&&◌, nat_le, ◌==◌, if◌then◌else◌, List, [], ◌∷◌, length, drop, Option, Some, None, option_map, slice_get, codes, ◌%◌, ◌^◌, Ok, refl}
+use Rattle.std.specs.List.{starts_with}
+use Rattle.std.proofs.lemmas.Bool.{leb-true}
+use Rattle.std.proofs.lemmas.Nat.{mod_below, pow_pos}
+use Rattle.eo_base.specs.declared.FaultName.TheVariants.{BadCommand, BadArity}
+use Rattle.eo_base.specs.Checks.{Checked}
+use Rattle.eo_base.specs.Limits.{bits_limit}
+use Rattle.eo_base.proofs.Tests.{both, join}
+use Rattle.eo_lit.specs.Literals.{numeral}
+use Rattle.eo_pattern.specs.Matching.{put}
+use Rattle.eo_sexp.specs.Sexp.{Sexps, NoSexp, Next}
+use Rattle.eo_shape.specs.Words.{symbol_of, numeral_of}
+use Rattle.eo_sig.specs.Signature.{Attribute, Binder}
+use Rattle.eo_term.specs.Tree.{Tree, Con, Bits, Op, to_trees}
+use Rattle.eo_names.specs.Contexts.{Context, Local, is_list, is_reference}
+use Rattle.eo_names.specs.Folding.{applied, attribute_at, least, folded, arrow, plainly}
+use Rattle.eo_names.specs.Meanings.{Meant, ATree, AMacro, AnOperator, Nothing, meant, Word, Underscore, Arrow, Let, Annotation, Name, word_of}
+use Rattle.eo_names.specs.Readers.{Reader, ◌>>=◌, read, built}
+use Rattle.eo_elab.specs.Meaning.{count, is_let, begins_with_pairs, is_annotated, bits_of, bit_vector, Application, Wrong, Binds, Uses, ListForm, ALet, AnAnnotation, ABitString, AnApplication, ATermFirst, where_many, at_least, exactly, plain_use, folded_use, constant_use, tree_use, meant_use, underscore_form, word_form, head_form, counted_form, list_form, used}
+use Rattle.eo_roundtrip.proofs.Ranges.{IsWithin, AreWithin, bits-fit}
+use Rattle.eo_roundtrip.proofs.Puts.{SomeWithin, puts-arguments, put-within, to-trees-within}
+use Rattle.eo_roundtrip.proofs.FoldsWithin.{PassesWithin, ok_within, applied_uses, folded_uses}
+use Rattle.eo_roundtrip.proofs.SymbolsWithin.{HoldsWithin, folds, LocalsWithin, MeantWithin, meant_within}
+use Rattle.eo_roundtrip.proofs.ReadingsWithin.{Reads, bind_reads, fail_reads, read_reads, built_reads}
+
+-- of arguments within their ranges it makes what is
+abbrev pub ApplicationFits : Sexps → Application → Type 0
+ApplicationFits args (Wrong fault) = Unit {0}
+ApplicationFits args (Binds f collector) = Unit {0}
+ApplicationFits args (Uses made) = (ts : List Tree) → AreWithin ts → PassesWithin (made ts)
+
+abbrev HeadFits : Sexps → ListForm → Type 0
+HeadFits args ALet = Unit {0}
+HeadFits args AnAnnotation = Unit {0}
+HeadFits args (ABitString t) = IsWithin t
+HeadFits args (AnApplication u) = ApplicationFits args u
+HeadFits args ATermFirst = Unit {0}
+
+-- the form of a list with its head
+abbrev pub FormFits : Sexps → ListForm → Type 0
+FormFits NoSexp form = Unit {0}
+FormFits (Next h args) form = HeadFits args form
+
+-- ---- without a constant
+
+bits_within : (a s : Bool) (width : ℕ) (o : Option ℕ) → (a ≡ true → width ≤ bits_limit) → SomeWithin (if a && s then option_map (λ v. Bits width (v % 2 ^ width)) o else None)
+bits_within true true width (Some v) few = bits-fit width (v % 2 ^ width) (few refl) (mod_below v (2 ^ width) (pow_pos width))
+bits_within true true width None few = tt
+bits_within true false width o few = tt
+bits_within false s width o few = tt
+
+bits_of_within : (name : Option (List ℕ)) (width : Option ℕ) → SomeWithin (bits_of name width)
+bits_of_within (Some name) (Some width) = by_tests (nat_le 1 width) (nat_le width 128) refl
+  where
+    by_tests : (a b : Bool) → nat_le width 128 ≡ b → SomeWithin (if a && b && starts_with ◌==◌ name (codes "bv") then option_map (λ v. Bits width (v % 2 ^ width)) (numeral (drop 2 name)) else None)
+    by_tests true true e = bits_within true (starts_with ◌==◌ name (codes "bv")) width (numeral (drop 2 name)) (λ k. leb-true width 128 e)
+    by_tests true false e = tt
+    by_tests false b e = tt
+bits_of_within name width = tt
+
+bit_vector_within : (args : Sexps) → SomeWithin (bit_vector args)
+bit_vector_within (Next n (Next w NoSexp)) = bits_of_within (symbol_of n) (numeral_of w)
+bit_vector_within args = tt
+
+arrow_within : (ts : List Tree) → AreWithin ts → IsWithin (arrow ts)
+arrow_within [] h = refl
+arrow_within (a ∷ []) h = (both h).0
+arrow_within (a ∷ b ∷ rest) h = join (both h).0 (arrow_within (b ∷ rest) (both h).1)
+
+plainly_within : (ts : List Tree) → AreWithin ts → IsWithin (plainly ts)
+plainly_within [] h = refl
+plainly_within (f ∷ args) h = applied_uses f args (both h).0 (both h).1
+
+-- ---- numbers of arguments
+
+where_many_fits : (args : Sexps) (b : Bool) (made : List Tree → Checked Tree) →
+    ((ts : List Tree) → AreWithin ts → PassesWithin (made ts)) → ApplicationFits args (where_many b made)
+where_many_fits args true made h = h
+where_many_fits args false made h = tt
+
+at_least_fits : (args : Sexps) (n : ℕ) (made : List Tree → Checked Tree) →
+    ((ts : List Tree) → AreWithin ts → PassesWithin (made ts)) → ApplicationFits args (at_least args n made)
+at_least_fits args n made h = where_many_fits args (nat_le n (count args)) made h
+
+exactly_fits : (args : Sexps) (n : ℕ) (made : List Tree → Checked Tree) →
+    ((ts : List Tree) → AreWithin ts → PassesWithin (made ts)) → ApplicationFits args (exactly args n made)
+exactly_fits args n made h = where_many_fits args (count args == n) made h
+
+module _ (c : Context) (fits : HoldsWithin c) (locals : List Local) (locals_fit : LocalsWithin locals) where
+  module _ (args : Sexps) where
+    plain_fits : (f : Tree) → IsWithin f → ApplicationFits args (plain_use args f)
+    plain_fits f u = at_least_fits args 1 (λ ts. Ok (applied f ts)) (λ ts g. ok_within (applied f ts) (applied_uses f ts u g))
+
+    folded_fits : (f : ℕ) → ApplicationFits args (folded_use c locals args f)
+    folded_fits f =
+        at_least_fits args (least (attribute_at c.signature f)) (folded c.signature (is_list locals) f)
+        (folded_uses c.signature (folds c fits) (is_list locals) f)
+
+    constant_fits : (f : ℕ) (a : Attribute) → ApplicationFits args (constant_use c locals args f a)
+    constant_fits f (Binder collector) = by_pairs (begins_with_pairs args)
+      where
+        by_pairs : (b : Bool) → ApplicationFits args (if b then Binds f collector else folded_use c locals args f)
+        by_pairs true = tt
+        by_pairs false = folded_fits f
+    constant_fits f a = folded_fits f
+
+    pub tree_fits : (f : Tree) → IsWithin f → ApplicationFits args (tree_use c locals args f)
+    tree_fits (Con f) u = constant_fits f (attribute_at c.signature f)
+    tree_fits f u = plain_fits f u
+
+    meant_fits : (m : Meant) → MeantWithin m → ApplicationFits args (meant_use c locals args m)
+    meant_fits (ATree t) u = tree_fits t u
+    meant_fits (AMacro m) u =
+        exactly_fits args (length m.parameters) (λ ts. Ok (put (slice_get ts) m.tree))
+        (λ ts g. ok_within (put (slice_get ts) m.tree) (put-within (slice_get ts) (puts-arguments ts g) m.tree u))
+    meant_fits (AnOperator code arity) u =
+        exactly_fits args arity (λ ts. Ok (Op code (to_trees ts)))
+        (λ ts g. ok_within (Op code (to_trees ts)) (to-trees-within ts g))
+    meant_fits Nothing u = tt
+
+    underscore_fits : (o : Option Tree) → SomeWithin o → HeadFits args (underscore_form c locals args o)
+    underscore_fits (Some t) u = u
+    underscore_fits None u =
+        at_least_fits args 2 (λ ts. Ok (plainly ts)) (λ ts g. ok_within (plainly ts) (plainly_within ts g))
+
+    bits_or_none : (b : Bool) → SomeWithin (if b then bit_vector args else None)
+    bits_or_none true = bit_vector_within args
+    bits_or_none false = tt
+
+    if_fits : (b : Bool) (form : ListForm) → HeadFits args form → HeadFits args (if b then form else AnApplication (Wrong BadCommand))
+    if_fits true form u = u
+    if_fits false form u = tt
+
+    word_fits : (w : Word) (m : Meant) → MeantWithin m → HeadFits args (word_form c locals args w m)
+    word_fits Underscore m u =
+        underscore_fits (if is_reference c.setting then bit_vector args else None) (bits_or_none (is_reference c.setting))
+    word_fits Arrow m u = at_least_fits args 2 (λ ts. Ok (arrow ts)) (λ ts g. ok_within (arrow ts) (arrow_within ts g))
+    word_fits Let m u = if_fits (is_let args) ALet tt
+    word_fits Annotation m u = if_fits (is_annotated c.setting args) AnAnnotation tt
+    word_fits Name m u = meant_fits m u
+
+    head_fits : (word : Option (List ℕ)) → HeadFits args (head_form c locals args word)
+    head_fits None = tt
+    head_fits (Some name) = word_fits (word_of c.setting name) (meant c locals name) (meant_within c fits locals locals_fit name)
+
+    counted_fits : (word : Option (List ℕ)) → HeadFits args (counted_form c locals args word)
+    counted_fits word = by_count (nat_le 1 (count args))
+      where
+        by_count : (b : Bool) → HeadFits args (if b then head_form c locals args word else AnApplication (Wrong BadArity))
+        by_count true = head_fits word
+        by_count false = tt
+
+  pub form_fits : (ss : Sexps) → FormFits ss (list_form c locals ss)
+  form_fits NoSexp = tt
+  form_fits (Next h args) = counted_fits args (symbol_of h)
+
+-- ---- readings
+
+pub used_reads : (args : Sexps) (u : Application) → ApplicationFits args u →
+    (arguments : Reader (List Tree)) → Reads arguments AreWithin →
+    (in_binder : ℕ → Reader (List Tree)) → ((k : ℕ) → Reads (in_binder k) AreWithin) →
+    Reads (used u arguments in_binder) IsWithin
+used_reads args (Wrong fault) f arguments h in_binder k = fail_reads IsWithin fault
+used_reads args (Binds f collector) x arguments h in_binder k =
+    bind_reads AreWithin IsWithin (in_binder collector) (λ ts. built (applied (Con f) ts)) (k collector)
+    (λ ts g. built_reads (applied (Con f) ts) (applied_uses (Con f) ts refl g))
+used_reads args (Uses made) f arguments h in_binder k =
+    bind_reads AreWithin IsWithin arguments (λ ts. read (made ts) >>= built) h
+    (λ ts g. bind_reads IsWithin IsWithin (read (made ts)) built
+    (read_reads IsWithin (made ts) (f ts g)) built_reads)
