@@ -62,7 +62,7 @@ read_fault_ends F status.OutOfMemory due w x failed h = cc
 read_fault_ends F status.ReadFault due w x failed h = (failed, h.1)
 read_fault_ends F status.WriteFault due w x failed h = inr (inl (failed, h))
 
--- the line for want of memory, whatever else was due
+-- the line for being out of memory, whatever else was due
 pub out_of_memory_ends : (F : Type 0) (s : Status) (due : Due) (w x : Option (List ℕ)) → WritesDue s out_of_memory_due w x → Ends F s due w x
 out_of_memory_ends F status.Ok due w x h = cc
 out_of_memory_ends F status.Incomplete due w x h = cc

@@ -22,7 +22,7 @@ use std::alloc::{AllocError, Global};
 const USAGE: &[u8] =
     b"usage: ethos check [--include=F] [--reference=F] [--closed] PROOF | ethos load FILE | ethos bench N | ethos show FILE NAME\n";
 
-/// The line for want of memory.
+/// The line for being out of memory.
 pub const OUT_OF_MEMORY: &[u8] = b"out of memory\n";
 
 /// Runs the program on the words of its command line, the first of which is the program's name and

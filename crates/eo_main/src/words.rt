@@ -24,7 +24,7 @@ const BENCH_LIMIT: u128 = 100_000;
 ///
 /// A value F may also be the next word. Options and PROOF come in any order, and each option at most
 /// once. Behind `--` each word is PROOF, FILE, N or NAME. All other words have no reading, a request for help
-/// among them. `Err` is want of memory.
+/// among them. `Err` is out of memory.
 pub fn read_words(alloc: Global, words: &[Text]) -> Result<Option<Request>, AllocError>
     ensures { IfOk result (λ reading. reading ≡ line.request words.now) }
 {
@@ -119,7 +119,7 @@ fn positional<'a>(alloc: Global, name: &'a str) -> Arg<'a>
 
 // ---- what was found
 
-/// What the command that stands among the words asks for. `Err` is want of memory.
+/// What the command among the words asks for. `Err` is out of memory.
 fn request_of(alloc: Global, matches: &ArgMatches<'_>) -> Result<Option<Request>, AllocError>
     ensures { IfOk result (λ reading. reading ≡ option_and_then line.request_of (subcommand_rows_of matches.now)) }
 {

@@ -59,7 +59,7 @@ RunsPart told ran (Err v) new paths = Told told (λ files. StopsAs (λ refusal. 
 
 -- ---- the first byte of a file that the job names
 
--- The answer stands for the refusal, but for want of memory.
+-- The answer is that of the refusal, unless memory ran out.
 abbrev pub StandsFor : List (List ℕ) → Verdict → Refusal → Type 0
 StandsFor paths (answer.Refused fault) refusal = Denotes paths fault refusal
 StandsFor paths answer.OutOfMemory refusal = ⊤

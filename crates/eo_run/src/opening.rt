@@ -438,7 +438,7 @@ pub(crate) fn refused(name: FaultName, source: &Source<'_>, at: Spot) -> Verdict
     })
 }
 
-/// Room for the bytes of one read. `Err` is want of memory.
+/// Room for the bytes of one read. `Err` is out of memory.
 fn new_buffer(alloc: Global) -> Result<Vec<u8>, AllocError>
     ensures { IfOk result (λ buffer. 0 < vec_len buffer) }
 {

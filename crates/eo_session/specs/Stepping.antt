@@ -62,19 +62,19 @@ abbrev pub of_rule : RuleRefused → Refused
 of_rule (rule.Fault name) = refused.Fault name
 of_rule (rule.Memory e) = refused.Memory e
 
--- the fault that a refusal tells; want of memory tells none, nor does an ended session
+-- the fault of a refusal; out of memory is none, nor is an ended session
 abbrev pub told : Refused → Option FaultName
 told (refused.Fault name) = Some name
 told refused.Ended = None
 told (refused.Memory e) = None
 
--- a refusal of a command by itself: a fault, but none of an absent file, or want of memory
+-- a refusal of a command by itself: a fault, but none of an absent file, or out of memory
 abbrev pub IsOfCommand : Refused → Type 0
 IsOfCommand (refused.Fault name) = name ≢ fault.FileAbsent
 IsOfCommand refused.Ended = ⊥
 IsOfCommand (refused.Memory e) = ⊤
 
--- The fault that is answered is that of the definition; want of memory may come at any time.
+-- The fault that is answered is that of the definition; out of memory may come at any time.
 abbrev pub Refuses : {A : Type 0} → Checked A → Refused → Type 0
 Refuses m e = Tells told e m × IsOfCommand e
 
@@ -118,7 +118,7 @@ pub record IsNew (closed : Bool) (s : Standing) : Type 0 where
 abbrev pub IsAlive : Standing → Type 0
 IsAlive s = length s.terms.trees ≡ live_count s.state
 
--- A session that is not ended is in the state behind the command, or is ended by its first fault or for want of memory.
+-- A session that is not ended is in the state after the command, or is ended by its first fault or by being out of memory.
 abbrev pub Steps : Result (Unit {0}) Refused → Checked State → (old new : Standing) → Type 0
 Steps (Ok x) m old new = (old.ended ≡ false) × (m ≡ Ok new.state) × (new.ended ≡ false)
 Steps (Err (refused.Fault name)) m old new = (old.ended ≡ false) × (m ≡ Err name) × (new.ended ≡ true)
@@ -141,7 +141,7 @@ pub record IsFound (m : Checked Tree) (old new : Standing) (i : ℕ) : Type 0 wh
   pub is : m ≡ Ok (tree_in new.terms i)
   pub value : IsValueOf new.terms i
 
--- A session that is not ended has the value, or is ended by the fault, or for want of memory.
+-- A session that is not ended has the value, or is ended by the fault, or by being out of memory.
 abbrev pub GivesValue : Result ℕ Refused → Checked Tree → (old new : Standing) → Type 0
 GivesValue (Ok i) m old new = IsFound m old new i
 GivesValue (Err (refused.Fault name)) m old new = (old.ended ≡ false) × (m ≡ Err name) × (new.ended ≡ true)

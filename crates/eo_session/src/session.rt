@@ -197,7 +197,7 @@ impl Session {
     /// - `assert`: the term, where a name that a term gives itself and that may not be declared is
     ///   `Redeclared`; its evaluation, whose value is what is asserted; `IllTyped`, `NumberRange`,
     ///   `TermHeight`, `NotBool`, as of `assume`. Then the names are macros of the reference file.
-    /// - `exit`: nothing behind it is read. The other commands say nothing.
+    /// - `exit`: nothing after it is read. The other commands say nothing.
     ///
     /// The faults of a term are those that [`eo_elab::term`] answers. An evaluation has one fault,
     /// which says how it ends ([`eo_eval::Evaluator::evaluate`]):
@@ -212,7 +212,7 @@ impl Session {
     /// the file of the command ends, which is no part of this call. Then [`Session::table`] has as
     /// many terms as are alive.
     ///
-    /// `Ended`: an earlier call was refused. `Memory`: want of memory. A refused command is not counted.
+    /// `Ended`: an earlier call was refused. `Memory`: out of memory. A refused command is not counted.
     pub fn command(&mut self, s: &Sexp<'_>, from: Origin) -> Result<Next, Refused>
         ensures steps { StepsTo result (step self.old.state (origin_of from) s.now) self.old self.new }
         ensures present { result ≢ Err (Fault FileAbsent) }

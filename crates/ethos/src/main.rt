@@ -32,7 +32,7 @@ fn without_memory(rt: &HostRuntime) -> Status {
     }
 }
 
-/// Runs the program. `Err` is want of memory for the words, the library or the sink.
+/// Runs the program. `Err` is out of memory for the words, the library or the sink.
 fn run(rt: &HostRuntime) -> Result<Status, AllocError> {
     let words = words_of(rt)?;
     let mut files = DiskLibrary::new(rt.clone()?, rt.alloc())?;
@@ -41,7 +41,7 @@ fn run(rt: &HostRuntime) -> Result<Status, AllocError> {
 }
 
 /// The words of the command line, or no words, which have no reading, where one of them is no
-/// UTF-8. `Err` is want of memory.
+/// UTF-8. `Err` is out of memory.
 fn words_of(rt: &HostRuntime) -> Result<Vec<Text>, AllocError> {
     let mut words = Vec::new(rt.alloc());
     match env::args(rt) {
