@@ -3,7 +3,7 @@ use Rattle.std.specs.Prelude.{◌≡◌, Result, Ok, Err, Option, IfSome}
 use Rattle.eo_base.specs.declared.FaultName.{FaultName}
 use Rattle.eo_base.specs.Checks.{Checked}
 
--- A refusal tells the fault; one that tells none, as for want of memory, may come whatever is found.
+-- A refusal tells the fault; one that tells none, as when out of memory, may come whatever is found.
 abbrev pub Tells : {E B : Type 0} → (E → Option FaultName) → E → Checked B → Type 0
 Tells told e o = IfSome (told e) (λ fault. o ≡ Err fault)
 

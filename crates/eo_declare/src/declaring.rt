@@ -51,7 +51,7 @@ use std::alloc::{AllocError, Global};
 /// - `BadPattern`: a constant without parameters has a type that holds what no declared type may,
 ///   or a terminator that is no value; or the premises of a rule are joined by what is no constant
 ///   with a terminator at the right.
-/// - `Memory`: want of memory.
+/// - `Memory`: out of memory.
 ///
 /// The terms that the signature holds are terms of the table. All of these stay; a refused call
 /// leaves the table as it was, and so do the calls for each kind of command.
@@ -175,7 +175,7 @@ fn constant_by(
 /// - a fault of a term: of the type, and then of the terminator or what joins (`UnknownSymbol`,
 ///   where it is no constant).
 /// - `BadPattern`: the type holds what no declared type may, or the terminator is no value.
-/// - `Memory`: want of memory.
+/// - `Memory`: out of memory.
 pub fn declared_const(
     alloc: Global,
     name: &[u8],
@@ -253,7 +253,7 @@ fn typed(
 /// - a fault of a term: of the inputs in order, and then of the output.
 /// - `Tall`: the function type is taller than the limit.
 /// - `BadPattern`: the type holds what no declared type may.
-/// - `Memory`: want of memory.
+/// - `Memory`: out of memory.
 pub fn declared_fun(
     alloc: Global,
     name: &[u8],
@@ -349,7 +349,7 @@ fn function_to(
 /// types.
 ///
 /// `Redeclared`: the name may not be declared, and is none that the reference file declared.
-/// `Memory`: want of memory.
+/// `Memory`: out of memory.
 pub fn declared_sort(
     alloc: Global,
     name: &[u8],
@@ -407,7 +407,7 @@ fn sort(
 ///   has is `Redeclared`, and of the type.
 /// - `Tall`: the type with its parameters is taller than the limit.
 /// - a fault of the terminator or what joins (`UnknownSymbol`, where it is no constant).
-/// - `Memory`: want of memory.
+/// - `Memory`: out of memory.
 pub fn declared_parameterized(
     alloc: Global,
     name: &[u8],
@@ -496,7 +496,7 @@ fn typed_over(
 /// for the literal.
 ///
 /// A refusal is `Redeclared`, where the class has a type; else the first fault of the term; or
-/// `Memory`: want of memory.
+/// `Memory`: out of memory.
 pub fn declared_literals(
     alloc: Global,
     class: LiteralClass,
@@ -560,7 +560,7 @@ fn self_name(alloc: Global, literal: Id) -> Result<Locals, AllocError>
 /// - `Parameters`: there are more than 64.
 /// - a fault of a term: of the parameters' types in order, where a name that an earlier parameter
 ///   has is `Redeclared`, and of the body.
-/// - `Memory`: want of memory.
+/// - `Memory`: out of memory.
 pub fn defined(
     alloc: Global,
     name: &[u8],

@@ -35,7 +35,7 @@ use std::alloc::Global;
 ///   has is `Redeclared`, of the inputs, and of the output.
 /// - of each case in order: `BadArity`, where there are not as many patterns as inputs; then a
 ///   fault of a term: of the patterns in order, and of the body.
-/// - `Memory`: want of memory.
+/// - `Memory`: out of memory.
 pub fn declared_program(
     alloc: Global,
     shape: &ProgramShape<'_>,

@@ -27,7 +27,7 @@ use std::alloc::Global;
 /// `define-fun` and `define-sort`, in a reference file (SMT-LIB 2.6, section 4.2 "Commands").
 ///
 /// A refusal is the first fault of the command, as the functions of these commands have it;
-/// `BadCommand`, where it declares nothing; or `Memory`: want of memory.
+/// `BadCommand`, where it declares nothing; or `Memory`: out of memory.
 ///
 /// The terms that the signature holds are terms of the table. All of these stay; a refused call
 /// leaves the table as it was, and so do the calls for each kind of command.
@@ -92,7 +92,7 @@ pub fn reference_declaration(
 /// - `Parameters`: there are more than 64.
 /// - a fault of a term: of the parameters' types in order, where a name that an earlier parameter
 ///   has is `Redeclared`, of the output, and of the body.
-/// - `Memory`: want of memory.
+/// - `Memory`: out of memory.
 pub fn defined_fun(
     alloc: Global,
     name: &[u8],
@@ -184,7 +184,7 @@ fn typed_macro(
 /// - `Parameters`: there are more than 64.
 /// - `Redeclared`: a parameter has the name of an earlier one.
 /// - a fault of a term: of the type.
-/// - `Memory`: want of memory.
+/// - `Memory`: out of memory.
 pub fn defined_sort(
     alloc: Global,
     name: &[u8],

@@ -57,7 +57,7 @@ pub(crate) struct RuleParts {
 ///   has is `Redeclared`, of the assumption, of the premises in order and then of what joins them,
 ///   of the arguments, of the requirements, each from left to right, and of the conclusion.
 /// - `BadPattern`: the premises are joined by what is no constant with a terminator at the right.
-/// - `Memory`: want of memory.
+/// - `Memory`: out of memory.
 pub fn declared_rule(
     alloc: Global,
     shape: &RuleShape<'_>,

@@ -115,7 +115,7 @@ fn names_given<'b>(alloc: Global, attributes: &Children<'b>) -> Result<Vec<&'b [
 /// may have given it some of them.
 ///
 /// - `Redeclared`: a name that is taken, reserved or given to a term of the command before.
-/// - `Memory`: want of memory.
+/// - `Memory`: out of memory.
 pub(crate) fn label(
     alloc: Global,
     id: Id,

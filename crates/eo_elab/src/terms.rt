@@ -29,7 +29,7 @@ use std::alloc::Global;
 /// - `UnknownSymbol`: a symbol that stands for nothing, or a keyword.
 /// - `BadArity`: a wrong number of arguments.
 /// - `Tall`: a term taller than the limit.
-/// - `Memory`: want of memory.
+/// - `Memory`: out of memory.
 ///
 /// The terms that the signature and the names hold are terms of the table. All of these stay; a
 /// refused call leaves the table as it was.

@@ -47,7 +47,7 @@ impl CallPlan {
         self.piece = n;
     }
 
-    /// Lets the call with this number fail. `Err` is want of memory, and the plan is as before.
+    /// Lets the call with this number fail. `Err`: out of memory, and the plan is as before.
     pub(crate) fn fail(&mut self, call: u64) -> Result<(), AllocError>
         ensures ok { OnOk result (self.new ≡ with_failing call self.old) }
         ensures err { OnErr result (self.new ≡ self.old) }

@@ -44,7 +44,7 @@ impl Model for FileStore {
 }
 
 impl FileStore {
-    /// A store without files, with room for all open files. `Err` is want of memory.
+    /// A store without files, with room for all open files. `Err`: out of memory.
     pub(crate) fn new(alloc: Global) -> Result<FileStore, AllocError>
         ensures { IfOk result (λ files. files ≡ nothing_stored) }
     {

@@ -25,7 +25,7 @@ impl Model for HonestLibrary {
 
 impl HonestLibrary {
     /// A library without files, with room for 18 open files, so that opening takes no memory.
-    /// `Err` is want of memory.
+    /// `Err`: out of memory.
     pub fn new(alloc: Global) -> Result<HonestLibrary, AllocError>
         ensures { IfOk result (λ library. library ≡ nothing_stored) }
     {

@@ -32,7 +32,7 @@ impl Model for MemoryLibrary {
 
 impl MemoryLibrary {
     /// A library without files, with room for 18 open files, so that opening takes no memory.
-    /// `Err` is want of memory.
+    /// `Err`: out of memory.
     pub fn new(alloc: Global) -> Result<MemoryLibrary, AllocError>
         ensures { IfOk result (λ library. library ≡ first_files) }
     {
@@ -62,7 +62,7 @@ impl MemoryLibrary {
         self.plan.set_piece(n);
     }
 
-    /// Lets the open or read with this number fail. `Err` is want of memory, and the library is as
+    /// Lets the open or read with this number fail. `Err`: out of memory, and the library is as
     /// before.
     pub fn fail(&mut self, call: u64) -> Result<(), AllocError>
         ensures ok { OnOk result (self.new ≡ with_plan (with_failing call self.old.plan) self.old) }

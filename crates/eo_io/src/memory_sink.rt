@@ -50,7 +50,7 @@ impl MemorySink {
         self.plan.set_piece(n);
     }
 
-    /// Lets the write with this number fail. `Err` is want of memory, and the sink is as before.
+    /// Lets the write with this number fail. `Err`: out of memory, and the sink is as before.
     pub fn fail(&mut self, call: u64) -> Result<(), AllocError>
         ensures ok { OnOk result (self.new ≡ written_by_plan (with_failing call self.old.plan) self.old) }
         ensures err { OnErr result (self.new ≡ self.old) }

@@ -37,7 +37,7 @@ impl<R: Files + Drop> Model for DiskLibrary<R> {
 
 impl<R: Files + Drop> DiskLibrary<R> {
     /// The files of a system, of which none is open, with room for 18 open files, so that opening
-    /// takes no memory. `Err` is want of memory.
+    /// takes no memory. `Err`: out of memory.
     pub fn new(system: R, alloc: Global) -> Result<DiskLibrary<R>, AllocError>
         ensures { IfOk result (λ library. library ≡ record { opened = 0; faults = 0 }) }
     {

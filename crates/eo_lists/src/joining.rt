@@ -14,7 +14,7 @@ use eo_term::{Id, Node, Table, TermRefused};
 /// The term that spells the items in order by the constant of that number; `None`, where the
 /// constant has no terminator.
 ///
-/// `Tall`: the term would be too tall. `Memory`: want of memory. A refused call leaves the table as
+/// `Tall`: the term would be too tall. `Memory`: out of memory. A refused call leaves the table as
 /// it was. The cost is that of a look-up by hash for each item.
 pub fn spell_list(
     sig: &Signature,

@@ -25,7 +25,7 @@ use std::alloc::Global;
 /// first argument is no constant with a terminator, a list is wanted of a term that spells none, or
 /// `eo::list_nth` finds no item.
 ///
-/// `Tall`: the value would be too tall. `Memory`: want of memory. A refused call leaves the table as
+/// `Tall`: the value would be too tall. `Memory`: out of memory. A refused call leaves the table as
 /// it was. The spine of a list is walked once, and the cost is that of a look-up by hash for each
 /// item that stands before a new rest: what spells the items behind an erased one, or a list before
 /// an empty one, is taken as it stands.

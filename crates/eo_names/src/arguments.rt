@@ -29,7 +29,7 @@ use std::alloc::Global;
 ///
 /// - `BadArity`: a constant that is folded over them asks for more.
 /// - `Tall`: the term, or one that goes into it, is taller than the limit.
-/// - `Memory`: want of memory.
+/// - `Memory`: out of memory.
 ///
 /// A refused call leaves the table as it was.
 pub fn use_arguments(
@@ -114,7 +114,7 @@ fn apply_operator(table: &mut Table, code: OpCode, args: &[Id]) -> Result<Id, Te
 
 /// The function type of one or more types, of which the last is that of its values.
 ///
-/// `Tall`: the type is taller than the limit. `Memory`: want of memory. A refused call leaves the
+/// `Tall`: the type is taller than the limit. `Memory`: out of memory. A refused call leaves the
 /// table as it was.
 pub fn function_type(table: &mut Table, types: &[Id]) -> Result<Id, TermRefused>
     requires types { All (λ a. a < length table.old.trees) types.now }

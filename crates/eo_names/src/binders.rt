@@ -28,7 +28,7 @@ use std::alloc::{AllocError, Global};
 ///
 /// - `BadArity`: there are fewer names than the constant asks for.
 /// - `Tall`: a variable or the list is taller than the limit.
-/// - `Memory`: want of memory.
+/// - `Memory`: out of memory.
 ///
 /// A refused call leaves the table and the names as they were.
 pub fn bind(

@@ -54,7 +54,7 @@ impl Innermost {
         self.terms.get(NameRef(name)).copied().flatten()
     }
 
-    /// Inside of a block these names stand for its terms. `Err` is want of memory, and all stays as
+    /// Inside of a block these names stand for its terms. `Err`: out of memory, and all stays as
     /// it is.
     pub(crate) fn enter(&mut self, names: &Bindings) -> Result<(), AllocError>
         ensures entered { (ls : List LocalName) → IsIndex ls self.old → OnOk result (IsIndex (map binding_local names.now ++ ls) self.new) }
@@ -82,7 +82,7 @@ impl Innermost {
         }
     }
 
-    // Lets the name stand for a term. `Err` is want of memory, and all stays as it is.
+    // Lets the name stand for a term. `Err`: out of memory, and all stays as it is.
     fn bind(&mut self, name: &[u8], id: Id) -> Result<(), AllocError>
         ensures bound { OnOk result (Binds self.old name.now id self.new) }
         ensures err { OnErr result (self.new ≡ self.old) }

@@ -43,7 +43,7 @@ impl Blocks {
         }
     }
 
-    /// Another one inside of all. `Err` is want of memory, and they stay as they are.
+    /// Another one inside of all. `Err`: out of memory, and they stay as they are.
     pub fn push(&mut self, names: Bindings) -> Result<(), AllocError>
         ensures pushed { OnOk result (self.new ≡ names ∷ self.old) }
         ensures err { OnErr result (self.new ≡ self.old) }

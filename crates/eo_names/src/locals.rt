@@ -74,7 +74,7 @@ impl Locals {
     }
 
     /// Adds a name for a term, before all others. Where `list` is set, the term stands for a list
-    /// of arguments. `Err` is want of memory, and the names stay as they are.
+    /// of arguments. `Err`: out of memory, and the names stay as they are.
     pub fn add(&mut self, name: &[u8], id: Id, list: bool) -> Result<(), AllocError>
         ensures added { OnOk result (self.new ≡ local name.now id list ∷ self.old) }
         ensures err { OnErr result (self.new ≡ self.old) }
@@ -159,7 +159,7 @@ impl Bindings {
         self.names.contains_key(NameRef(name))
     }
 
-    /// The terms, in the order in which their names were bound. `Err` is want of memory.
+    /// The terms, in the order in which their names were bound. `Err`: out of memory.
     pub fn ids(&self) -> Result<Ids, AllocError>
         ensures { IfOk result (λ ids. ids ≡ map (λ b. b.1) self.now) }
     {
@@ -205,7 +205,7 @@ impl Bindings {
         }
     }
 
-    /// Binds a name that is not bound. `Err` is want of memory, and the names stay as they are.
+    /// Binds a name that is not bound. `Err`: out of memory, and the names stay as they are.
     pub fn push(&mut self, name: &[u8], id: Id) -> Result<(), AllocError>
         requires { names_in self.old name.now ≡ false }
         ensures pushed { OnOk result (self.new ≡ self.old ++ (name.now, id) ∷ []) }

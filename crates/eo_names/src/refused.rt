@@ -2,7 +2,7 @@
 use eo_term::TermRefused;
 use std::alloc::AllocError;
 
-/// Why a term or a declaration was refused: the first fault, from left to right, or want of memory.
+/// Why a term or a declaration was refused: the first fault, from left to right, or out of memory.
 #[derive(Debug, Drop)]
 pub enum ElabRefused {
     /// A literal or a string that has no accepted value.

@@ -94,7 +94,7 @@ impl Facts {
 
     /// Adds a fact to the innermost scope, which no command made: its number is 0.
     ///
-    /// `Redeclared`: a fact has the name. `Memory`: want of memory.
+    /// `Redeclared`: a fact has the name. `Memory`: out of memory.
     #[tactic(auto, using(crate::proofs::Reading::live_is_named))]
     pub fn add(&mut self, name: &[u8], id: Id) -> Result<(), FactRefused>
         ensures adds { (ts : List Tree) → Added result (scopes ts self.old) name.now (tree_at ts id) (scopes ts self.new) }
@@ -109,7 +109,7 @@ impl Facts {
     }
 
     /// Adds a fact to the innermost scope, made by the command of this number, by a name that no fact
-    /// has. It is not looked up. `Err` is want of memory, and no fact is added.
+    /// has. It is not looked up. `Err`: out of memory, and no fact is added.
     #[tactic(auto, using(crate::proofs::Reading::not_named))]
     pub fn add_free(&mut self, name: &[u8], id: Id, command: u64) -> Result<(), AllocError>
         requires free { (ts : List Tree) → scope.is_live (scopes ts self.old) name.now ≡ false }

@@ -128,7 +128,7 @@ impl NamedIds {
     }
 
     /// Puts a term at the end, by a name that no other has, and answers whether none had it. The error
-    /// is want of memory.
+    /// is out of memory.
     pub(crate) fn add(&mut self, name: &[u8], id: Id, command: u64) -> Result<bool, AllocError>
         ensures added { IfOk result (λ added. added ≡ not (is_some (lookup (bytes_eq name.now) self.old))) }
         ensures new { IfOk result (λ added. added ≡ true → self.new ≡ self.old ++ (name.now, (id, command)) ∷ []) }

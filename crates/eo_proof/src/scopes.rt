@@ -38,7 +38,7 @@ impl Facts {
     }
 
     /// Opens a scope with an assumption, made by the command of this number, by a name that no fact has.
-    /// It is not looked up. `Err` is want of memory, and no scope is opened.
+    /// It is not looked up. `Err`: out of memory, and no scope is opened.
     #[tactic(auto, using(crate::proofs::Reading::not_named))]
     pub fn push_free(&mut self, name: &[u8], id: Id, command: u64) -> Result<(), AllocError>
         requires free { (ts : List Tree) → scope.is_live (scopes ts self.old) name.now ≡ false }

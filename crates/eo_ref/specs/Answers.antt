@@ -43,7 +43,7 @@ abbrev pub MayFollow : Context → Terms → RefNext → Type 0
 MayFollow c t (next.Declare d) = MayBeReferred c (read_declaration t.trees d)
 MayFollow c t n = Unit {0}
 
--- the fault that it tells; want of memory tells none
+-- the fault that it tells; out of memory tells none
 abbrev pub told : RefRefused → Option FaultName
 told refused.UnknownCommand = Some fault.UnknownCommand
 told (refused.Elab e) = names.told e

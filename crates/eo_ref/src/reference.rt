@@ -55,7 +55,7 @@ impl Reference {
     /// - `Elab(BadCommand)`: it is no such list, or the command has a wrong shape.
     /// - `Elab` of the first fault of the declaration, as [`reference_declaration`] has it, or of
     ///   the formula, as [`reference_term`] has it.
-    /// - `Elab(Memory)`: want of memory.
+    /// - `Elab(Memory)`: out of memory.
     ///
     /// The terms that the signature holds are terms of the table. All of these stay; a refused call
     /// leaves the table as it was.
@@ -136,7 +136,7 @@ impl Reference {
         Ok(RefNext::Declare(d))
     }
 
-    /// Asserts a value. `Err` is want of memory, and nothing is asserted.
+    /// Asserts a value. `Err`: out of memory, and nothing is asserted.
     pub fn add(&mut self, formula: Id) -> Result<(), AllocError>
         ensures added { OnOk result (self.new ≡ with_id self.old formula) }
         ensures err { OnErr result (self.new ≡ self.old) }

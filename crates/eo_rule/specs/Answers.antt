@@ -22,7 +22,7 @@ use Rattle.eo_pattern.specs.Slots.{Slots, held, AreBelow}
 use Rattle.eo_rule.specs.declared.refused.RuleRefused.{RuleRefused}
 use Rattle.eo_rule.specs.declared.refused.RuleRefused.TheVariants as refused
 
--- the fault that a refusal tells; want of memory tells none
+-- the fault that a refusal tells; out of memory tells none
 abbrev pub told : RuleRefused → Option FaultName
 told (refused.Fault name) = Some name
 told (refused.Memory e) = None
@@ -38,7 +38,7 @@ of_type kind.NumberRange = refused.Fault fault.NumberRange
 of_type kind.Tall = refused.Fault fault.TermHeight
 of_type (kind.Memory e) = refused.Memory e
 
--- want of memory to evaluate a term
+-- out of memory while a term is evaluated
 abbrev pub of_eval : EvalRefused → RuleRefused
 of_eval (eval.Memory e) = refused.Memory e
 

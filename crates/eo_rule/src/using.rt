@@ -37,7 +37,7 @@ use std::alloc::Global;
 /// - `IllTyped`, `NumberRange`, `TermHeight`, `NotBool`: the value is no formula.
 /// - `ConclusionDiffers`: it is not the formula that is stated.
 ///
-/// `Memory`: want of memory. What is given are values, but that the stated formula may be any term.
+/// `Memory`: out of memory. What is given are values, but that the stated formula may be any term.
 /// The formula that is answered is the only instance of the rule, and a value; after a fault there is
 /// no instance. A refused call leaves the table as it was, and of the types those of terms that are
 /// there. The types that were kept stay in either case. What `subst` holds is let go first: it is lent

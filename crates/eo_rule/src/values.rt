@@ -26,7 +26,7 @@ use std::alloc::Global;
 /// The type of a value, as the checks of rules and commands ask for it.
 ///
 /// `IllTyped`: it has none, or none that is a value. `NumberRange`, `TermHeight`: a number in it is
-/// out of range, or it is too tall. `Memory`: want of memory. A refused call leaves the table as it
+/// out of range, or it is too tall. `Memory`: out of memory. A refused call leaves the table as it
 /// was, and of the types those of terms that are there. The types that were kept stay in either case.
 pub fn value_type(
     sig: &Signature,
@@ -113,7 +113,7 @@ fn settled_type(
 /// The value of a term, as the checks of rules and commands ask for it.
 ///
 /// `Stuck`, `NumberRange`, `TermHeight`, `EvalDepth`, `EvalCalls`: it has none, and its evaluation
-/// ends so. `Memory`: want of memory. A refused call leaves the table as it was, and of the types
+/// ends so. `Memory`: out of memory. A refused call leaves the table as it was, and of the types
 /// those of terms that are there. The types that were kept stay in either case.
 pub fn value_of(
     sig: &Signature,

@@ -701,7 +701,7 @@ impl Collector {
         })
     }
 
-    /// Feeds a piece of the file, behind those fed before. After a fault or want of memory every
+    /// Feeds a piece of the file, behind those fed before. After a fault or when out of memory every
     /// call answers the same.
     pub fn feed(&mut self, piece: &[u8]) -> Fed
         requires { HasRoom self.old piece.now }
@@ -745,14 +745,14 @@ impl Collector {
     }
 
     /// The place of the first byte of the command begun or answered last, else of the next byte.
-    /// After a fault or want of memory it says nothing.
+    /// After a fault or when out of memory it says nothing.
     pub fn start(&self) -> Spot
         ensures { IsLive self.now → result ≡ start_of self.now }
     {
         self.machine.start()
     }
 
-    /// The place of the first byte that is not taken yet. After a fault or want of memory it says
+    /// The place of the first byte that is not taken yet. After a fault or when out of memory it says
     /// nothing.
     pub fn here(&self) -> Spot
         ensures { IsLive self.now → result ≡ here_of self.now }

@@ -76,7 +76,7 @@ impl Model for Signature {
 impl Signature {
     /// A signature that declares the constants `Type`, `Bool`, `true` and `false` alone, with the
     /// numbers 0 to 3, without parameters and attribute. Their types are `Type`, `Type`, `Bool`
-    /// and `Bool`. `Err` is want of memory.
+    /// and `Bool`. `Err`: out of memory.
     pub fn new(alloc: Global) -> Result<Signature, AllocError>
         ensures kept { IfOk result (λ s. s ≡ first_kept) }
         ensures signature { IfOk result (λ s. (ts : List Tree) → take 4 ts ≡ first_trees → signature ts s ≡ sig.first_signature) }

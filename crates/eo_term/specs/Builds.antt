@@ -7,7 +7,7 @@ use Rattle.eo_term.specs.Growth.{trees_in, IsTerm}
 use Rattle.eo_term.specs.Terms.{Terms}
 use Rattle.eo_term.specs.Tree.{Tree, is_tall}
 
--- a refusal for its height says that the test holds; want of memory says nothing
+-- a refusal for its height says that the test holds; out of memory says nothing
 abbrev pub TallWhere : TermRefused → Bool → Type 0
 TallWhere term.Tall b = b ≡ true
 TallWhere (term.Memory e) b = Unit {0}

@@ -38,7 +38,7 @@ impl Memo {
         self.found.get(&id).copied()
     }
 
-    /// Keeps what was found for the term. `Err` is want of memory.
+    /// Keeps what was found for the term. `Err`: out of memory.
     pub fn keep(&mut self, id: Id, found: Id) -> Result<(), AllocError>
         ensures { OnOk result ((k : ℕ) → told self.new k ≡ (if nat_eq id k then Some found else told self.old k)) }
     {

@@ -97,7 +97,7 @@ fn add_constants(alloc: Global, nodes: &mut Nodes) -> Result<(), AllocError>
 }
 
 impl Table {
-    /// A table with the constants 0 to 3. `Err` is want of memory.
+    /// A table with the constants 0 to 3. `Err`: out of memory.
     pub fn new(alloc: Global) -> Result<Table, AllocError>
         ensures trees { IfOk result (λ t. t.trees ≡ first_trees) }
         ensures texts { IfOk result (λ t. t.texts ≡ []) }

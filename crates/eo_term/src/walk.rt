@@ -62,7 +62,7 @@ impl Walk {
         &self.memo
     }
 
-    /// Looks at a part of the term that is looked at, which waits for it. `Err` is want of memory.
+    /// Looks at a part of the term that is looked at, which waits for it. `Err`: out of memory.
     pub fn begin(&mut self, part: Id) -> Result<(), AllocError>
         ensures { OnOk result (Begins self.old part self.new) }
     {
@@ -72,7 +72,7 @@ impl Walk {
     }
 
     /// Keeps what was found for the term that is looked at, and looks at the one that waited for it.
-    /// `false`: none waited, and the walk stays as it is. `Err` is want of memory.
+    /// `false`: none waited, and the walk stays as it is. `Err`: out of memory.
     pub fn finish(&mut self, found: Id) -> Result<bool, AllocError>
         ensures next { IfOk result (λ b. IsTrue b → Finishes self.old found self.new) }
         ensures last { IfOk result (λ b. IsFalse b → self.old.waiting ≡ []) }

@@ -48,7 +48,7 @@ impl Known {
         self.types.get(&id).copied()
     }
 
-    /// Keeps the type of a term of which none is kept. `Err` is want of memory.
+    /// Keeps the type of a term of which none is kept. `Err`: out of memory.
     pub(crate) fn keep(&mut self, id: Id, ty: Id) -> Result<(), AllocError>
         requires { kept_type self.old id ≡ None }
         ensures kept { OnOk result (self.new ≡ self.old ++ (id, ty) ∷ []) }

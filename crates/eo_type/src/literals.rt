@@ -21,7 +21,7 @@ use std::alloc::{AllocError, Global};
 /// is stuck. An operator whose value that table does not give by its arguments alone, as
 /// `eo::typeof` or one on lists, is stuck here.
 ///
-/// `NumberRange`: the value is out of range. `Tall` never comes. `Memory`: want of memory. A refused
+/// `NumberRange`: the value is out of range. `Tall` never comes. `Memory`: out of memory. A refused
 /// call leaves the table as it was.
 pub fn operator_value(
     alloc: Global,

@@ -26,7 +26,7 @@ use std::alloc::Global;
 /// places is looked at once.
 ///
 /// `NumberRange`: a value is out of range. `Tall` never comes, since no term becomes taller.
-/// `Memory`: want of memory. Where it is refused, the table is as it was.
+/// `Memory`: out of memory. Where it is refused, the table is as it was.
 pub fn settle(
     alloc: Global,
     _sig: &Signature,

@@ -78,7 +78,7 @@ impl Types {
     ///
     /// A constant has its declared type, a literal that of its class with the literal put in,
     /// a variable its own. `NumberRange`: a number, a bit string or a string in a type is out of
-    /// range. `Tall`: a type is too tall. `Memory`: want of memory. After any of these the table is
+    /// range. `Tall`: a type is too tall. `Memory`: out of memory. After any of these the table is
     /// as it was. A part that is shared is typed once.
     ///
     /// Types that are found are kept. One that is kept is answered at once, without memory.

@@ -26,7 +26,7 @@ impl Signature {
     /// `BadPattern` comes exactly where its type or a parameter's type holds an operator that no
     /// declared type may hold, or its terminator is no value. Else `UnboundParam` comes exactly
     /// where an implicit parameter occurs in no type of an argument outside every operator.
-    /// `Memory` is want of memory.
+    /// `Memory`: out of memory.
     pub fn declare(&mut self, table: &Table, d: ConstDecl) -> Result<usize, SigRefused>
         requires free { IsFree self.old d.name }
         requires live { ConstBelow (length table.now.trees) d }
@@ -67,7 +67,7 @@ impl Signature {
     ///
     /// `BadPattern` comes exactly where a pattern of a case holds an operator. Else `UnboundParam`
     /// comes exactly where the body of a case uses a parameter that does not occur in the case's
-    /// patterns. `Memory` is want of memory.
+    /// patterns. `Memory`: out of memory.
     pub fn add_program(&mut self, table: &Table, d: ProgramDecl) -> Result<usize, SigRefused>
         requires free { IsFree self.old d.name }
         requires live { ProgramBelow (length table.now.trees) d }

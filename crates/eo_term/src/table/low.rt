@@ -30,7 +30,7 @@ impl Table {
     }
 
     /// The term that applies an operator or a program, as [`Table::intern_op`] has it, where it is
-    /// not too tall. `Err` is want of memory, and the table stays as it is.
+    /// not too tall. `Err`: out of memory, and the table stays as it is.
     pub fn intern_low_op(&mut self, code: OpCode, args: &[Id]) -> Result<Id, AllocError>
         requires count { HasArity code (length args.now) }
         requires args { All (λ j. j < length self.old.trees) args.now }
@@ -46,7 +46,7 @@ impl Table {
         }
     }
 
-    /// The constant of this number. `Err` is want of memory, and the table stays as it is.
+    /// The constant of this number. `Err`: out of memory, and the table stays as it is.
     pub fn constant(&mut self, k: usize) -> Result<Id, AllocError>
         ensures makes { Makes self.new result (Con k) }
         ensures err { OnErr result (self.new ≡ self.old) }

@@ -30,7 +30,7 @@ pub(super) enum Told {
     Redeclared,
     UnknownSymbol,
     BadArity,
-    /// Another fault, want of memory, or something else that is declared.
+    /// Another fault, out of memory, or something else that is declared.
     Other,
     /// It is no s-expression.
     Unread,
