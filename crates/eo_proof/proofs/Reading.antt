@@ -1,6 +1,8 @@
 -- Facts with numbers of terms, as facts in scopes.
 use Rattle.std.proofs.Common.{◌≡◌, refl, sym, ap, ◌∙◌, ℕ, zero, suc, ◌+◌, ◌<◌, ◌≤◌, Bool, true, false, not, cond, ◌||◌, List, [], ◌∷◌, ◌++◌, length, map, take, drop, subst, All, Option, Some, None, option_map, is_some, true≢false, arith}
-use Rattle.std.specs.Prelude.{IfSome, bytes_eq, find, nat_lt, nat_le, position}
+use Rattle.std.specs.Prelude.{IfSome, bytes_eq, find, nat_eq, nat_lt, nat_le, position}
+use Rattle.std.specs.Bool.{then_some}
+use Rattle.std.specs.Option.{option_or}
 use Rattle.std.specs.List.{position_or_len}
 use Rattle.std.specs.Map.{keys_of}
 use Rattle.std.proofs.lemmas.Option.{same_Some, none-some}
@@ -15,8 +17,8 @@ use Rattle.eo_term.specs.Tree.{Tree, tree_eq, truth}
 use Rattle.eo_term.specs.Growth.{IsTable}
 use Rattle.eo_term.specs.Terms.{Terms, tree_at, first_trees}
 use Rattle.eo_proof.specs.declared.facts.Begun.{Begun}
-use Rattle.eo_proof.specs.Kept.{Made, NamedId, Kept, read_fact, term_named, command_named, outer_facts, opened, scopes, outer_count, innermost, AreBelow, AreBegun, IsKept, with_named, with_begun, without_begun, holds_false}
-use Rattle.eo_proof.specs.Scopes.{Fact, depth, opened_facts, live_facts, first_named, number_named, formula_named, fact_named, with_fact, with_scope, outside, innermost_hypothesis, is_live, is_free_outside, has_false, formulas, no_facts}
+use Rattle.eo_proof.specs.Kept.{Made, NamedId, Kept, read_fact, term_named, command_named, outer_facts, opened, scopes, outer_count, innermost, AreBelow, AreBegun, IsKept, with_named, with_begun, without_begun, refutation_in}
+use Rattle.eo_proof.specs.Scopes.{Fact, Scopes, depth, opened_facts, live_facts, first_named, number_named, formula_named, fact_named, with_fact, with_scope, outside, innermost_hypothesis, is_live, is_free_outside, has_false, first_false, formulas, no_facts}
 
 -- ---- scopes that are open
 
@@ -36,20 +38,20 @@ begun_more n m (b ∷ bs) l h = (omega (arith, l, h.0), h.1)
 pub outer_begun : (k : Kept) (f : NamedId) → outer_facts (k.facts ++ f ∷ []) ((with_begun k f).begun) ≡ outer_facts k.facts k.begun
 outer_begun k f = ap (λ ys. outer_facts ys k.begun) (whole_front k.facts f)
 
-pub kept_begun : (k : Kept) (r : Bool) (f : NamedId) → IsKept k r → IsKept (with_begun k f) r
+pub kept_begun : (k : Kept) (r : Option ℕ) (f : NamedId) → IsKept k r → IsKept (with_begun k f) r
 kept_begun k r f h = record {
   begun = (subst (λ n. length k.facts < n) (sym (length-append k.facts (f ∷ []))) (omega arith), h.begun);
-  refutes = h.refutes ∙ ap holds_false (sym (outer_begun k f));
+  refutation = h.refutation ∙ ap refutation_in (sym (outer_begun k f));
 }
 
-pub told_begun : (fs gs : List NamedId) (bs : List Begun) (r : Bool) → AreBegun (length fs) bs → r ≡ holds_false (outer_facts fs bs) → 0 < length bs → r ≡ holds_false (outer_facts (fs ++ gs) bs)
+pub told_begun : (fs gs : List NamedId) (bs : List Begun) (r : Option ℕ) → AreBegun (length fs) bs → r ≡ refutation_in (outer_facts fs bs) → 0 < length bs → r ≡ refutation_in (outer_facts (fs ++ gs) bs)
 told_begun fs gs [] r w h l = absurd (omega (arith, l))
-told_begun fs gs (b ∷ bs) r w h l = h ∙ ap holds_false (sym (outer_more fs gs b bs w.0))
+told_begun fs gs (b ∷ bs) r w h l = h ∙ ap refutation_in (sym (outer_more fs gs b bs w.0))
 
-pub kept_named : (k : Kept) (r s : Bool) (f : NamedId) → IsKept k r → s ≡ holds_false (outer_facts (k.facts ++ f ∷ []) k.begun) → IsKept (with_named k f) s
+pub kept_named : (k : Kept) (r s : Option ℕ) (f : NamedId) → IsKept k r → s ≡ refutation_in (outer_facts (k.facts ++ f ∷ []) k.begun) → IsKept (with_named k f) s
 kept_named k r s f h e = record {
   begun = begun_more (length k.facts) (length (k.facts ++ f ∷ [])) k.begun (subst (λ n. length k.facts ≤ n) (sym (length-append k.facts (f ∷ []))) (omega arith)) h.begun;
-  refutes = e;
+  refutation = e;
 }
 
 -- ---- look-ups
@@ -196,7 +198,7 @@ module _ (ts : List Tree) where
         opened = record { hypothesis = tree_at ts f.1.0; facts = map (read_fact ts) (drop-append_seam fs (f ∷ []) i) } ∷ opened ts (whole_front fs f i) bs;
       })
 
-  pub added_to : (k : Kept) (told : Bool) (f : NamedId) → IsKept k told → scopes ts (with_named k f) ≡ with_fact (scopes ts k) f.0 (tree_at ts f.1.0) f.1.1
+  pub added_to : (k : Kept) (told : Option ℕ) (f : NamedId) → IsKept k told → scopes ts (with_named k f) ≡ with_fact (scopes ts k) f.0 (tree_at ts f.1.0) f.1.1
   added_to k told f h = added_is k.facts k.begun f h.begun
 
   pub begun_in : (k : Kept) (f : NamedId) → scopes ts (with_begun k f) ≡ with_scope (scopes ts k) f.0 (tree_at ts f.1.0) f.1.1
@@ -285,16 +287,56 @@ false_at (a ∷ b ∷ c ∷ []) h = absurd cc
 false_at (a ∷ b ∷ c ∷ d ∷ ts) h = (cc, omega arith)
 
 false_fact : (t : Terms) → IsTable t → (fs : List NamedId) → All (λ (f : NamedId). f.1.0 < length t.trees) fs
-    → list_any (λ fact. tree_eq fact.formula (truth false)) (map (read_fact t.trees) fs) ≡ holds_false fs
+    → refutation_in fs ≡ option_map (λ fact. fact.number) (find (λ fact. tree_eq fact.formula (truth false)) (map (read_fact t.trees) fs))
 false_fact t is [] a = refl
 false_fact t is (f ∷ fs) a =
     let three = false_at t.trees is.first in
-    (λ i. (ap (tree_eq (tree_at t.trees f.1.0)) (sym three.0) ∙ is.equals f.1.0 3 (All-head (λ (f : NamedId). f.1.0 < length t.trees) f fs a) three.1) i
-    || false_fact t is fs (All-tail (λ (f : NamedId). f.1.0 < length t.trees) f fs a) i)
+    let same : tree_eq (tree_at t.trees f.1.0) (truth false) ≡ nat_eq f.1.0 3 =
+    ap (tree_eq (tree_at t.trees f.1.0)) (sym three.0) ∙ is.equals f.1.0 3 (All-head (λ (f : NamedId). f.1.0 < length t.trees) f fs a) three.1 in
+    by (nat_eq f.1.0 3) (tree_eq (tree_at t.trees f.1.0) (truth false)) (sym same) (false_fact t is fs (All-tail (λ (f : NamedId). f.1.0 < length t.trees) f fs a))
+  where
+    by : (a b : Bool) → a ≡ b → refutation_in fs ≡ option_map (λ fact. fact.number) (find (λ fact. tree_eq fact.formula (truth false)) (map (read_fact t.trees) fs))
+        → option_map (λ (f : NamedId). f.1.1) (cond a (Some f) (find (λ (f : NamedId). nat_eq f.1.0 3) fs))
+        ≡ option_map (λ fact. fact.number) (cond b (Some (read_fact t.trees f)) (find (λ fact. tree_eq fact.formula (truth false)) (map (read_fact t.trees) fs)))
+    by true true h rest = refl
+    by false false h rest = rest
+    by true false h rest = absurd (true≢false h)
+    by false true h rest = absurd (true≢false (sym h))
 
-pub false_is : (t : Terms) (k : Kept) → IsTable t → AreBelow (length t.trees) k → holds_false (outer_facts k.facts k.begun) ≡ has_false (scopes t.trees k)
+pub refutation_is : (t : Terms) (k : Kept) → IsTable t → AreBelow (length t.trees) k → refutation_in (outer_facts k.facts k.begun) ≡ first_false (scopes t.trees k)
 unfolding scopes
-false_is t k is h = sym (false_fact t is (outer_facts k.facts k.begun) (outer_below (length t.trees) k.facts k.begun h.facts))
+refutation_is t k is h = false_fact t is (outer_facts k.facts k.begun) (outer_below (length t.trees) k.facts k.begun h.facts)
+
+some_found : {A B : Type 0} (g : A → B) (p : A → Bool) (xs : List A) → is_some (option_map g (find p xs)) ≡ list_any p xs
+some_found g p [] = refl
+some_found g p (x ∷ xs) = by (p x) (some_found g p xs)
+  where
+    by : (b : Bool) → is_some (option_map g (find p xs)) ≡ list_any p xs → is_some (option_map g (cond b (Some x) (find p xs))) ≡ (b || list_any p xs)
+    by true rest = refl
+    by false rest = rest
+
+pub some_false : (s : Scopes) → is_some (first_false s) ≡ has_false s
+some_false s = some_found (λ fact. fact.number) (λ fact. tree_eq fact.formula (truth false)) s.outermost
+
+-- the first `false` is the first of the earlier facts, or else the last fact
+refutation_more : (fs : List NamedId) (f : NamedId) → refutation_in (fs ++ f ∷ []) ≡ option_or (refutation_in fs) (then_some (nat_eq f.1.0 3) f.1.1)
+refutation_more [] f = by (nat_eq f.1.0 3)
+  where
+    by : (b : Bool) → option_map (λ (f : NamedId). f.1.1) (cond b (Some f) None) ≡ then_some b f.1.1
+    by true = refl
+    by false = refl
+refutation_more (e ∷ es) f = by (nat_eq e.1.0 3) (refutation_more es f)
+  where
+    by : (b : Bool) → refutation_in (es ++ f ∷ []) ≡ option_or (refutation_in es) (then_some (nat_eq f.1.0 3) f.1.1)
+        → option_map (λ (f : NamedId). f.1.1) (cond b (Some e) (find (λ (f : NamedId). nat_eq f.1.0 3) (es ++ f ∷ [])))
+        ≡ option_or (option_map (λ (f : NamedId). f.1.1) (cond b (Some e) (find (λ (f : NamedId). nat_eq f.1.0 3) es))) (then_some (nat_eq f.1.0 3) f.1.1)
+    by true rest = refl
+    by false rest = rest
+
+pub told_outside : (fs : List NamedId) (f : NamedId) (bs : List Begun) (r s : Option ℕ) → length bs ≡ 0 → r ≡ refutation_in (outer_facts fs bs)
+    → s ≡ option_or r (then_some (nat_eq f.1.0 3) f.1.1) → s ≡ refutation_in (outer_facts (fs ++ f ∷ []) bs)
+told_outside fs f [] r s l h e = e ∙ ap (λ (o : Option ℕ). option_or o (then_some (nat_eq f.1.0 3) f.1.1)) h ∙ sym (refutation_more fs f)
+told_outside fs f (b ∷ bs) r s l h e = absurd (omega (arith, l))
 
 -- ---- the innermost scope
 

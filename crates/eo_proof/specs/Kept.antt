@@ -1,6 +1,5 @@
 -- How facts that are kept with numbers of terms stand for facts in scopes.
-use Rattle.std.specs.Prelude.{◌≡◌, ℕ, ◌<◌, Bool, Option, Some, None, List, [], ◌∷◌, ◌++◌, map, take, drop, reverse, length, All, nat_eq, option_map, bytes_eq}
-use Rattle.std.specs.List.{list_any}
+use Rattle.std.specs.Prelude.{◌≡◌, ℕ, ◌<◌, Option, Some, None, List, [], ◌∷◌, ◌++◌, map, take, drop, reverse, length, All, find, nat_eq, option_map, bytes_eq}
 use Rattle.std.specs.Map.{lookup}
 use Rattle.eo_term.specs.Tree.{Tree}
 use Rattle.eo_term.specs.Terms.{tree_at}
@@ -63,18 +62,18 @@ abbrev pub AreBegun : ℕ → List Begun → Type 0
 AreBegun n [] = Unit {0}
 AreBegun n (b ∷ bs) = (b.first < n) × AreBegun b.first bs
 
--- whether the term 3, which is `false`, is one of the formulas
-abbrev pub holds_false : List NamedId → Bool
-holds_false facts = list_any (λ (f : NamedId). nat_eq f.1.0 3) facts
+-- the command that made the first fact with the term 3, which is `false`
+abbrev pub refutation_in : List NamedId → Option ℕ
+refutation_in facts = option_map (λ (f : NamedId). f.1.1) (find (λ (f : NamedId). nat_eq f.1.0 3) facts)
 
 -- what the code keeps, the innermost scope last
 abbrev pub kept_of : List NamedId → List Begun → Kept
 kept_of fs bs = record { facts = fs; begun = reverse bs }
 
--- the scopes are in order, and it is known whether the outermost facts refute
-pub record IsKept (k : Kept) (told : Bool) : Type 0 where
+-- the scopes are in order, and this command made the first `false` of the outermost facts
+pub record IsKept (k : Kept) (told : Option ℕ) : Type 0 where
   pub begun : AreBegun (length k.facts) k.begun
-  pub refutes : told ≡ holds_false (outer_facts k.facts k.begun)
+  pub refutation : told ≡ refutation_in (outer_facts k.facts k.begun)
 
 -- the term of the first fact with a name, and the number of the command that made it
 abbrev pub term_named : List NamedId → List ℕ → Option ℕ

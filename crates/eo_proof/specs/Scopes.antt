@@ -90,5 +90,9 @@ is_free_outside f name = not (is_live (outside f) name)
 abbrev pub has_false : Scopes → Bool
 has_false f = list_any (λ fact. tree_eq fact.formula (truth false)) f.outermost
 
+-- the command that made the first `false` among the outermost facts
+abbrev pub first_false : Scopes → Option ℕ
+first_false f = option_map (λ fact. fact.number) (find (λ fact. tree_eq fact.formula (truth false)) f.outermost)
+
 abbrev pub formulas : Scopes → List Tree
 formulas f = map (λ fact. fact.formula) (live_facts f)

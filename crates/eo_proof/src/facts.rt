@@ -7,7 +7,7 @@ ghost use Rattle.eo_term.specs.Growth.{IsTable};
 ghost use Rattle.eo_term.specs.Terms.{Terms, tree_at};
 ghost use Rattle.eo_term.specs.Tree.{Tree};
 ghost use Rattle.eo_proof.specs.Kept.{scopes, term_named, command_named, outer_count, innermost, outer_facts};
-ghost use Rattle.eo_proof.specs.Kept.{holds_false, with_named, with_begun, AreBelow, AreBegun};
+ghost use Rattle.eo_proof.specs.Kept.{refutation_in, with_named, with_begun, AreBelow, AreBegun};
 ghost use Rattle.eo_proof.specs.Outcomes.{Added, Found};
 ghost use Rattle.eo_proof.specs.Scopes as scope;
 ghost use Rattle.eo_proof.specs.Scopes.{no_facts};
@@ -65,8 +65,8 @@ pub struct Facts {
     pub(crate) formulas: NamedIds,
     // The open scopes, the innermost last.
     pub(crate) begun: Vec<Begun>,
-    // Whether a fact of the outermost scope is `false`.
-    pub(crate) refutes: bool,
+    // The number of the command that made the first `false` of the outermost scope.
+    pub(crate) refutation: Option<u64>,
 }
 
 impl Model for Facts {
@@ -76,7 +76,7 @@ impl Model for Facts {
 
     ghost view = { λ a. kept_of a.formulas a.begun.items };
 
-    ghost invariant = { λ a. IsKept (kept_of a.formulas a.begun.items) a.refutes };
+    ghost invariant = { λ a. IsKept (kept_of a.formulas a.begun.items) a.refutation };
 }
 
 impl Facts {
@@ -88,7 +88,7 @@ impl Facts {
         Facts {
             formulas: NamedIds::new(alloc),
             begun: Vec::new(alloc),
-            refutes: false,
+            refutation: None,
         }
     }
 
@@ -131,7 +131,7 @@ impl Facts {
             scope.is_live (scopes ts self.now) name ≡ scope.is_live (scopes us self.now) name }
         ensures begun { AreBegun (length self.now.facts) self.now.begun }
     {
-        let _refutes = self.refutes;
+        let _refutation = self.refutation;
     }
 
     /// The fact with the name, in any scope.
@@ -185,7 +185,15 @@ impl Facts {
     pub fn has_false(&self) -> bool
         ensures { (t : Terms) → IsTable t → AreBelow (length t.trees) self.now → result ≡ scope.has_false (scopes t.trees self.now) }
     {
-        self.refutes
+        self.refutation.is_some()
+    }
+
+    /// The number of the command that made the first `false` of the outermost scope, if one is there:
+    /// 0 for a fact that no command made.
+    pub fn first_false(&self) -> Option<u64>
+        ensures { (t : Terms) → IsTable t → AreBelow (length t.trees) self.now → result ≡ scope.first_false (scopes t.trees self.now) }
+    {
+        self.refutation
     }
 
     /// The formulas of all facts, the oldest first.
@@ -245,15 +253,17 @@ impl Facts {
         }
     }
 
-    // Whether `false` is a fact of the outermost scope once this is a fact of the innermost.
-    fn refutes_with(&self, id: Id) -> bool
-        ensures { (name : List ℕ) (command : ℕ) →
-            result ≡ holds_false (outer_facts (self.now.facts ++ (name, (id, command)) ∷ []) self.now.begun) }
+    // The number of the command that made the first `false` of the outermost scope once this is a fact
+    // of the innermost.
+    fn refutation_with(&self, id: Id, command: u64) -> Option<u64>
+        ensures { (name : List ℕ) →
+            result ≡ refutation_in (outer_facts (self.now.facts ++ (name, (id, command)) ∷ []) self.now.begun) }
     {
+        let here = (id == FALSE).then_some(command);
         if !self.begun.is_empty() {
-            return self.refutes;
+            return self.refutation;
         }
-        self.refutes | (id == FALSE)
+        self.refutation.or(here)
     }
 
     // Adds a fact to the innermost scope, and answers whether no other has the name.
@@ -265,11 +275,11 @@ impl Facts {
         ensures taken { IfOk result (λ added. added ≡ false → self.new ≡ self.old) }
         ensures same { OnErr result (self.new ≡ self.old) }
     {
-        let refutes = self.refutes_with(id);
+        let refutation = self.refutation_with(id, command);
         if !self.formulas.add(name, id, command)? {
             return Ok(false);
         }
-        self.refutes = refutes;
+        self.refutation = refutation;
         Ok(true)
     }
 
@@ -281,9 +291,9 @@ impl Facts {
             scopes ts self.new ≡ scope.with_fact (scopes ts self.old) name.now (tree_at ts id) command) }
         ensures same { OnErr result (self.new ≡ self.old) }
     {
-        let refutes = self.refutes_with(id);
+        let refutation = self.refutation_with(id, command);
         self.formulas.push(name, id, command)?;
-        self.refutes = refutes;
+        self.refutation = refutation;
         Ok(())
     }
 

@@ -88,6 +88,15 @@ impl Held {
         self.facts.has_false()
     }
 
+    /// The number of the command that made the first `false` outside all scopes, if one did.
+    pub(crate) fn refutation(&self) -> Option<u64>
+        requires { IsWhole self.now }
+        ensures { result ≡ proof.first_false (state_of self.now).scopes }
+    {
+        self.table.laws();
+        self.facts.first_false()
+    }
+
     /// Whether a scope is open.
     pub(crate) fn is_in_scope(&self) -> bool
         ensures { result ≡ is_in_scope (state_of self.now) }

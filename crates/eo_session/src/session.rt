@@ -7,6 +7,7 @@ ghost use Rattle.eo_session.specs.Roots.{live_count};
 ghost use Rattle.eo_session.specs.Numbered.{origin_of, number_of};
 ghost use Rattle.eo_session.specs.State.{begin_reference, end_fault, is_in_scope};
 ghost use Rattle.eo_names.specs.Scopes.{read_setting};
+ghost use Rattle.eo_proof.specs.Scopes.{first_false};
 ghost use Rattle.eo_session.specs.Step.{is_in_proof, is_in_reference, setting_of, value_named};
 ghost use Rattle.eo_session.specs.Commands.{placed_command, uncounted, step};
 ghost use Rattle.eo_session.specs.Commands as definition;
@@ -326,6 +327,15 @@ impl Session {
             return EndAnswer::Incomplete;
         }
         EndAnswer::Correct
+    }
+
+    /// The number of the command that made the first `false` outside all scopes, if one did, in a
+    /// session that is not ended.
+    pub fn refutation(&self) -> Option<u64>
+        requires { self.now.ended ≡ false }
+        ensures { result ≡ first_false self.now.state.scopes }
+    {
+        self.held.refutation()
     }
 
     /// How many terms are alive, in a session that is not ended: the different subtrees of what is

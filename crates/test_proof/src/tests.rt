@@ -16,6 +16,12 @@ fn a_thousand_scopes_may_be_open(rt: HostRuntime) -> Result<(), Fail> {
     Ok(())
 }
 
+#[test]
+fn the_first_false_outside_counts(rt: HostRuntime) -> Result<(), Fail> {
+    assert_eq!(rt; lent(rt.alloc(), first_wrong_refutation)?, None);
+    Ok(())
+}
+
 // What is told of facts of which there are none at first.
 fn lent<F: FnOnce(&mut Facts) -> Result<Option<usize>, FactRefused>>(
     alloc: Global,
@@ -75,6 +81,44 @@ fn is_right_outside(facts: &mut Facts) -> bool {
         && facts.hypothesis().is_none()
         && facts.roots().count() == 1
         && facts.pop() == Err(NoScope)
+}
+
+// The number of the first wrong answer about the first `false`.
+fn first_wrong_refutation(facts: &mut Facts) -> Result<Option<usize>, FactRefused> {
+    if facts.first_false().is_some() {
+        return Ok(Some(1));
+    }
+    facts.push(b"h", FALSE)?;
+    make(facts, b"in", FALSE, 3)?;
+    if facts.first_false().is_some() {
+        return Ok(Some(2));
+    }
+    if facts.pop() != Ok(FALSE) || facts.first_false().is_some() {
+        return Ok(Some(3));
+    }
+    make(facts, b"true", TRUE, 4)?;
+    make(facts, b"first", FALSE, 5)?;
+    if facts.first_false() != Some(5) {
+        return Ok(Some(4));
+    }
+    make(facts, b"second", FALSE, 6)?;
+    facts.push(b"h", FALSE)?;
+    if facts.first_false() != Some(5) {
+        return Ok(Some(5));
+    }
+    if facts.pop() == Ok(FALSE) && facts.first_false() == Some(5) {
+        return Ok(None);
+    }
+    Ok(Some(6))
+}
+
+// Adds a fact that the command of this number made.
+fn make(facts: &mut Facts, name: &[u8], id: Id, command: u64) -> Result<(), FactRefused> {
+    if facts.find(name).is_ok() {
+        return Err(FactRefused::Redeclared);
+    }
+    facts.add_free(name, id, command)?;
+    Ok(())
 }
 
 // How many scopes are opened before one is refused for their number.

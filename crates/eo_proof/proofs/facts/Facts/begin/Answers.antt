@@ -25,5 +25,5 @@ returns-clause-begins c =
 pub invariant_of-self-2 : goal.invariant_of-self-2
 invariant_of-self-2 c =
     let f : NamedId = (c.args.name.now, (c.args.id, c.args.command)) in
-    subst (λ k. IsKept k c.self.inside.refutes) (sym (returns-clause-added c))
-    (kept_begun c.args.self.now c.self.inside.refutes f (subst (λ k. IsKept k c.self.inside.refutes) c.self.view_is c.self.invariant))
+    subst (λ k. IsKept k c.self.inside.refutation) (sym (returns-clause-added c))
+    (kept_begun c.args.self.now c.self.inside.refutation f (subst (λ k. IsKept k c.self.inside.refutation) c.self.view_is c.self.invariant))

@@ -9,8 +9,8 @@ invariant_of-self-2 c =
     let k = c.args.self.now in
     let added : kept_of c.add.new.self c.self.inside.begun.items ≡ with_named k f =
     ap (λ xs. kept_of xs c.self.inside.begun.items) (c.in_ok-add.ensures.new c.if-not-branch.false) ∙ ap (λ (k : Kept). with_named k f) c.self.view_is in
-    subst (λ (k : Kept). IsKept k c.refutes_with-refutes.result) (sym added)
-    (kept_named k c.self.inside.refutes c.refutes_with-refutes.result f (subst (λ (k : Kept). IsKept k c.self.inside.refutes) c.self.view_is c.self.invariant) (c.refutes_with-refutes.ensures c.args.name.now c.args.command))
+    subst (λ (k : Kept). IsKept k c.refutation_with-refutation.result) (sym added)
+    (kept_named k c.self.inside.refutation c.refutation_with-refutation.result f (subst (λ (k : Kept). IsKept k c.self.inside.refutation) c.self.view_is c.self.invariant) (c.refutation_with-refutation.ensures c.args.name.now))
 
 pub returns-clause-adds : goal.returns-clause-adds
 returns-clause-adds c = λ _.
@@ -18,5 +18,5 @@ returns-clause-adds c = λ _.
     let k = c.args.self.now in
     let added : kept_of c.add.new.self c.self.inside.begun.items ≡ with_named k f =
     ap (λ xs. kept_of xs c.self.inside.begun.items) (c.in_ok-add.ensures.new c.if-not-branch.false) ∙ ap (λ (k : Kept). with_named k f) c.self.view_is in
-    let is : IsKept k c.self.inside.refutes = subst (λ (k : Kept). IsKept k c.self.inside.refutes) c.self.view_is c.self.invariant in
-    (λ ts. ap (scopes ts) added ∙ added_to ts k c.self.inside.refutes f is)
+    let is : IsKept k c.self.inside.refutation = subst (λ (k : Kept). IsKept k c.self.inside.refutation) c.self.view_is c.self.invariant in
+    (λ ts. ap (scopes ts) added ∙ added_to ts k c.self.inside.refutation f is)
