@@ -52,6 +52,13 @@ impl Paths {
         Ok(n)
     }
 
+    /// How many paths there are.
+    pub fn len(&self) -> usize
+        ensures { result ≡ length self.now }
+    {
+        self.paths.len()
+    }
+
     /// The number of a path, if it is there.
     pub fn find(&self, path: &[u8]) -> Option<usize>
         ensures number { result ≡ position (bytes_eq path.now) self.now }
