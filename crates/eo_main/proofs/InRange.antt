@@ -10,6 +10,10 @@ use Rattle.eo_run.specs.declared.BenchEnd.TheVariants as ends
 use Rattle.eo_run.specs.declared.CheckJob.{CheckJob}
 use Rattle.eo_run.specs.declared.Verdict.{Verdict}
 use Rattle.eo_run.specs.declared.Verdict.TheVariants as answer
+use Rattle.eo_sem.specs.ProveAnswers.{IsProveAnswer}
+use Rattle.eo_sem.specs.declared.ProveEnd.TheVariants as proved
+use Rattle.eo_trim.specs.TrimAnswers.{IsTrimAnswer}
+use Rattle.eo_trim.specs.declared.TrimEnd.TheVariants as trimmed
 
 pub check_in_range : (paths : List (List ℕ)) (a : Verdict) → IsCheckAnswer paths a → FileInRange paths a
 check_in_range paths (answer.Refused fault) h = h
@@ -27,3 +31,11 @@ bench_in_range files job paths (ends.Other v) h = tt
 pub stop_in_range : (paths : List (List ℕ)) (a : Verdict) → IsStop paths a → FileInRange paths a
 stop_in_range paths (answer.Refused fault) h = h
 stop_in_range paths a h = tt
+
+pub trim_in_range : (paths : List (List ℕ)) (a : Verdict) → IsTrimAnswer paths (trimmed.Other a) → FileInRange paths a
+trim_in_range paths (answer.Refused fault) h = h
+trim_in_range paths a h = tt
+
+pub prove_in_range : (paths : List (List ℕ)) (a : Verdict) → IsProveAnswer paths (proved.Other a) → FileInRange paths a
+prove_in_range paths (answer.Refused fault) h = h
+prove_in_range paths a h = tt

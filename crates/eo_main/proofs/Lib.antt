@@ -5,4 +5,6 @@ mod Readings
 mod Refuting
 mod ShowLemmas
 mod Taken
+mod TextLemmas
+mod ToolLemmas
 mod WordVectors

@@ -1,5 +1,5 @@
 -- How the run of a name ends, by what is answered for it.
-use Rattle.std.proofs.Common.{◌≡◌, ◌≢◌, ℕ, zero, suc, true, false, List, [], ◌∷◌, Option, None, Some, refl, sym, ◌∙◌, ap, subst, inl, arith, true≢false}
+use Rattle.std.proofs.Common.{◌≡◌, ◌≢◌, ℕ, zero, suc, true, false, List, [], ◌∷◌, Option, None, Some, refl, sym, ◌∙◌, ap, subst, arith, true≢false}
 use Rattle.std.specs.Prelude.{Bool, map, take, if◌then◌else◌, Result, Ok, Err, IsSome, slice_get}
 use Rattle.eo_base.specs.Causes.{Rose}
 use Rattle.eo_base.specs.Checks.{Checked}
@@ -42,6 +42,7 @@ use Rattle.eo_main.specs.ShowAnswers.{AreLines, IsShowAnswer, ShowHasCause, Answ
 use Rattle.eo_main.specs.declared.Request.TheVariants.{Show}
 use Rattle.eo_main.proofs.AbsentLemmas.{front_head, front_of_due, absent_by_answer}
 use Rattle.eo_main.proofs.EndLemmas.{refused_ends, read_fault_ends, out_of_memory_ends, end_has_cause, no_usage}
+use Rattle.eo_main.proofs.TextLemmas.{text_ends, text_has_cause, text_no_usage}
 
 -- ---- the lines of a value
 
@@ -163,7 +164,7 @@ module _ (file name : List ℕ) (paths : List (List ℕ)) where
   ended_answers (Some files) answer.Correct h = absurd (h files refl)
   ended_answers (Some files) answer.Incomplete h = absurd (h files refl)
   ended_answers (Some files) (answer.Loaded commands) h = absurd (h files refl)
-  ended_answers (Some files) (answer.Refused fault) h = let g = h files refl in (g.0, loaded_is files file name (Err g.0) g.1, g.2)
+  ended_answers (Some files) (answer.Refused fault) h = let g = h files refl in (g.0.refusal, loaded_is files file name (Err g.0) g.1, g.2)
   ended_answers (Some files) answer.ReadFault h = tt
   ended_answers (Some files) answer.OutOfMemory h = tt
 
@@ -197,19 +198,10 @@ module _ (paths : List (List ℕ)) (st : State) (name : List ℕ) (place : Place
 
 -- ---- what is written
 
-lines_end : (F : Type 0) (s : Status) (lines : List ℕ) (w x : Option (List ℕ)) → WritesDue s (lines_due lines) w x → Ends F s (lines_due lines) w x
-lines_end F status.Ok lines w x h = h
-lines_end F status.Incomplete lines w x h = h
-lines_end F status.Refused lines w x h = h
-lines_end F status.Usage lines w x h = h
-lines_end F status.ReadFault lines w x h = cc
-lines_end F status.OutOfMemory lines w x h = cc
-lines_end F status.WriteFault lines w x h = inl h
-
 module _ (paths : List (List ℕ)) (s : Status) (w x : Option (List ℕ)) (before now : ℕ) where
   due_ends : (told : Option Files) (d : Due) (r : Result (List ℕ) Verdict) → AnswersDue paths r d → ShowHasCause r told before now → WritesDue s (show_answer_due paths r) w x → Ends (Rose before now) s d w x
   unfolding answer_due
-  due_ends told d (Ok lines) a cause writes = subst (λ (e : Due). Ends (Rose before now) s e w x) (sym a) (lines_end (Rose before now) s lines w x writes)
+  due_ends told d (Ok lines) a cause writes = subst (λ (e : Due). Ends (Rose before now) s e w x) (sym a) (text_ends (Rose before now) s lines w x writes)
   due_ends told d (Err (answer.Refused fault)) a cause writes =
       subst (λ (e : Due). Ends (Rose before now) s e w x) (sym a.1) (refused_ends (Rose before now) paths fault (verdict.Refused a.0) s w x (a.0, refl, a.2) writes)
   due_ends told d (Err answer.ReadFault) a cause writes = read_fault_ends (Rose before now) s d w x cause writes
@@ -227,29 +219,11 @@ module _ (paths : List (List ℕ)) (s : Status) (w x : Option (List ℕ)) (befor
   pub show_cause : (told : Option Files) (r : Result (List ℕ) Verdict) (sink_before sink_now : ℕ) → WritesDue s (show_answer_due paths r) w x → ShowHasCause r told before now
       → (s ≡ status.WriteFault → Rose sink_before sink_now) → EndHasCause s before now sink_before sink_now
   show_cause told (Err v) sink_before sink_now writes cause written = end_has_cause told paths v s w x before now sink_before sink_now writes cause written
-  show_cause told (Ok lines) sink_before sink_now writes cause written = by s writes written
-    where
-      by : (s : Status) → WritesDue s (lines_due lines) w x → (s ≡ status.WriteFault → Rose sink_before sink_now) → EndHasCause s before now sink_before sink_now
-      by status.Ok h f = tt
-      by status.Incomplete h f = tt
-      by status.Refused h f = tt
-      by status.Usage h f = tt
-      by status.OutOfMemory h f = tt
-      by status.ReadFault h f = cc
-      by status.WriteFault h f = f refl
+  show_cause told (Ok lines) sink_before sink_now writes cause written = text_has_cause s lines w x before now sink_before sink_now writes written
 
   pub show_no_usage : (r : Result (List ℕ) Verdict) → WritesDue s (show_answer_due paths r) w x → s ≢ status.Usage
   show_no_usage (Err v) writes = no_usage paths v s w x writes
-  show_no_usage (Ok lines) writes = by s writes
-    where
-      by : (s : Status) → WritesDue s (lines_due lines) w x → s ≢ status.Usage
-      by status.Ok h = λ q. cc
-      by status.Incomplete h = λ q. cc
-      by status.Refused h = λ q. cc
-      by status.Usage h = cc
-      by status.OutOfMemory h = λ q. cc
-      by status.ReadFault h = λ q. cc
-      by status.WriteFault h = λ q. cc
+  show_no_usage (Ok lines) writes = text_no_usage s lines w x writes
 
   pub show_absent : (told : Option Files) (r : Result (List ℕ) Verdict) → IsShowAnswer paths r → WritesDue s (show_answer_due paths r) w x → ShowHasCause r told before now → AbsentHasCause told w x before now
   show_absent told (Err v) kind writes cause = absent_by_answer told paths v s w x before now writes cause

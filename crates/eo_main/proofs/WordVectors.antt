@@ -5,7 +5,7 @@ use Rattle.clap.proofs.OnLiterals.{clap_on_literals}
 use Rattle.clap.specs.Words.{Text}
 use Rattle.eo_main.specs.CommandLine.{request}
 use Rattle.eo_main.specs.declared.Request.{Request}
-use Rattle.eo_main.specs.declared.Request.TheVariants.{Check, Load, Bench, Show}
+use Rattle.eo_main.specs.declared.Request.TheVariants.{Check, Load, Bench, Show, Trim, Prove}
 
 -- the words behind the program's name are read so
 abbrev Reads : List Text → Option Request → Type 0
@@ -133,3 +133,28 @@ a_name = refl
 no_name : Reads (codes "show" ∷ codes "a.eo" ∷ []) None
 unfolding clap_on_literals request
 no_name = refl
+
+trim_with_all_options : Reads (codes "trim" ∷ codes "--closed" ∷ codes "--include=c.eo" ∷ codes "p.eo" ∷ codes "--reference=r.smt2" ∷ [])
+    (Some (Trim (record { include = Some (codes "c.eo"); reference = Some (codes "r.smt2"); proof = codes "p.eo"; closed = true })))
+unfolding clap_on_literals request
+trim_with_all_options = refl
+
+trim_alone : Reads (codes "trim" ∷ []) None
+unfolding clap_on_literals request
+trim_alone = refl
+
+a_proof : Reads (codes "prove" ∷ codes "p.eo" ∷ codes "--reference" ∷ codes "r.smt2" ∷ []) (Some (Prove (codes "r.smt2") (codes "p.eo")))
+unfolding clap_on_literals request
+a_proof = refl
+
+prove_without_reference : Reads (codes "prove" ∷ codes "p.eo" ∷ []) None
+unfolding clap_on_literals request
+prove_without_reference = refl
+
+prove_with_include : Reads (codes "prove" ∷ codes "--include=c.eo" ∷ codes "--reference=r.smt2" ∷ codes "p.eo" ∷ []) None
+unfolding clap_on_literals request
+prove_with_include = refl
+
+prove_closed : Reads (codes "prove" ∷ codes "--closed" ∷ codes "--reference=r.smt2" ∷ codes "p.eo" ∷ []) None
+unfolding clap_on_literals request
+prove_closed = refl

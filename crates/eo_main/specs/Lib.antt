@@ -5,3 +5,6 @@ pub mod Words
 pub mod Showing
 pub mod ShowAnswers
 pub mod Unshown
+pub mod Trimming
+pub mod Proving
+pub mod ToolAnswers

@@ -39,7 +39,7 @@ module _ (files : Files) (file : List ℕ) where
 
   abbrev pub loaded_due : (name : List ℕ) → Ran → Due
   loaded_due name (Ok p) = shown_due (named_lines p.state name)
-  loaded_due name (Err refusal) = verdict_due (Refused refusal)
+  loaded_due name (Err stopped) = verdict_due (Refused stopped.refusal)
 
 -- What is due for the value of a name: the verdict of the load of the file, where it is refused, and else the lines, or the fault of the name.
 unfoldable pub show_due : Files → (file name : List ℕ) → Due

@@ -3,7 +3,9 @@
 #![tactic(auto)]
 
 mod program;
+mod proving;
 mod showing;
+mod trimming;
 mod words;
 
 use eo_base::Text;
@@ -22,4 +24,9 @@ pub enum Request {
     Bench(u32),
     /// The value that a name has at the end of a signature file is to be shown.
     Show { file: Text, name: Text },
+    /// The proof of this job is to be written without the commands that its refutation does not need.
+    Trim(CheckJob),
+    /// It is to be checked whether this proof shows that no valuation makes all assertions of this
+    /// reference file true.
+    Prove { reference: Text, proof: Text },
 }

@@ -15,15 +15,17 @@ use std::alloc::{AllocError, Global};
 /// The most hops of a bench.
 const BENCH_LIMIT: u128 = 100_000;
 
-/// Reads the words behind the first, which is the program's name and may be any:
+/// Reads the words after the first, which is the program's name and may be any:
 ///
 /// - `check [--include=F] [--reference=F] [--closed] PROOF`
 /// - `load FILE`
 /// - `bench N`, with N from 1 to 100,000 in digits without sign and without a leading zero
 /// - `show FILE NAME`
+/// - `trim [--include=F] [--reference=F] [--closed] PROOF`
+/// - `prove --reference=F PROOF`
 ///
 /// A value F may also be the next word. Options and PROOF come in any order, and each option at most
-/// once. Behind `--` each word is PROOF, FILE, N or NAME. All other words have no reading, a request for help
+/// once. After `--` each word is PROOF, FILE, N or NAME. All other words have no reading, a request for help
 /// among them. `Err` is out of memory.
 pub fn read_words(alloc: Global, words: &[Text]) -> Result<Option<Request>, AllocError>
     ensures { IfOk result (λ reading. reading ≡ line.request words.now) }
@@ -51,21 +53,36 @@ fn texts_of<'a>(alloc: Global, words: &'a [Text]) -> Result<Vec<&'a str>, AllocE
 
 // ---- the command
 
-/// The command `ethos`, with one of its four.
+/// The command `ethos`, with one of its six.
 fn program<'a>(alloc: Global) -> Result<Command<'a>, AllocError>
     ensures { IfOk result (λ command. app_of command ≡ line.program) }
 {
-    let check = Command::new(alloc, "check")
-        .arg(valued(alloc, "include"))?
-        .arg(valued(alloc, "reference"))?
-        .arg(flag(alloc, "closed"))?
-        .arg(positional(alloc, "PROOF"))?;
-    let ethos = Command::new(alloc, "ethos")
-        .subcommand_required(true)
-        .subcommand(check)?;
+    let alone = Command::new(alloc, "ethos").subcommand_required(true);
+    let ethos = with_job(alloc, alone, "check")?;
     let ethos = with_command(alloc, ethos, "load", "FILE")?;
     let ethos = with_command(alloc, ethos, "bench", "N")?;
-    with_show(alloc, ethos)
+    let ethos = with_show(alloc, ethos)?;
+    let ethos = with_job(alloc, ethos, "trim")?;
+    with_prove(alloc, ethos)
+}
+
+/// The command, and below it one of this name that takes a job.
+fn with_job<'a>(
+    alloc: Global,
+    command: Command<'a>,
+    name: &'a str,
+) -> Result<Command<'a>, AllocError>
+    ensures { IfOk result (λ with. app_of with ≡ with_subcommand (app_of command.entry) (line.taking_job name.entry.now).top) }
+{
+    let begun = Command::new(alloc, name).arg(valued(alloc, "include"));
+    let (begun, above) = both(begun, command)?;
+    let referring = begun.arg(valued(alloc, "reference"));
+    let (referring, above) = both(referring, above)?;
+    let closing = referring.arg(flag(alloc, "closed"));
+    let (closing, above) = both(closing, above)?;
+    let whole = closing.arg(positional(alloc, "PROOF"));
+    let (job, above) = both(whole, above)?;
+    above.subcommand(job)
 }
 
 /// The command, and below it one of this name that takes a word.
@@ -93,12 +110,31 @@ fn with_show<'a>(alloc: Global, command: Command<'a>) -> Result<Command<'a>, All
     above.subcommand(show)
 }
 
+/// The command, and below it the one that proves that assertions have no model.
+fn with_prove<'a>(alloc: Global, command: Command<'a>) -> Result<Command<'a>, AllocError>
+    ensures { IfOk result (λ with. app_of with ≡ with_subcommand (app_of command.entry) line.prove_command.top) }
+{
+    let begun = Command::new(alloc, "prove").arg(required_valued(alloc, "reference"));
+    let (begun, above) = both(begun, command)?;
+    let whole = begun.arg(positional(alloc, "PROOF"));
+    let (prove, above) = both(whole, above)?;
+    above.subcommand(prove)
+}
+
 /// `--name=VALUE` or `--name VALUE`
 fn valued<'a>(alloc: Global, name: &'a str) -> Arg<'a>
     ensures rule { rule_of result ≡ line.valued name.entry.now }
     ensures local { result.global ≡ false }
 {
     Arg::new(alloc, name).long(name).action(ArgAction::Set)
+}
+
+/// The same, where it has to be there.
+fn required_valued<'a>(alloc: Global, name: &'a str) -> Arg<'a>
+    ensures rule { rule_of result ≡ line.required_valued name.entry.now }
+    ensures local { result.global ≡ false }
+{
+    valued(alloc, name).required(true)
 }
 
 /// `--name`
@@ -128,6 +164,8 @@ fn request_of(alloc: Global, matches: &ArgMatches<'_>) -> Result<Option<Request>
         Some(("load", found)) => load_of(alloc, found),
         Some(("bench", found)) => Ok(bench_of(found)),
         Some(("show", found)) => show_of(alloc, found),
+        Some(("trim", found)) => trim_of(alloc, found),
+        Some(("prove", found)) => prove_of(alloc, found),
         _ => Ok(None),
     }
 }
@@ -135,8 +173,17 @@ fn request_of(alloc: Global, matches: &ArgMatches<'_>) -> Result<Option<Request>
 fn check_of(alloc: Global, found: &ArgMatches<'_>) -> Result<Option<Request>, AllocError>
     ensures { IfOk result (λ reading. reading ≡ line.check_of (rows_in found.now)) }
 {
-    match value_of(found, "PROOF") {
-        Some(proof) => Ok(Some(Request::Check(job_of(alloc, found, proof)?))),
+    match job_in(alloc, found)? {
+        Some(job) => Ok(Some(Request::Check(job))),
+        None => Ok(None),
+    }
+}
+
+fn trim_of(alloc: Global, found: &ArgMatches<'_>) -> Result<Option<Request>, AllocError>
+    ensures { IfOk result (λ reading. reading ≡ line.trim_of (rows_in found.now)) }
+{
+    match job_in(alloc, found)? {
+        Some(job) => Ok(Some(Request::Trim(job))),
         None => Ok(None),
     }
 }
@@ -183,6 +230,32 @@ fn named_of(
     }
 }
 
+fn prove_of(alloc: Global, found: &ArgMatches<'_>) -> Result<Option<Request>, AllocError>
+    ensures { IfOk result (λ reading. reading ≡ line.prove_of (rows_in found.now)) }
+{
+    match value_of(found, "reference") {
+        Some(reference) => proof_of(alloc, found, reference),
+        None => Ok(None),
+    }
+}
+
+/// The proof among these words is to be checked against this reference file.
+fn proof_of(
+    alloc: Global,
+    found: &ArgMatches<'_>,
+    reference: &str,
+) -> Result<Option<Request>, AllocError>
+    ensures { IfOk result (λ reading. reading ≡ option_map (Request.Prove reference.now) (first_of (codes "PROOF") (rows_in found.now))) }
+{
+    match value_of(found, "PROOF") {
+        Some(proof) => Ok(Some(Request::Prove {
+            reference: Text::new(alloc, reference)?,
+            proof: Text::new(alloc, proof)?,
+        })),
+        None => Ok(None),
+    }
+}
+
 /// The size of a bench, where it has these digits.
 fn size_of(digits: &[u8]) -> Option<u32>
     ensures { result ≡ line.size_of digits.now }
@@ -192,6 +265,16 @@ fn size_of(digits: &[u8]) -> Option<u32>
         return None;
     }
     Some(n as u32)
+}
+
+/// The job that these words name, if they name its proof.
+fn job_in(alloc: Global, found: &ArgMatches<'_>) -> Result<Option<CheckJob>, AllocError>
+    ensures { IfOk result (λ job. job ≡ line.job_in (rows_in found.now)) }
+{
+    match value_of(found, "PROOF") {
+        Some(proof) => Ok(Some(job_of(alloc, found, proof)?)),
+        None => Ok(None),
+    }
 }
 
 /// The job of checking this proof.

@@ -9,6 +9,7 @@ use Rattle.eo_sexp.specs.ReadBack.{SymbolsPrintAgain}
 use Rattle.eo_sexp.specs.ReadNames.{SymbolsFit}
 use Rattle.eo_session.specs.Origin.{Origin}
 use Rattle.eo_session.specs.State.{State, first_state, begin_reference}
+use Rattle.eo_run.specs.Seen.{Seen}
 use Rattle.eo_run.specs.Run.{Progress, first_progress, first_load, run_signature, run_job_reference, before_proof_after, run_check_after, run_check, run_load}
 use Rattle.eo_run.specs.declared.CheckJob.{CheckJob}
 use Rattle.eo_run.proofs.Runs.{Keeping, run_bind, prelude_keeps, signature_keeps, job_reference_keeps, proof_keeps, given_keeps}
@@ -21,6 +22,9 @@ Any from = Unit {0}
 
 abbrev Named : State → Type 0
 Named st = AreNamed st.signature
+
+abbrev NamedSeen : State → List Seen → Type 0
+NamedSeen st seen = Named st
 
 begin-named : (st new : State) → Named st → begin_reference st ≡ Ok new → Named new
 unfolding begin_reference
@@ -35,12 +39,12 @@ unfolding first_state
 start-named closed = first-named
 
 module _ (symbols : SymbolsPrintAgain limits) where
-  keeping : Keeping Named Any (SymbolsFit limits)
+  keeping : Keeping NamedSeen Any (SymbolsFit limits)
   keeping =
       record {
         read = symbols;
-        steps = λ st from s r al fits h e. (read-step-names s fits st from r.0 r.1 e).names h;
-        begins = begin-named;
+        steps = λ st before from s k r al fits act h e. (read-step-names s fits st from r.0 r.1 e).names h;
+        begins = λ st new before h e. begin-named st new h e;
         reference = tt;
       }
 
@@ -50,7 +54,7 @@ module _ (symbols : SymbolsPrintAgain limits) where
   pub load-named : (files : Files) (name : List ℕ) (final : Progress) → run_load files name ≡ Ok final → IsNamed final.state.signature
   unfolding run_load
   load-named files name final e =
-      named final.state (signature_keeps Named Any (SymbolsFit limits) keeping files tt name (first_load name) final (start-named false) e)
+      named final.state (signature_keeps NamedSeen Any (SymbolsFit limits) keeping files tt name (first_load name) final (start-named false) e)
 
   pub check-named : (files : Files) (job : CheckJob) (final : Progress) → run_check files job ≡ Ok final → IsNamed final.state.signature
   unfolding run_check run_check_after before_proof_after
@@ -58,12 +62,12 @@ module _ (symbols : SymbolsPrintAgain limits) where
       let before = run_bind _ _ final e in
       let begun = run_bind _ _ before.0 before.1 in
       let included = run_bind _ _ before.0 begun.2 in
-      let begun_named = prelude_keeps Named Any (SymbolsFit limits) keeping files tt None (first_progress job) begun.0 (start-named job.closed) begun.1 in
-      let include_named = given_keeps Named Any (SymbolsFit limits) keeping files (run_signature files) job.include begun.0 included.0
-      (λ name k. signature_keeps Named Any (SymbolsFit limits) keeping files tt name begun.0 included.0 begun_named k) begun_named included.1 in
+      let begun_named = prelude_keeps NamedSeen Any (SymbolsFit limits) keeping files tt None (first_progress job) begun.0 (start-named job.closed) begun.1 in
+      let include_named = given_keeps NamedSeen Any (SymbolsFit limits) keeping files (run_signature files) job.include begun.0 included.0
+      (λ name k. signature_keeps NamedSeen Any (SymbolsFit limits) keeping files tt name begun.0 included.0 begun_named k) begun_named included.1 in
       named final.state
-      (proof_keeps Named Any (SymbolsFit limits) keeping files tt job.proof before.0 final
-      (given_keeps Named Any (SymbolsFit limits) keeping files (run_job_reference files) job.reference included.0 before.0
-      (λ name k. job_reference_keeps Named Any (SymbolsFit limits) keeping files name included.0 before.0 include_named k)
+      (proof_keeps NamedSeen Any (SymbolsFit limits) keeping files tt job.proof before.0 final
+      (given_keeps NamedSeen Any (SymbolsFit limits) keeping files (run_job_reference files) job.reference included.0 before.0
+      (λ name k. job_reference_keeps NamedSeen Any (SymbolsFit limits) keeping files name included.0 before.0 include_named k)
       include_named included.2)
       before.2)

@@ -22,6 +22,7 @@ use Rattle.eo_session.specs.Commands.{step}
 use Rattle.eo_session.specs.declared.Next.{Next}
 use Rattle.eo_sound.specs.Soundness.{IsSound}
 use Rattle.eo_run.specs.Run.{Progress, first_load, run_load}
+use Rattle.eo_run.specs.Seen.{Seen}
 use Rattle.eo_run.proofs.Runs.{Keeping, signature_keeps}
 use Rattle.eo_sexp.specs.Sexp.{Sexp}
 use Rattle.eo_term.specs.Ranges.{IsInRange, AllInRange}
@@ -75,6 +76,9 @@ pub record InRun (st : State) : Type 0 where
   pub sound : IsSound st
   pub trees : InState st
 
+abbrev InRunSeen : State → List Seen → Type 0
+InRunSeen st seen = InRun st
+
 trees-begin : (st new : State) → InState st → begin_reference st ≡ Ok new → InState new
 unfolding begin_reference
 trees-begin st new h e = by st.has_reference e
@@ -105,19 +109,19 @@ named-value st name v e =
 module _ (first : (closed : Bool) → IsSound (first_state closed)) (begin : (st new : State) → IsSound st → begin_reference st ≡ Ok new → IsSound new)
     (command : (st : State) (from : Origin) (s : Sexp) (r : State × Next) → IsSound st → step st from s ≡ Ok r → IsSound r.0)
     (values : (S : Signature) (t v : Tree) → IsUsable S → eval0 S t ≡ Value v → is_value v ≡ true) where
-  keeping : Keeping InRun Any Fits
+  keeping : Keeping InRunSeen Any Fits
   keeping =
       record {
         read = texts-fit limits;
-        steps = λ st from s r al fits h e. record { sound = command st from s r h.sound e; trees = step-kept st from s r fits h.trees e };
-        begins = λ st new h e. record { sound = begin st new h.sound e; trees = trees-begin st new h.trees e };
+        steps = λ st before from s k r al fits act h e. record { sound = command st from s r h.sound e; trees = step-kept st from s r fits h.trees e };
+        begins = λ st new before h e. record { sound = begin st new h.sound e; trees = trees-begin st new h.trees e };
         reference = tt;
       }
 
   load-within : (files : Files) (name : List ℕ) (final : Progress) → run_load files name ≡ Ok final → InRun final.state
   unfolding run_load
   load-within files name final e =
-      signature_keeps InRun Any Fits keeping files tt name (first_load name) final (record { sound = first false; trees = trees-first false }) e
+      signature_keeps InRunSeen Any Fits keeping files tt name (first_load name) final (record { sound = first false; trees = trees-first false }) e
 
   -- It is a value of a tree in a signature of trees within their ranges, and has few lines.
   can-show : (st : State) → InRun st → (name : List ℕ) (t : Tree) → value_named st name ≡ Ok t → is_unprintable st.signature t ≡ false → HasRoom st t → CanShow st.signature st.macros t

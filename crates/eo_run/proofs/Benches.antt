@@ -1,33 +1,46 @@
 -- The files of a bench, and what is answered for their run.
-use Rattle.std.proofs.Common.{◌≡◌, ℕ, List, [], ◌++◌, Some, refl, sym, subst, ◌∙◌, append_assoc, arith}
+use Rattle.std.proofs.Common.{◌≡◌, ℕ, List, [], ◌++◌, Some, refl, sym, ap, subst, ◌∙◌, append_assoc, arith}
 use Rattle.std.specs.Prelude.{codes, Result, Ok, OnOk}
 use Rattle.eo_base.specs.Causes.{Rose}
 use Rattle.eo_io.specs.Library.{Files}
 use Rattle.eo_io.specs.Stored.{with_file}
-use Rattle.eo_run.specs.Answer.{Answers, AnswerHasCause}
+use Rattle.eo_session.specs.Notes as notes
+use Rattle.eo_run.specs.Answer.{AnswerHasCause}
 use Rattle.eo_run.specs.Bench.{bench_signature, bench_reference, bench_proof, bench_files}
-use Rattle.eo_run.specs.Benching.{LeavesLast, AnswersBench, counted}
-use Rattle.eo_run.specs.Check.{verdict}
-use Rattle.eo_run.specs.Judging.{IsCheckAnswer}
-use Rattle.eo_run.specs.Progress.{progress_of}
-use Rattle.eo_run.specs.Run.{run_check}
+use Rattle.eo_run.specs.Benching.{AnswersBench, counted}
+use Rattle.eo_run.specs.Ending.{verdict_of, IsCheckEnd, LeavesLast}
+use Rattle.eo_run.specs.Judging.{AnswersProof, run_job}
+use Rattle.eo_run.specs.Progress.{Point, progress_at, SeesAt}
+use Rattle.eo_run.specs.Run.{first_progress}
+use Rattle.eo_run.specs.declared.CheckEnd.{CheckEnd}
+use Rattle.eo_run.specs.declared.CheckEnd.TheVariants as ends
 use Rattle.eo_run.specs.declared.CheckJob.{CheckJob}
-use Rattle.eo_run.specs.declared.Verdict.{Verdict}
 use Rattle.eo_run.specs.declared.Verdict.TheVariants as answer
-use Rattle.eo_run.specs.declared.opening.Run.{Run}
+use Rattle.eo_run.proofs.Files.{check-is}
+use Rattle.eo_run.proofs.Jobs.{job-answers}
 
 -- a library that never fails has no fault
 none_rose : Rose 0 0 → ⊥
 none_rose h = omega (arith, h)
 
-pub counted-answers : (files : Files) (job : CheckJob) (paths : List (List ℕ)) (v : Verdict) (run : Run) → Answers paths v (verdict files job)
-    → LeavesLast (Some files) (λ f. run_check f job) v run → IsCheckAnswer paths v → AnswerHasCause v (Some files) 0 0 → AnswersBench files job paths (counted v run.session.state)
-counted-answers files job paths answer.Correct run h l kind cause = record { correct = h; last = progress_of run; runs = l.runs files refl; accepted = refl; alive = refl }
-counted-answers files job paths answer.Incomplete run h l kind cause = (h, tt)
-counted-answers files job paths (answer.Loaded commands) run h l kind cause = absurd kind
-counted-answers files job paths (answer.Refused fault) run h l kind cause = (h, kind)
-counted-answers files job paths answer.ReadFault run h l kind cause = absurd (none_rose cause)
-counted-answers files job paths answer.OutOfMemory run h l kind cause = (tt, tt)
+pub counted-answers : {O : Type 0} (tells : O → List notes.Seen → Type 0) (files : Files) (job : CheckJob) (old new : Point O) (e : CheckEnd) → progress_at old [] ≡ first_progress job → SeesAt tells old []
+    → AnswersProof tells (Some files) job.proof (λ f. run_job f job) old new (verdict_of e) → LeavesLast tells (Some files) job.proof (λ f. run_job f job) e old new → IsCheckEnd new.paths e → AnswerHasCause (verdict_of e) (Some files) 0 0
+    → AnswersBench files job new.paths (counted e new.run.session.state)
+counted-answers tells files job old new (ends.Correct r) begins none h l kind cause =
+    let b = l.runs files refl [] none in
+    record {
+      correct = job-answers tells files job old new answer.Correct begins none h;
+      last = progress_at new b.0;
+      runs = check-is files job ∙ ap (run_job files job) (sym begins) ∙ b.2;
+      accepted = refl;
+      alive = refl;
+    }
+counted-answers tells files job old new (ends.Ended answer.Correct) begins none h l kind cause = absurd kind
+counted-answers tells files job old new (ends.Ended answer.Incomplete) begins none h l kind cause = (job-answers tells files job old new answer.Incomplete begins none h, tt)
+counted-answers tells files job old new (ends.Ended (answer.Loaded commands)) begins none h l kind cause = absurd kind
+counted-answers tells files job old new (ends.Ended (answer.Refused fault)) begins none h l kind cause = (job-answers tells files job old new (answer.Refused fault) begins none h, kind)
+counted-answers tells files job old new (ends.Ended answer.ReadFault) begins none h l kind cause = absurd (none_rose cause)
+counted-answers tells files job old new (ends.Ended answer.OutOfMemory) begins none h l kind cause = (tt, tt)
 
 -- three files that are added one after another
 pub three_added : (n : ℕ) (none one two three : Files) → none ≡ [] → one ≡ with_file none (codes "bench.eo") bench_signature

@@ -8,6 +8,7 @@ use Rattle.eo_run.proofs.Runs.{Keeping, any_commands, run_bind, prelude_keeps, s
 use Rattle.eo_session.specs.Origin.{Origin}
 use Rattle.eo_session.specs.Origin as origin
 use Rattle.eo_run.specs.Refutation.{ClosedKeepsRules}
+use Rattle.eo_run.specs.Seen.{Seen}
 use Rattle.eo_run.specs.Run.{Progress, first_progress, run_signature, run_job_reference, before_proof_after, run_check_after, before_proof, run_check}
 use Rattle.eo_sound.specs.Quiet.{IsQuiet}
 use Rattle.eo_session.specs.State.{State, first_state, begin_reference}
@@ -53,13 +54,19 @@ module _ (quiet : (st : State) (from : Origin) (s : Sexp) (r : State × Next) �
       by true k = absurd (err_is_not_ok SecondReference new k)
       by false k = subst (Stays ps rs) (ok_injective (record st { has_reference = true }) new k) (record { closed = h.closed; programs_are = h.programs_are; rules_are = h.rules_are })
 
-  keeping : Keeping (Stays ps rs) Allowed Each
-  keeping = record { read = λ proof bytes. any_commands Each (λ s. tt) _; steps = λ st from s r other read h e. step_stays st from s r other h e; begins = begin_stays; reference = reference-other }
+  abbrev StaysSeen : State → List Seen → Type 0
+  StaysSeen st seen = Stays ps rs st
+
+  keeping : Keeping StaysSeen Allowed Each
+  keeping = record { read = λ proof bytes. any_commands Each (λ s. tt) _; steps = λ st before from s k r other read act h e. step_stays st from s r other h e; begins = λ st new before h e. begin_stays st new h e; reference = reference-other }
 
 -- ---- whether the check is closed
 
 abbrev IsClosed : State → Type 0
 IsClosed st = st.closed ≡ true
+
+abbrev IsClosedSeen : State → List Seen → Type 0
+IsClosedSeen st seen = IsClosed st
 
 abbrev Any : Origin → Type 0
 Any from = Unit {0}
@@ -73,8 +80,8 @@ begin_closed st new h e = by st.has_reference e
     by false k = subst IsClosed (ok_injective (record st { has_reference = true }) new k) h
 
 module _ (keeps : (st : State) (from : Origin) (s : Sexp) (r : State × Next) → step st from s ≡ Ok r → r.0.closed ≡ st.closed) where
-  closing : Keeping IsClosed Any Each
-  closing = record { read = λ proof bytes. any_commands Each (λ s. tt) _; steps = λ st from s r al read h e. keeps st from s r e ∙ h; begins = begin_closed; reference = tt }
+  closing : Keeping IsClosedSeen Any Each
+  closing = record { read = λ proof bytes. any_commands Each (λ s. tt) _; steps = λ st before from s k r al read act h e. keeps st from s r e ∙ h; begins = λ st new before h e. begin_closed st new h e; reference = tt }
 
   module _ (files : Files) (prelude : Option (List ℕ)) (job : CheckJob) (closed : job.closed ≡ true) where
     first_closed : IsClosed (first_state job.closed)
@@ -86,11 +93,11 @@ module _ (keeps : (st : State) (from : Origin) (s : Sexp) (r : State × Next) �
     before_closed p e =
         let begun = run_bind _ _ p e in
         let included = run_bind _ _ p begun.2 in
-        let begun_closed = prelude_keeps IsClosed Any Each closing files tt prelude (first_progress job) begun.0 first_closed begun.1 in
-        let include_closed = given_keeps IsClosed Any Each closing files (run_signature files) job.include begun.0 included.0
-        (λ name k. signature_keeps IsClosed Any Each closing files tt name begun.0 included.0 begun_closed k) begun_closed included.1 in
-        given_keeps IsClosed Any Each closing files (run_job_reference files) job.reference included.0 p
-        (λ name k. job_reference_keeps IsClosed Any Each closing files name included.0 p include_closed k)
+        let begun_closed = prelude_keeps IsClosedSeen Any Each closing files tt prelude (first_progress job) begun.0 first_closed begun.1 in
+        let include_closed = given_keeps IsClosedSeen Any Each closing files (run_signature files) job.include begun.0 included.0
+        (λ name k. signature_keeps IsClosedSeen Any Each closing files tt name begun.0 included.0 begun_closed k) begun_closed included.1 in
+        given_keeps IsClosedSeen Any Each closing files (run_job_reference files) job.reference included.0 p
+        (λ name k. job_reference_keeps IsClosedSeen Any Each closing files name included.0 p include_closed k)
         include_closed included.2
 
   -- The proof of a closed check declares no program and no rule, nor does a file that it includes.
@@ -101,5 +108,5 @@ module _ (keeps : (st : State) (from : Origin) (s : Sexp) (r : State × Next) �
         let before = run_bind _ _ final e in
         let ps = programs before.0.state.signature in
         let rs = rules before.0.state.signature in
-        let kept = proof_keeps (Stays ps rs) Allowed Each (keeping quiet ps rs) files proof-other job.proof before.0 final (record { closed = before_closed files None job closed before.0 before.1; programs_are = refl; rules_are = refl }) before.2 in
+        let kept = proof_keeps (StaysSeen quiet ps rs) Allowed Each (keeping quiet ps rs) files proof-other job.proof before.0 final (record { closed = before_closed files None job closed before.0 before.1; programs_are = refl; rules_are = refl }) before.2 in
         record { before = before.0; begins = before.1; programs_stay = kept.programs_are; rules_stay = kept.rules_are }

@@ -13,7 +13,7 @@ use Rattle.eo_sexp.specs.Collecting.{Collecting, AtCommand, IsLive, IsWithin, he
 use Rattle.eo_sexp.specs.Cutting.{IsWaiting, rest_of, ReadsInPieces}
 use Rattle.eo_sexp.specs.Answering.{IsAnswer, IsLexical, AnswersAlone}
 use Rattle.eo_session.specs.State.{State}
-use Rattle.eo_run.specs.Reading.{count_of, behind, at_end as ending, LeadsOn, FailsAt, IsFed}
+use Rattle.eo_run.specs.Reading.{count_of, behind, at_end as ending, LeadsOn, FailsAt}
 use Rattle.eo_run.proofs.Running.{on-same, on-fault}
 use Rattle.eo_sexp.proofs.Callers.{live-within, IsCommand, at_more, at_command, at_fault, at_end, at_end_command, at_end_fault, here-used}
 use Rattle.eo_session.specs.Origin.{Origin}
@@ -28,6 +28,13 @@ tail_later xs rest u e fits within =
 pub lexical-present : (name : FaultName) → IsLexical name → name ≢ FileAbsent
 lexical-present name l e = let wrong = subst IsLexical e l in absurd (cc wrong)
 
+-- a piece is taken, with no command
+pub record TakesAll (from : Origin) (st : State) (c d : Collecting) (p : List ℕ) : Type 0 where
+  pub leads : LeadsOn from st (behind c p) [] st (behind d [])
+  pub live : IsLive d
+  pub waiting : IsWaiting limits d
+  pub here : (here_of d).offset ≤ (here_of c).offset + length p
+
 module _ (law : ReadsInPieces limits) (alone : AnswersAlone limits) (from : Origin) (c d : Collecting) (live : IsLive c) (waiting : IsWaiting limits c) where
   -- ---- a piece
 
@@ -36,7 +43,7 @@ module _ (law : ReadsInPieces limits) (alone : AnswersAlone limits) (from : Orig
     answer = subst IsAnswer (sym is) (alone.answers c p live)
 
     -- all of it is taken
-    pub fed-more : fed.More ≡ fed_answer c d → (st : State) → IsFed from st st c d p
+    pub fed-more : fed.More ≡ fed_answer c d → (st : State) → TakesAll from st c d p
     fed-more e st =
         let within : IsWithin d = at_more c d answer e in
         let inside : IsWithin (fed_with limits c p) = subst IsWithin is within in
@@ -79,7 +86,7 @@ module _ (law : ReadsInPieces limits) (alone : AnswersAlone limits) (from : Orig
       fed-smaller = let given = ap count_of (fed-gives false []) in omega (arith, given)
 
     -- a fault
-    pub fed-fault : (name : FaultName) (at : Spot) → fed.Fault name at ≡ fed_answer c d → (st : State) → FailsAt from st (behind c p) name at × (name ≢ FileAbsent)
+    pub fed-fault : (name : FaultName) (at : Spot) → fed.Fault name at ≡ fed_answer c d → (st : State) → FailsAt from st (behind c p) [] name at × (name ≢ FileAbsent)
     fed-fault name at e st =
         let f = at_fault c d name at answer e in
         (on-fault from st (behind c p) name at (λ closes more. law.fault closes c p more name at (sym is ∙ f.is)), lexical-present name f.lexical)
@@ -90,7 +97,7 @@ module _ (law : ReadsInPieces limits) (alone : AnswersAlone limits) (from : Orig
     answer-end : IsAnswer d
     answer-end = subst IsAnswer (sym is) (alone.end_answers c live)
 
-    pub end-ends : finished.End ≡ finish_answer d → (st : State) → LeadsOn from st (ending c) st (λ closes more. Ends (here_of d))
+    pub end-ends : finished.End ≡ finish_answer d → (st : State) → LeadsOn from st (ending c) [] st (λ closes more. Ends (here_of d))
     end-ends e st =
         let inside : IsWithin (finished_with limits c) = subst IsWithin is (at_end d answer-end e) in
         let there = ap here_of is ∙ alone.end_stays c inside in
@@ -118,7 +125,7 @@ module _ (law : ReadsInPieces limits) (alone : AnswersAlone limits) (from : Orig
       pub end-smaller : count_of (rest_of limits true d []) < count_of (rest_of limits true c [])
       end-smaller = let given = ap count_of (end-gives true []) in omega (arith, given)
 
-    pub end-fault : (name : FaultName) (at : Spot) → finished.Fault name at ≡ finish_answer d → (st : State) → FailsAt from st (ending c) name at × (name ≢ FileAbsent)
+    pub end-fault : (name : FaultName) (at : Spot) → finished.Fault name at ≡ finish_answer d → (st : State) → FailsAt from st (ending c) [] name at × (name ≢ FileAbsent)
     end-fault name at e st =
         let f = at_end_fault d name at answer-end e in
         (on-fault from st (ending c) name at (λ closes more. law.ends.fault c name at (sym is ∙ f.is)), lexical-present name f.lexical)

@@ -1,21 +1,28 @@
 -- The exits of the functions that read a file.
-use Rattle.std.proofs.Common.{◌≡◌, ◌≤◌, ◌<◌, ◌+◌, sym, ap, ◌∙◌, subst, Bool, true, false, List, [], ℕ, length, drop}
+use Rattle.std.proofs.lemmas.List.Elements.{All-nil, All-cons}
+use Rattle.std.proofs.Common.{◌≡◌, refl, append-nil, ◌≤◌, ◌<◌, ◌+◌, sym, ap, ◌∙◌, subst, Bool, true, false, List, [], ◌∷◌, ◌++◌, ℕ, length, drop}
 use Rattle.std.specs.Prelude.{Ok, Err}
 use Rattle.eo_base.specs.Checks.{Checked}
 use Rattle.eo_base.specs.declared.FaultName.{FaultName}
+use Rattle.eo_base.specs.declared.Place.{Place}
 use Rattle.eo_base.specs.Limits.{limits}
 use Rattle.eo_sexp.specs.Spot.{Spot}
 use Rattle.eo_sexp.specs.Texts.{Then, Placed}
-use Rattle.eo_sexp.specs.Collecting.{Collecting, AtCommand, Holds, IsLive, here_of, start_of}
+use Rattle.eo_sexp.specs.Collecting.{Collecting, AtCommand, Holds, IsLive, here_of, start_of, bytes_of}
 use Rattle.eo_sexp.specs.Sexp.{Sexp}
 use Rattle.eo_sexp.specs.Cutting.{IsWaiting}
 use Rattle.eo_session.specs.State.{State}
 use Rattle.eo_session.specs.Commands.{step}
+use Rattle.eo_session.specs.Decisions.{AreDecidedPlaced}
+use Rattle.eo_session.specs.Noting.{UnlessMemory}
 use Rattle.eo_session.specs.Stepping.{Standing, StepsTo}
 use Rattle.eo_session.specs.declared.Next.{Next}
 use Rattle.eo_session.specs.declared.refused.Refused.{Refused}
 use Rattle.eo_session.specs.declared.refused.Refused.TheVariants as refused
-use Rattle.eo_run.specs.Reading.{Continuation, count_of, behind, at_end, LeadsOn, AsksFor, FailsAt, ChecksCommand, ChecksLast, ChecksPiece, ChecksEnd, IsAsked, IsAskedAtEnd}
+use Rattle.eo_session.specs.Notes as notes
+use Rattle.eo_run.specs.Reading.{Continuation, count_of, behind, at_end, LeadsOn, AsksFor, FailsAt, ChecksCommand, ShowsCommand, ChecksLast, ShowsLast, ChecksPiece, ChecksEnd, IsAsked, IsAskedAtEnd}
+use Rattle.eo_run.specs.Watching.{note_next, IsShown}
+use Rattle.eo_run.proofs.Watched.{shown-next, shown-trans}
 use Rattle.eo_run.specs.declared.reading.Asked.{Asked}
 use Rattle.eo_run.specs.declared.reading.Stop.{Stop}
 use Rattle.eo_run.specs.declared.reading.Stop.TheVariants as stop
@@ -32,43 +39,86 @@ refused-last from old new c s name at h e starts = λ k phase is.
     let same : k ≡ h.0 = cc in
     (ap (step old from) (ap (λ (p : Placed). p.sexp) same ∙ sym h.3) ∙ e, starts (subst (λ (d : Collecting). IsLive d) (sym is) tt) ∙ ap start_of is)
 
-module _ (from : Origin) (old st new : State) (r t s : Continuation) (k : Placed) (leads : LeadsOn from old r st t) (gives : (closes : Bool) (more : List ℕ) → t closes more ≡ Then k (s closes more)) where
-  -- a refused command refuses the run
-  pub refused-fails : (name : FaultName) (at : Spot) → ChecksCommand from (Err (stop.Fault name at)) st new k → FailsAt from old r name at
-  refused-fails name at h = subst (λ (p : Spot). FailsAt from old r name p) (sym h.1) (on-fails from old st r t name k.start leads (command-fails from st t s k gives name h.0))
+-- ---- what an observer is shown of the last command of a collector
 
-module _ (from : Origin) (old st new : State) (c d : Collecting) (s : Continuation) (k : Placed) (leads : LeadsOn from old (at_end c) st (at_end d)) (gives : (closes : Bool) (more : List ℕ) → at_end d closes more ≡ Then k (s closes more)) where
-  pub refused-end : (x : Stop) (e : Collecting) → ChecksCommand from (Err x) st new k → ChecksEnd from (Err x) old new c e
-  refused-end (stop.Fault name at) e h = refused-fails from old st new (at_end c) (at_end d) s k leads gives name at h
-  refused-end stop.ReadFault e h = tt
-  refused-end stop.Memory e h = tt
+module _ {O : Type 0} (tells : O → List notes.Seen → Type 0) (before after : O) (from : Origin) (file : ℕ) where
+  pub shows-last : AreDecidedPlaced → (what : Next) (st new : State) (c : Collecting) (s : Sexp) (bytes : List ℕ) (at : Spot) (place : Place) → place ≡ record { file = file; line = at.line; offset = at.offset } → Holds c s → bytes ≡ bytes_of c → (IsLive c → at ≡ start_of c) → step st from s ≡ Ok (new, what)
+      → ((l : List notes.Seen) → tells before l → tells after (l ++ notes.shown st from bytes place s)) → ShowsLast tells before after from file (Ok what) st c
+  shows-last decided what st new c s bytes at place p h b starts e sees = λ k phase is.
+      let both : AtCommand k phase ≡ AtCommand h.0 h.1 = sym is ∙ h.2 in
+      let same : k ≡ h.0 = cc in
+      let reads : s ≡ k.sexp = h.3 ∙ ap (λ (p : Placed). p.sexp) (sym same) in
+      let begins : at ≡ k.start = starts (subst (λ (d : Collecting). IsLive d) (sym is) tt) ∙ ap start_of is in
+      let holds : bytes ≡ k.bytes = b ∙ ap bytes_of is in
+      let shown : notes.shown st from bytes place s ≡ note_next st from file k ∷ [] =
+      ap (λ (x : Place). notes.shown st from bytes x s) p
+      ∙ (λ i. notes.shown st from (holds i) (record { file = file; line = (begins i).line; offset = (begins i).offset }) (reads i))
+      ∙ shown-next decided st from file k (new, what) (ap (step st from) (sym reads) ∙ e) in
+      let P = λ (m : notes.Seen). m.place.file ≡ file in
+      record {
+        sees = λ l t. subst (λ (x : List notes.Seen). tells after (l ++ x)) shown (sees l t);
+        here = All-cons P (note_next st from file k) [] refl (All-nil P);
+      }
 
--- a command that asks for a file
-module _ (from : Origin) (old st new : State) (r t s : Continuation) (k : Placed) (a : Asked) (leads : LeadsOn from old r st t) (gives : (closes : Bool) (more : List ℕ) → t closes more ≡ Then k (s closes more)) where
-  pub asked : step st from k.sexp ≡ Ok (new, a.next) → a.at ≡ k.start → AsksFor from old r new s a.next a.at
-  asked h at = on-asks from old st new r t s a.next a.at leads (subst (λ (p : Spot). AsksFor from st t new s a.next p) (sym at) (command-asks from st t s k gives new a.next h))
+  -- nothing of one that is refused
+  pub hides-last : (x : Refused) (name : FaultName) (at : Spot) (st : State) (c : Collecting) → x ≡ refused.Fault name → UnlessMemory x ((l : List notes.Seen) → tells before l → tells after l) → ShowsLast tells before after from file (Err (stop.Fault name at)) st c
+  hides-last x name at st c e h = λ k phase is.
+      let unseen = subst (λ (y : Refused). UnlessMemory y ((l : List notes.Seen) → tells before l → tells after l)) e h in
+      record { sees = λ l t. subst (tells after) (sym (append-nil l)) (unseen l t); here = All-nil (λ (m : notes.Seen). m.place.file ≡ file) }
 
-pub asked-end : (from : Origin) (old st new : State) (c d e : Collecting) (k : Placed) (a : Asked) → LeadsOn from old (at_end c) st (at_end d) → ((closes : Bool) (more : List ℕ) → at_end d closes more ≡ Then k (at_end e closes more)) →
-    IsLive e → IsWaiting limits e → count_of (at_end e true []) < count_of (at_end c true []) → step st from k.sexp ≡ Ok (new, a.next) → a.at ≡ k.start → IsAskedAtEnd from old new c e a
-asked-end from old st new c d e k a leads gives live waiting fewer h at =
-    record { asks = asked from old st new (at_end c) (at_end d) (at_end e) k a leads gives h at; live = live; waiting = waiting; fewer = fewer }
+-- What was shown before, and what this command shows.
+module _ {O : Type 0} (tells : O → List notes.Seen → Type 0) (first before after : O) (from : Origin) (file : ℕ) (ms : List notes.Seen) (shown : IsShown tells first before file ms) where
+  abbrev Shown : List notes.Seen → Type 0
+  Shown = IsShown tells first after file
 
--- ---- a piece, of which q is still to be fed
+  module _ (old st new : State) (r t s : Continuation) (k : Placed) (leads : LeadsOn from old r ms st t) (gives : (closes : Bool) (more : List ℕ) → t closes more ≡ Then k (s closes more)) where
+    -- a refused command refuses the run
+    refused-fails : (name : FaultName) (at : Spot) → ChecksCommand from (Err (stop.Fault name at)) st new k → FailsAt from old r (ms ++ []) name at
+    refused-fails name at h = subst (λ (p : Spot). FailsAt from old r (ms ++ []) name p) (sym h.1) (on-fails from old st r t ms [] name k.start leads (command-fails from st t s k file gives name h.0))
 
-module _ (from : Origin) (old st new : State) (c d : Collecting) (p q : List ℕ) (s : Continuation) (k : Placed) (leads : LeadsOn from old (behind c p) st (behind d q)) (gives : (closes : Bool) (more : List ℕ) → behind d q closes more ≡ Then k (s closes more)) where
-  pub refused-piece : (x : Stop) (e : Collecting) → ChecksCommand from (Err x) st new k → ChecksPiece from (Err x) old new c e p
-  refused-piece (stop.Fault name at) e h = refused-fails from old st new (behind c p) (behind d q) s k leads gives name at h
-  refused-piece stop.ReadFault e h = tt
-  refused-piece stop.Memory e h = tt
+    -- a command that asks for a file
+    asked : (a : Asked) → step st from k.sexp ≡ Ok (new, a.next) → a.at ≡ k.start → AsksFor from old r (ms ++ note_next st from file k ∷ []) new s a.next a.at
+    asked a h at =
+        on-asks from old st new r t s ms (note_next st from file k ∷ []) a.next a.at leads
+        (subst (λ (p : Spot). AsksFor from st t (note_next st from file k ∷ []) new s a.next p) (sym at) (command-asks from st t s k file gives new a.next h))
 
-pub asked-piece : (from : Origin) (old st new : State) (c d e : Collecting) (p q rest : List ℕ) (k : Placed) (a : Asked) → LeadsOn from old (behind c p) st (behind d q) → ((closes : Bool) (more : List ℕ) → behind d q closes more ≡ Then k (behind e rest closes more)) →
-    drop a.used p ≡ rest → a.used ≤ length p → IsLive e → IsWaiting limits e → (here_of e).offset + length rest ≤ (here_of c).offset + length p → count_of (behind e rest false []) < count_of (behind c p false []) → step st from k.sexp ≡ Ok (new, a.next) → a.at ≡ k.start → IsAsked from old new c e p a
-asked-piece from old st new c d e p q rest k a leads gives tail size live waiting here fewer h at =
-    record {
-      size = size;
-      asks = subst (λ (x : List ℕ). AsksFor from old (behind c p) new (behind e x) a.next a.at) (sym tail) (asked from old st new (behind c p) (behind d q) (behind e rest) k a leads gives h at);
-      live = live;
-      waiting = waiting;
-      here = subst (λ (x : List ℕ). (here_of e).offset + length x ≤ (here_of c).offset + length p) (sym tail) here;
-      fewer = subst (λ (x : List ℕ). count_of (behind e x false []) < count_of (behind c p false [])) (sym tail) fewer;
-    }
+  module _ (old st new : State) (c d : Collecting) (s : Continuation) (k : Placed) (leads : LeadsOn from old (at_end c) ms st (at_end d)) (gives : (closes : Bool) (more : List ℕ) → at_end d closes more ≡ Then k (s closes more)) where
+    pub refused-end : (x : Stop) (e : Collecting) → ChecksCommand from (Err x) st new k → ShowsCommand tells before after from file (Err x) st k → ChecksEnd from Shown (Err x) old new c e
+    refused-end (stop.Fault name at) e h shows =
+        record { passes = ms ++ []; shown = shown-trans tells file first before after ms [] shown shows; fails = refused-fails old st new (at_end c) (at_end d) s k leads gives name at h }
+    refused-end stop.ReadFault e h shows = tt
+    refused-end stop.Memory e h shows = tt
+
+  pub asked-end : (old st new : State) (c d e : Collecting) (k : Placed) (a : Asked) → LeadsOn from old (at_end c) ms st (at_end d) → ((closes : Bool) (more : List ℕ) → at_end d closes more ≡ Then k (at_end e closes more)) →
+      IsLive e → IsWaiting limits e → count_of (at_end e true []) < count_of (at_end c true []) → step st from k.sexp ≡ Ok (new, a.next) → a.at ≡ k.start → IsShown tells before after file (note_next st from file k ∷ []) → IsAskedAtEnd from Shown old new c e a
+  asked-end old st new c d e k a leads gives live waiting fewer h at shows = record {
+    passes = ms ++ note_next st from file k ∷ [];
+    shown = shown-trans tells file first before after ms (note_next st from file k ∷ []) shown shows;
+    asks = asked old st new (at_end c) (at_end d) (at_end e) k leads gives a h at;
+    live = live;
+    waiting = waiting;
+    fewer = fewer;
+  }
+
+  -- ---- a piece, of which q is still to be fed
+
+  module _ (old st new : State) (c d : Collecting) (p q : List ℕ) (s : Continuation) (k : Placed) (leads : LeadsOn from old (behind c p) ms st (behind d q)) (gives : (closes : Bool) (more : List ℕ) → behind d q closes more ≡ Then k (s closes more)) where
+    pub refused-piece : (x : Stop) (e : Collecting) → ChecksCommand from (Err x) st new k → ShowsCommand tells before after from file (Err x) st k → ChecksPiece from Shown (Err x) old new c e p
+    refused-piece (stop.Fault name at) e h shows =
+        record { passes = ms ++ []; shown = shown-trans tells file first before after ms [] shown shows; fails = refused-fails old st new (behind c p) (behind d q) s k leads gives name at h }
+    refused-piece stop.ReadFault e h shows = tt
+    refused-piece stop.Memory e h shows = tt
+
+  pub asked-piece : (old st new : State) (c d e : Collecting) (p q rest : List ℕ) (k : Placed) (a : Asked) → LeadsOn from old (behind c p) ms st (behind d q) → ((closes : Bool) (more : List ℕ) → behind d q closes more ≡ Then k (behind e rest closes more)) →
+      drop a.used p ≡ rest → a.used ≤ length p → IsLive e → IsWaiting limits e → (here_of e).offset + length rest ≤ (here_of c).offset + length p → count_of (behind e rest false []) < count_of (behind c p false []) → step st from k.sexp ≡ Ok (new, a.next) → a.at ≡ k.start →
+      IsShown tells before after file (note_next st from file k ∷ []) → IsAsked from Shown old new c e p a
+  asked-piece old st new c d e p q rest k a leads gives tail size live waiting here fewer h at shows = record {
+    passes = ms ++ note_next st from file k ∷ [];
+    shown = shown-trans tells file first before after ms (note_next st from file k ∷ []) shown shows;
+    size = size;
+    asks = subst (λ (x : List ℕ). AsksFor from old (behind c p) (ms ++ note_next st from file k ∷ []) new (behind e x) a.next a.at) (sym tail) (asked old st new (behind c p) (behind d q) (behind e rest) k leads gives a h at);
+    live = live;
+    waiting = waiting;
+    here = subst (λ (x : List ℕ). (here_of e).offset + length x ≤ (here_of c).offset + length p) (sym tail) here;
+    fewer = subst (λ (x : List ℕ). count_of (behind e x false []) < count_of (behind c p false [])) (sym tail) fewer;
+  }

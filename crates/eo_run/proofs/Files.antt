@@ -1,6 +1,6 @@
 -- The files that a job names, and the verdict.
-use Rattle.std.proofs.Common.{◌≡◌, refl, ℕ, Bool, true, false, not, List, [], sym, ap, ◌∙◌}
-use Rattle.std.specs.Prelude.{◌≢◌, Ok, Err, Option, Some, None, IfSome, if◌then◌else◌, option_and_then, unwrap_or}
+use Rattle.std.proofs.Common.{◌≡◌, refl, ℕ, Bool, true, false, not, List, [], sym, ap, subst, ◌∙◌}
+use Rattle.std.specs.Prelude.{◌≢◌, Result, Ok, Err, Option, Some, None, IfSome, if◌then◌else◌, option_and_then, unwrap_or}
 use Rattle.std.specs.Option.{option_map_or}
 use Rattle.eo_base.specs.declared.FaultName.{FaultName}
 use Rattle.eo_base.specs.declared.FaultName.TheVariants.{BadPath, FileAbsent, NoReference, NoRefutation, ScopeOpen}
@@ -11,12 +11,12 @@ use Rattle.eo_io.specs.Paths.{fold_path}
 use Rattle.eo_sexp.specs.Texts.{first_spot, spot_after}
 use Rattle.eo_proof.specs.Scopes.{has_false}
 use Rattle.eo_session.specs.State.{State, begin_reference, end_fault, is_in_scope}
-use Rattle.eo_run.specs.Run.{Progress, Ran, ◌>>=◌, placed, or_fault, refusal_at, shown, commands_of, run_commands, run_reference, run_file, job_file, first_progress, first_load, if_given, run_signature, run_proof, run_job_reference, run_prelude, before_proof_after, run_check_after, before_proof, run_check, run_load}
-use Rattle.eo_run.specs.Check.{verdict, checked, ended, file_end, loaded, load_verdict}
-use Rattle.eo_run.specs.Verdict.{Refusal, Refused}
+use Rattle.eo_run.specs.Seen.{Seen}
+use Rattle.eo_run.specs.Run.{Progress, Stopped, Ran, ◌>>=◌, placed, or_fault, refusal_at, stopped_at, with_opened, seen_in, shown, commands_of, run_commands, run_reference, run_file, job_file, first_progress, first_load, if_given, run_signature, run_proof, run_job_reference, run_prelude, before_proof_after, run_check_after, run_check, run_load}
+use Rattle.eo_run.specs.Check.{checked, ended, file_end, loaded, load_verdict}
 use Rattle.eo_run.specs.Answer.{Answers, AnswerHasCause}
 use Rattle.eo_run.specs.Opening.{opener_of, Told, StopsAs}
-use Rattle.eo_run.specs.Judging.{run_named, EndsRun}
+use Rattle.eo_run.specs.Judging.{run_named, run_job, run_after, counted, IfRun, EndsRun}
 use Rattle.eo_session.specs.Origin.{Origin}
 use Rattle.eo_session.specs.Origin as origin
 use Rattle.eo_run.specs.declared.CheckJob.{CheckJob}
@@ -30,33 +30,39 @@ pub told-some : (told : Option Files) (P : Files → Type 0) → Told told P →
 told-some None P h = tt
 told-some (Some files) P h = h files refl
 
+-- one part after another, in either order of brackets
+then-assoc : {A B C : Type 0} (m : Result A Stopped) (f : A → Result B Stopped) (g : B → Result C Stopped) → ((m >>= f) >>= g) ≡ (m >>= λ x. f x >>= g)
+unfolding ◌>>=◌
+then-assoc (Ok x) f g = refl
+then-assoc (Err stopped) f g = refl
+
 -- ---- a file that the job names
 
 module _ (files : Files) (name : List ℕ) (from : Origin) (wrapped : Bool) (opens : ℕ) (p : Progress) where
   abbrev run_found : List ℕ × List ℕ → Ran
-  run_found file = run_commands (opener_of files opens) file.0 from (commands_of wrapped file.1) p
+  run_found file = run_commands (opener_of files opens) file.0 from (commands_of wrapped file.1) (counted wrapped p file.0)
 
   abbrev by_path : Option (List ℕ) → Ran
   by_path o =
-      (or_fault name first_spot BadPath o >>= λ path. or_fault path first_spot FileAbsent (file_at files path) >>= λ bytes. Ok (path, bytes)) >>= run_found
+      (or_fault p name first_spot BadPath o >>= λ path. or_fault p path first_spot FileAbsent (file_at files path) >>= λ bytes. Ok (path, bytes)) >>= run_found
 
   named-is : run_named files name from wrapped opens p ≡ by_path (fold_path [] name)
   unfolding job_file
   named-is = refl
 
-  pub named-bad : fold_path [] name ≡ None → run_named files name from wrapped opens p ≡ Err (refusal_at name first_spot BadPath)
+  pub named-bad : fold_path [] name ≡ None → run_named files name from wrapped opens p ≡ Err (stopped_at p name first_spot BadPath)
   unfolding or_fault ◌>>=◌
   named-bad e = named-is ∙ ap by_path e
 
   module _ (path : List ℕ) (folds : fold_path [] name ≡ Some path) where
     abbrev by_bytes : Option (List ℕ) → Ran
-    by_bytes o = (or_fault path first_spot FileAbsent o >>= λ bytes. Ok (path, bytes)) >>= run_found
+    by_bytes o = (or_fault p path first_spot FileAbsent o >>= λ bytes. Ok (path, bytes)) >>= run_found
 
     folded-is : run_named files name from wrapped opens p ≡ by_bytes (file_at files path)
     unfolding or_fault ◌>>=◌
     folded-is = named-is ∙ ap by_path folds
 
-    pub named-absent : file_at files path ≡ None → run_named files name from wrapped opens p ≡ Err (refusal_at path first_spot FileAbsent)
+    pub named-absent : file_at files path ≡ None → run_named files name from wrapped opens p ≡ Err (stopped_at p path first_spot FileAbsent)
     unfolding or_fault ◌>>=◌
     named-absent e = folded-is ∙ ap by_bytes e
 
@@ -86,48 +92,48 @@ module _ (files : Files) (name : List ℕ) (p : Progress) where
   proof-is = refl
 
   abbrev reference_from : Checked State → Ran
-  reference_from m = placed (shown name) first_spot m >>= λ st. run_named files name origin.Reference false 0 (record p { state = st })
+  reference_from m = placed p (shown name) first_spot m >>= λ st. job_file files p name >>= λ file. run_commands (opener_of files 0) file.0 origin.Reference (commands_of false file.1) (record (with_opened p file.0) { state = st })
 
   reference-is : run_job_reference files name p ≡ reference_from (begin_reference p.state)
   unfolding run_job_reference run_reference
   reference-is = refl
 
-  pub reference-second : (fault : FaultName) → begin_reference p.state ≡ Err fault → run_job_reference files name p ≡ Err (refusal_at (shown name) first_spot fault)
+  pub reference-second : (fault : FaultName) → begin_reference p.state ≡ Err fault → run_job_reference files name p ≡ Err (stopped_at p (shown name) first_spot fault)
   unfolding placed ◌>>=◌
   reference-second fault e = reference-is ∙ ap reference_from e
 
+  -- what is found of a file does not depend on the state
+  same-file : (st : State) (f : List ℕ × List ℕ → Ran) → (job_file files p name >>= f) ≡ (job_file files (record p { state = st }) name >>= f)
+  unfolding job_file or_fault ◌>>=◌
+  same-file st f = by-path (fold_path [] name)
+    where
+      found : Progress → Option (List ℕ) → Ran
+      found q o = (or_fault q name first_spot BadPath o >>= λ path. or_fault q path first_spot FileAbsent (file_at files path) >>= λ bytes. Ok (path, bytes)) >>= f
+
+      by-bytes : (path : List ℕ) (o : Option (List ℕ)) →
+          ((or_fault p path first_spot FileAbsent o >>= λ bytes. Ok (path, bytes)) >>= f) ≡ ((or_fault (record p { state = st }) path first_spot FileAbsent o >>= λ bytes. Ok (path, bytes)) >>= f)
+      by-bytes path (Some bytes) = refl
+      by-bytes path None = refl
+
+      by-path : (o : Option (List ℕ)) → found p o ≡ found (record p { state = st }) o
+      by-path (Some path) = by-bytes path (file_at files path)
+      by-path None = refl
+
   pub reference-begun : (st : State) → begin_reference p.state ≡ Ok st → run_job_reference files name p ≡ run_named files name origin.Reference false 0 (record p { state = st })
   unfolding placed ◌>>=◌
-  reference-begun st e = reference-is ∙ ap reference_from e
+  reference-begun st e = reference-is ∙ ap reference_from e ∙ same-file st (λ file. run_commands (opener_of files 0) file.0 origin.Reference (commands_of false file.1) (record (with_opened p file.0) { state = st }))
 
 -- ---- the verdict
 
-module _ (files : Files) (job : CheckJob) where
-  abbrev then_reference : Ran → Ran
-  then_reference m = m >>= if_given (run_job_reference files) job.reference
+-- a check is the run of its prelude and its job from the beginning
+pub after-is : (files : Files) (prelude : Option (List ℕ)) (job : CheckJob) → run_check_after files prelude job ≡ run_after files prelude job (first_progress job)
+unfolding run_check_after before_proof_after
+after-is files prelude job = then-assoc (run_prelude files prelude (first_progress job)) (λ p. if_given (run_signature files) job.include p >>= if_given (run_job_reference files) job.reference) (run_proof files job.proof)
 
-  abbrev then_proof : Ran → Ran
-  then_proof m = m >>= run_proof files job.proof
-
-  pub before-refused : (refusal : Refusal) → if_given (run_signature files) job.include (first_progress job) ≡ Err refusal → before_proof files job ≡ Err refusal
-  unfolding before_proof before_proof_after run_prelude ◌>>=◌
-  before-refused refusal e = ap then_reference e
-
-  pub before-included : (p : Progress) → if_given (run_signature files) job.include (first_progress job) ≡ Ok p → before_proof files job ≡ if_given (run_job_reference files) job.reference p
-  unfolding before_proof before_proof_after run_prelude ◌>>=◌
-  before-included p e = ap then_reference e
-
-  pub verdict-before : (refusal : Refusal) → before_proof files job ≡ Err refusal → verdict files job ≡ Refused refusal
-  unfolding verdict run_check run_check_after before_proof ◌>>=◌
-  verdict-before refusal e = ap (λ m. checked files job.proof (then_proof m)) e
-
-  pub verdict-proof : (p : Progress) → before_proof files job ≡ Ok p → verdict files job ≡ checked files job.proof (run_proof files job.proof p)
-  unfolding verdict run_check run_check_after before_proof ◌>>=◌
-  verdict-proof p e = ap (λ m. checked files job.proof (then_proof m)) e
-
-  pub check-proof : (p : Progress) → before_proof files job ≡ Ok p → run_check files job ≡ run_proof files job.proof p
-  unfolding run_check run_check_after before_proof ◌>>=◌
-  check-proof p e = ap then_proof e
+-- and without a prelude that of its job
+pub check-is : (files : Files) (job : CheckJob) → run_check files job ≡ run_job files job (first_progress job)
+unfolding run_check run_check_after before_proof_after run_prelude ◌>>=◌
+check-is files job = refl
 
 pub load-is : (files : Files) (name : List ℕ) → load_verdict files name ≡ loaded (run_load files name)
 unfolding load_verdict
@@ -154,31 +160,22 @@ module _ (files : Files) (name : List ℕ) (from : Origin) (ran : Ran) (new : Pr
   pub ends-loaded : Answers paths (answer.Loaded new.state.commands) (loaded ran)
   ends-loaded = ap loaded h.runs
 
--- what is answered for a run that stops is the verdict
-pub stops-checked : (files : Files) (name : List ℕ) (ran : Ran) (paths : List (List ℕ)) (v : Verdict) → StopsAs (λ refusal. ran ≡ Err refusal) paths v → Answers paths v (checked files name ran)
-stops-checked files name ran paths answer.Correct h = absurd h
-stops-checked files name ran paths answer.Incomplete h = absurd h
-stops-checked files name ran paths (answer.Loaded commands) h = absurd h
-stops-checked files name ran paths (answer.Refused fault) h = (h.0, ap (checked files name) h.1, h.2)
-stops-checked files name ran paths answer.ReadFault h = tt
-stops-checked files name ran paths answer.OutOfMemory h = tt
+-- what is answered for a run that stops is the verdict, and what was accepted before is seen
+pub stops-checked : (files : Files) (name : List ℕ) (ran : Ran) (H : List Seen → Type 0) (paths : List (List ℕ)) (v : Verdict) → StopsAs (λ stopped. ran ≡ Err stopped) H paths v → Answers paths v (checked files name ran) × IfRun v (H (seen_in ran))
+stops-checked files name ran H paths answer.Correct h = absurd h
+stops-checked files name ran H paths answer.Incomplete h = absurd h
+stops-checked files name ran H paths (answer.Loaded commands) h = absurd h
+stops-checked files name ran H paths (answer.Refused fault) h = ((h.0.refusal, ap (checked files name) h.1, h.2), subst H (ap seen_in (sym h.1)) h.3)
+stops-checked files name ran H paths answer.ReadFault h = (tt, tt)
+stops-checked files name ran H paths answer.OutOfMemory h = (tt, tt)
 
-pub stops-loaded : (ran : Ran) (paths : List (List ℕ)) (v : Verdict) → StopsAs (λ refusal. ran ≡ Err refusal) paths v → Answers paths v (loaded ran)
-stops-loaded ran paths answer.Correct h = absurd h
-stops-loaded ran paths answer.Incomplete h = absurd h
-stops-loaded ran paths (answer.Loaded commands) h = absurd h
-stops-loaded ran paths (answer.Refused fault) h = (h.0, ap loaded h.1, h.2)
-stops-loaded ran paths answer.ReadFault h = tt
-stops-loaded ran paths answer.OutOfMemory h = tt
-
--- what stops before the proof is the verdict
-pub stops-before : (files : Files) (job : CheckJob) (paths : List (List ℕ)) (v : Verdict) → StopsAs (λ refusal. before_proof files job ≡ Err refusal) paths v → Answers paths v (verdict files job)
-stops-before files job paths answer.Correct h = absurd h
-stops-before files job paths answer.Incomplete h = absurd h
-stops-before files job paths (answer.Loaded commands) h = absurd h
-stops-before files job paths (answer.Refused fault) h = (h.0, verdict-before files job h.0 h.1, h.2)
-stops-before files job paths answer.ReadFault h = tt
-stops-before files job paths answer.OutOfMemory h = tt
+pub stops-loaded : (ran : Ran) (H : List Seen → Type 0) (paths : List (List ℕ)) (v : Verdict) → StopsAs (λ stopped. ran ≡ Err stopped) H paths v → Answers paths v (loaded ran)
+stops-loaded ran H paths answer.Correct h = absurd h
+stops-loaded ran H paths answer.Incomplete h = absurd h
+stops-loaded ran H paths (answer.Loaded commands) h = absurd h
+stops-loaded ran H paths (answer.Refused fault) h = (h.0.refusal, ap loaded h.1, h.2)
+stops-loaded ran H paths answer.ReadFault h = tt
+stops-loaded ran H paths answer.OutOfMemory h = tt
 
 -- the end of a proof is no absent file
 pub end-present : (st : State) (name : FaultName) → Some name ≡ end_fault st → name ≡ FileAbsent → ⊥

@@ -2,6 +2,7 @@ pub mod Benches
 pub mod Closed
 pub mod Computed
 pub mod Ending
+pub mod Ends
 pub mod Exits
 pub mod Files
 pub mod Jobs
@@ -9,10 +10,13 @@ pub mod Leaving
 pub mod Numbers
 pub mod Opened
 pub mod Pieces
+pub mod Preludes
+pub mod Refusals
 pub mod Running
 pub mod Runs
 pub mod Soundness
 pub mod Taking
+pub mod Watched
 mod FileVectors
 mod ScopeVectors
 mod Vectors

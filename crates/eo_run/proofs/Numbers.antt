@@ -6,46 +6,44 @@ use Rattle.eo_base.specs.declared.FaultName.{FaultName}
 use Rattle.eo_base.specs.declared.FaultName.TheVariants.{FileAbsent, SecondReference}
 use Rattle.eo_base.proofs.ChecksLemmas.{err_is_not_ok}
 use Rattle.eo_io.specs.Library.{Files, Rest, file_at, Opens, Closes}
-use Rattle.eo_io.specs.Paths.{Extends}
+use Rattle.eo_io.proofs.PathLemmas.{found}
 use Rattle.eo_io.specs.declared.Opened.TheVariants as opened
 use Rattle.eo_sexp.specs.Spot.{Spot}
 use Rattle.eo_session.specs.State.{State, begin_reference}
-use Rattle.eo_run.specs.Run.{Progress, refusal_at, commands_of, open_file}
+use Rattle.eo_session.specs.Notes as notes
+use Rattle.eo_run.specs.Run.{Stopped, refusal_at, open_file}
+use Rattle.eo_run.specs.Progress.{Point, progress_at}
 use Rattle.eo_session.specs.Numbered.{origin_of, number_of}
 use Rattle.eo_run.specs.Answer.{Denotes}
 use Rattle.eo_run.specs.Opening as opening
-use Rattle.eo_run.specs.Opening.{opener_of, run_source, IsNumbered, as_found, StaysOpen, RunsOpen, RefusesFile, RunsFile, place_in}
+use Rattle.eo_run.specs.Opening.{opener_of, run_bytes, IsNumbered, as_found, RunsOpen, RefusesFile, RunsFile, place_in}
+use Rattle.eo_run.specs.Reading.{StaysOpen}
 use Rattle.eo_session.specs.declared.Next.TheVariants as next
 use Rattle.eo_run.specs.declared.Verdict.{Verdict}
-use Rattle.eo_run.specs.Verdict.{Refusal}
 use Rattle.eo_run.specs.declared.opening.Source.{Source}
 use Rattle.eo_run.proofs.Pieces.{stops-weaker}
-use Rattle.eo_base.proofs.Elements.{slice_get_left}
 
 -- ---- numbers of paths
 
--- a path keeps its number
-pub numbered-later : (old new : List (List ℕ)) (i : ℕ) (path : List ℕ) → Extends old new → slice_get old i ≡ Some path → slice_get new i ≡ Some path
-numbered-later old new i path h e = subst (λ (ps : List (List ℕ)). slice_get ps i ≡ Some path) (sym h.1) (slice_get_left old h.0 i path e)
-
 pub denotes-here : (paths : List (List ℕ)) (s : Source) (name : FaultName) (at : Spot) → IsNumbered paths s → Denotes paths (record { name = name; place = place_in s at }) (refusal_at s.path.now at name)
-denotes-here paths s name at h = record { name = refl; file = h; line = refl; offset = refl }
+denotes-here paths s name at h = record { name = refl; file = found paths s.path.now (number_of s.from) h; line = refl; offset = refl }
 
 -- the file of a refusal is one of the paths
 pub placed-in : (paths : List (List ℕ)) (s : Source) → IsNumbered paths s → IsSome (slice_get paths (number_of s.from))
-placed-in paths s h = ap is_some h
+placed-in paths s h = ap is_some (found paths s.path.now (number_of s.from) h)
 
 -- ---- what opening a file tells
 
-pub ready-runs : (told : Option Files) (s : Source) (r : Result Spot Verdict) (old new : Progress) (paths : List (List ℕ)) (before mid : List Rest) → Opens opened.Ready told s.path.now before mid → RunsOpen told s r old new paths mid → RunsFile told s (as_found r) old new paths
-ready-runs None s (Ok at) old new paths before mid o h = λ files k. absurd (none-some files k)
-ready-runs None s (Err v) old new paths before mid o h = λ files k. absurd (none-some files k)
-ready-runs (Some fs) s (Ok at) old new paths before mid o h = λ files k.
-    (o.0, subst (λ (f : Files). file_at f s.path.now ≡ Some o.0) (same_Some fs files k) o.1, (subst (λ (m : List Rest). RunsOpen (Some fs) s (Ok at) old new paths m) o.2 h) files k)
-ready-runs (Some fs) s (Err v) old new paths before mid o h = λ files k.
-    stops-weaker (λ (refusal : Refusal). run_source files s (commands_of s.wrapped o.0) old ≡ Err refusal) (RefusesFile files s old) paths v
-    (λ refusal e. (o.0, subst (λ (f : Files). file_at f s.path.now ≡ Some o.0) (same_Some fs files k) o.1, e))
-    ((subst (λ (m : List Rest). RunsOpen (Some fs) s (Err v) old new paths m) o.2 h) files k)
+module _ {O : Type 0} (tells : O → List notes.Seen → Type 0) where
+  pub ready-runs : (told : Option Files) (s : Source) (r : Result Spot Verdict) (old new : Point O) (before mid : List Rest) → Opens opened.Ready told s.path.now before mid → RunsOpen tells told s r old new mid → RunsFile tells told s (as_found r) old new
+  ready-runs None s (Ok at) old new before mid o h = λ files k. absurd (none-some files k)
+  ready-runs None s (Err v) old new before mid o h = λ files k. absurd (none-some files k)
+  ready-runs (Some fs) s (Ok at) old new before mid o h = λ files k.
+      (o.0, subst (λ (f : Files). file_at f s.path.now ≡ Some o.0) (same_Some fs files k) o.1, (subst (λ (m : List Rest). RunsOpen tells (Some fs) s (Ok at) old new m) o.2 h) files k)
+  ready-runs (Some fs) s (Err v) old new before mid o h = λ files k seen sees.
+      stops-weaker (λ (stopped : Stopped). run_bytes files s o.0 (progress_at old seen) ≡ Err stopped) (RefusesFile files s (progress_at old seen)) _ new.paths v
+      (λ stopped e. (o.0, subst (λ (f : Files). file_at f s.path.now ≡ Some o.0) (same_Some fs files k) o.1, e))
+      ((subst (λ (m : List Rest). RunsOpen tells (Some fs) s (Err v) old new m) o.2 h) files k seen sees)
 
 -- a file that was opened, and is closed again
 opened-on : (told : Option Files) (path : List ℕ) (before mid : List Rest) → Opens opened.Ready told path before mid → (rest : Rest) × (mid ≡ rest ∷ before)
@@ -61,15 +59,14 @@ closes-open told path before mid after last o stays closes =
 
 -- ---- what asks for nothing
 
-module _ (told : Option Files) (s : Source) (at : Spot) (p : Progress) (paths : List (List ℕ)) (x : Unit {0}) where
-  module _ (left : ℕ) (e : s.opens ≡ suc left) where
-    pub opens-done : opening.Opens told s at next.Done (Ok x) p p paths
-    unfolding open_file
-    opens-done = λ files k. ap (λ n. opener_of files n s.path.now (origin_of s.from) at next.Done p) e
+module _ {O : Type 0} (tells : O → List notes.Seen → Type 0) (told : Option Files) (s : Source) (at : Spot) (w : Point O) (x : Unit {0}) (left : ℕ) (e : s.opens ≡ suc left) where
+  pub opens-done : opening.Opens tells told s at next.Done (Ok x) w w
+  unfolding open_file
+  opens-done = λ files k seen sees. (seen, sees, ap (λ n. opener_of files n s.path.now (origin_of s.from) at next.Done (progress_at w seen)) e)
 
-    pub opens-exit : opening.Opens told s at next.Exit (Ok x) p p paths
-    unfolding open_file
-    opens-exit = λ files k. ap (λ n. opener_of files n s.path.now (origin_of s.from) at next.Exit p) e
+  pub opens-exit : opening.Opens tells told s at next.Exit (Ok x) w w
+  unfolding open_file
+  opens-exit = λ files k seen sees. (seen, sees, ap (λ n. opener_of files n s.path.now (origin_of s.from) at next.Exit (progress_at w seen)) e)
 
 -- ---- a reference file that may not begin
 

@@ -1,33 +1,21 @@
 -- What a bench answers, and what is due for it.
-use Rattle.std.specs.Prelude.{◌≡◌, ℕ, false, List, slice_get, IsSome, Option, Ok, ⊤}
+use Rattle.std.specs.Prelude.{◌≡◌, ℕ, List, slice_get, IsSome, Ok, ⊤}
 use Rattle.eo_io.specs.Library.{Files}
 use Rattle.eo_run.specs.Answer.{Answers, FileInRange, answer_due}
 use Rattle.eo_run.specs.Check.{verdict}
-use Rattle.eo_run.specs.Opening.{Told}
 use Rattle.eo_run.specs.Pieces.{counts_due}
 use Rattle.eo_run.specs.Printed.{Due}
-use Rattle.eo_run.specs.Progress.{progress_of}
 use Rattle.eo_session.specs.Roots.{live_count}
-use Rattle.eo_run.specs.Run.{Progress, Ran, run_check}
+use Rattle.eo_run.specs.Run.{Progress, run_check}
 use Rattle.eo_session.specs.State.{State}
 use Rattle.eo_run.specs.Verdict.{Correct}
 use Rattle.eo_run.specs.declared.BenchEnd.{BenchEnd}
 use Rattle.eo_run.specs.declared.BenchEnd.TheVariants as ends
+use Rattle.eo_run.specs.declared.CheckEnd.{CheckEnd}
+use Rattle.eo_run.specs.declared.CheckEnd.TheVariants as checks
 use Rattle.eo_run.specs.declared.CheckJob.{CheckJob}
 use Rattle.eo_run.specs.declared.Verdict.{Verdict}
 use Rattle.eo_run.specs.declared.Verdict.TheVariants as answer
-use Rattle.eo_run.specs.declared.opening.Run.{Run}
-
--- ---- the run behind a correct answer
-
--- the session goes on, and the run is where the definition's ends
-pub record IsLast (told : Option Files) (ran : Files → Ran) (run : Run) : Type 0 where
-  pub going : run.session.ended ≡ false
-  pub runs : Told told (λ files. ran files ≡ Ok (progress_of run))
-
-abbrev pub LeavesLast : Option Files → (Files → Ran) → Verdict → Run → Type 0
-LeavesLast told ran answer.Correct run = IsLast told ran run
-LeavesLast told ran v run = ⊤
 
 -- ---- what is answered
 
@@ -51,10 +39,10 @@ abbrev pub AnswersBench : Files → CheckJob → List (List ℕ) → BenchEnd �
 AnswersBench files job paths (ends.Correct commands terms) = Counts files job commands terms
 AnswersBench files job paths (ends.Other v) = Answers paths v (verdict files job) × IsOtherEnd paths v
 
--- what is answered for a verdict and the state behind it
-abbrev pub counted : Verdict → State → BenchEnd
-counted answer.Correct st = ends.Correct st.commands (live_count st)
-counted v st = ends.Other v
+-- what is answered for the end of a check and the state there
+abbrev pub counted : CheckEnd → State → BenchEnd
+counted (checks.Correct r) st = ends.Correct st.commands (live_count st)
+counted (checks.Ended v) st = ends.Other v
 
 -- ---- what is due for it
 

@@ -12,7 +12,7 @@ use Rattle.eo_run.specs.Verdict.{Verdict, Correct, Incomplete, Loaded, Refused}
 use Rattle.eo_run.specs.declared.CheckJob.{CheckJob}
 
 abbrev pub loaded : Ran → Verdict
-loaded (Err refusal) = Refused refusal
+loaded (Err stopped) = Refused stopped.refusal
 loaded (Ok p) = Loaded p.state.commands
 
 module _ (files : Files) where
@@ -26,7 +26,7 @@ module _ (files : Files) where
   ended proof sorry None = if sorry then Incomplete else Correct
 
   abbrev pub checked : (proof : List ℕ) → Ran → Verdict
-  checked proof (Err refusal) = Refused refusal
+  checked proof (Err stopped) = Refused stopped.refusal
   checked proof (Ok p) = ended proof p.state.sorry (end_fault p.state)
 
   -- The verdict of a check.

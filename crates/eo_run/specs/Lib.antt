@@ -1,12 +1,15 @@
 pub mod Verdict
 pub mod Printed
 pub mod Answer
+pub mod Seen
 pub mod Run
 pub mod Check
+pub mod Watching
 pub mod Reading
 pub mod Opening
 pub mod Progress
 pub mod Judging
+pub mod Ending
 pub mod Pieces
 pub mod Refutation
 pub mod Bench

@@ -1,10 +1,13 @@
 -- What a load answers, and one whose session is kept.
-use Rattle.std.specs.Prelude.{◌≡◌, ℕ, false, List, Option, Some, IsSome, Result, Ok, Err, slice_get, ⊤}
+use Rattle.std.specs.Prelude.{◌≡◌, ℕ, false, List, [], Option, Some, IsSome, Result, Ok, Err, slice_get, ⊤}
 use Rattle.eo_base.specs.declared.Place.{Place}
 use Rattle.eo_io.specs.Library.{Files}
 use Rattle.eo_session.specs.Origin.{Signature}
 use Rattle.eo_session.specs.State.{State}
 use Rattle.eo_session.specs.Stepping.{Standing}
+use Rattle.eo_session.specs.Notes as notes
+use Rattle.eo_run.specs.Seen.{Seen}
+use Rattle.eo_run.specs.Progress.{Point, progress_at, SeesAt}
 use Rattle.eo_run.specs.Run.{Progress, run_load, shown}
 use Rattle.eo_run.specs.Check.{file_end}
 use Rattle.eo_run.specs.Answer.{AnswerHasCause}
@@ -14,10 +17,11 @@ use Rattle.eo_run.specs.declared.LoadEnd.{LoadEnd}
 use Rattle.eo_run.specs.declared.LoadEnd.TheVariants as ends
 use Rattle.eo_run.specs.declared.Verdict.{Verdict}
 
--- The file is run to its end, which is this place, or what is answered for it is told.
-abbrev pub RunsLoad : Option Files → (name : List ℕ) → Result Place Verdict → Progress → List (List ℕ) → Type 0
-RunsLoad told name (Ok place) new paths = Told told (λ files. EndsRun files name Signature (run_load files name) new paths place)
-RunsLoad told name (Err v) new paths = Told told (λ files. StopsAs (λ refusal. run_load files name ≡ Err refusal) paths v)
+-- From its beginning, where nothing was accepted, the file is run to its end, which is this place, or what is answered for it is told.
+abbrev pub RunsLoad : {O : Type 0} → (O → List notes.Seen → Type 0) → Option Files → (name : List ℕ) → Result Place Verdict → (old new : Point O) → Type 0
+RunsLoad tells told name (Ok place) old new =
+    Told told (λ files. SeesAt tells old [] → (all : List Seen) × SeesAt tells new all × EndsRun files name Signature (run_load files name) (progress_at new all) new.paths place)
+RunsLoad tells told name (Err v) old new = Told told (λ files. SeesAt tells old [] → StopsAs (λ stopped. run_load files name ≡ Err stopped) (SeesAt tells new) new.paths v)
 
 -- ---- a load whose session is kept
 
@@ -33,7 +37,7 @@ pub record EndsLoad (files : Files) (name : List ℕ) (st : State) (paths : List
 -- The session is in the state at the end of the file, or what is answered for its run is told.
 abbrev pub AnswersSession : Option Files → (name : List ℕ) → List (List ℕ) → LoadEnd → Type 0
 AnswersSession told name paths (ends.Ready session place) = Told told (λ files. EndsLoad files name session.state paths place)
-AnswersSession told name paths (ends.Ended v) = Told told (λ files. StopsAs (λ refusal. run_load files name ≡ Err refusal) paths v)
+AnswersSession told name paths (ends.Ended v) = Told told (λ files. StopsAs (λ stopped. run_load files name ≡ Err stopped) (λ seen. ⊤) paths v)
 
 -- The session goes on, and the place is in one of the paths, or it is an answer for a run that stops.
 abbrev pub IsLoadEnd : List (List ℕ) → LoadEnd → Type 0

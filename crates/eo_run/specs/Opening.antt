@@ -1,6 +1,5 @@
 -- What the run of a file, with the files that its commands open, does to a run, where files are told.
-use Rattle.std.specs.Prelude.{◌≡◌, ◌≢◌, ℕ, zero, suc, ◌+◌, ◌-◌, ◌≤◌, ◌<◌, Bool, true, false, List, [], ◌∷◌, ◌++◌, length, slice_get, IsSome, Option, Some, None, Result, Ok, Err, OnOk, IfErr, ⊤}
-use Rattle.eo_base.specs.Causes.{Rose}
+use Rattle.std.specs.Prelude.{◌≡◌, ◌≢◌, ℕ, zero, suc, ◌+◌, ◌-◌, ◌≤◌, ◌<◌, Bool, true, false, List, [], ◌∷◌, length, slice_get, position, bytes_eq, IsSome, Option, Some, None, Result, Ok, Err, OnOk, IfErr, ⊤}
 use Rattle.eo_base.specs.Checks.{Checked}
 use Rattle.eo_base.specs.declared.FaultName.{FaultName}
 use Rattle.eo_base.specs.declared.FaultName.TheVariants.{BadPath, FileAbsent}
@@ -14,12 +13,14 @@ use Rattle.eo_sexp.specs.Collecting.{Collecting, new_collector, here_of, IsLive}
 use Rattle.eo_sexp.specs.Cutting.{IsWaiting}
 use Rattle.eo_sexp.specs.Answering.{end_of}
 use Rattle.eo_session.specs.State.{State}
-use Rattle.eo_run.specs.Run.{Progress, Ran, Opener, commands_of, open_nothing, open_file, included_runner, run_commands}
-use Rattle.eo_run.specs.Reading.{Continuation, behind, at_end, Leads, Finishes, Fails}
+use Rattle.eo_session.specs.Notes as notes
+use Rattle.eo_run.specs.Run.{Progress, Stopped, Ran, Opener, commands_of, open_nothing, open_file, included_runner, run_commands}
+use Rattle.eo_run.specs.Progress.{Point, progress_at, SeesAt}
+use Rattle.eo_run.specs.Reading.{Continuation, behind, at_end, Leads, Finishes, Fails, Passes}
+use Rattle.eo_run.specs.Seen.{Seen}
 use Rattle.eo_session.specs.Origin.{Origin}
 use Rattle.eo_session.specs.Origin as origin
-use Rattle.eo_run.specs.Verdict.{Refusal}
-use Rattle.eo_run.specs.Answer.{Denotes, AnswerHasCause}
+use Rattle.eo_run.specs.Answer.{Denotes}
 use Rattle.eo_session.specs.Numbered.{origin_of, number_of}
 use Rattle.eo_session.specs.declared.Next.{Next}
 use Rattle.eo_session.specs.declared.Next.TheVariants as next
@@ -34,7 +35,7 @@ use Rattle.eo_run.specs.declared.reading.Stop.TheVariants as stop
 
 -- its number is that of its path
 abbrev pub IsNumbered : List (List ℕ) → Source → Type 0
-IsNumbered paths s = slice_get paths (number_of s.from) ≡ Some s.path.now
+IsNumbered paths s = position (bytes_eq s.path.now) paths ≡ Some (number_of s.from)
 
 -- what its commands may open: nothing, or a reference file and files that may be included
 abbrev pub opener_of : Files → (opens : ℕ) → Opener
@@ -47,8 +48,8 @@ run_source files s reads p = run_commands (opener_of files s.opens) s.path.now (
 abbrev pub LeadsIn : Files → Source → (old new : Progress) → (r t : Continuation) → Type 0
 LeadsIn files s old new r t = Leads (opener_of files s.opens) s.path.now (origin_of s.from) old new r t
 
-abbrev pub FailsIn : Files → Source → Progress → Continuation → Refusal → Type 0
-FailsIn files s old r refusal = Fails (opener_of files s.opens) s.path.now (origin_of s.from) old r refusal
+abbrev pub FailsIn : Files → Source → Progress → Continuation → Stopped → Type 0
+FailsIn files s old r stopped = Fails (opener_of files s.opens) s.path.now (origin_of s.from) old r stopped
 
 abbrev pub FinishesIn : Files → Source → (old new : Progress) → Continuation → Type 0
 FinishesIn files s old new r = Finishes (opener_of files s.opens) s.path.now (origin_of s.from) old new r
@@ -57,16 +58,16 @@ FinishesIn files s old new r = Finishes (opener_of files s.opens) s.path.now (or
 abbrev pub Told : Option Files → (Files → Type 0) → Type 0
 Told told P = (files : Files) → told ≡ Some files → P files
 
--- ---- what is answered for a run that stops
+-- ---- what is returned for a run that stops
 
--- The run ends with the refusal that the answer stands for.
-abbrev pub StopsAs : (Refusal → Type 0) → List (List ℕ) → Verdict → Type 0
-StopsAs Refused paths (answer.Refused fault) = (refusal : Refusal) × Refused refusal × Denotes paths fault refusal
-StopsAs Refused paths answer.ReadFault = ⊤
-StopsAs Refused paths answer.OutOfMemory = ⊤
-StopsAs Refused paths v = ⊥
+-- The run ends with the refusal that the verdict stands for, and this holds of the commands that were accepted before.
+abbrev pub StopsAs : (Stopped → Type 0) → (List Seen → Type 0) → List (List ℕ) → Verdict → Type 0
+StopsAs Stops Holds paths (answer.Refused fault) = (stopped : Stopped) × Stops stopped × Denotes paths fault stopped.refusal × Holds stopped.seen
+StopsAs Stops Holds paths answer.ReadFault = ⊤
+StopsAs Stops Holds paths answer.OutOfMemory = ⊤
+StopsAs Stops Holds paths v = ⊥
 
--- An answer for a run that stops. The file of a refusal is one of the paths.
+-- A verdict of a run that stops. The file of a refusal is one of the paths.
 abbrev pub IsStop : List (List ℕ) → Verdict → Type 0
 IsStop paths answer.Correct = ⊥
 IsStop paths answer.Incomplete = ⊥
@@ -83,17 +84,11 @@ pub record IsReady (count : ℕ) (s : Source) (run : Run) (paths : List (List �
   pub going : run.session.ended ≡ false
   pub numbered : IsNumbered paths s
 
--- What it keeps: the session goes on where it does not stop, what it answers where it does is an answer for that, and each path has its number.
+-- What it keeps: the session goes on where it does not stop, its verdict where it does is one for that, and each path has its number.
 pub record Keeps {A : Type 0} (result : Result A Verdict) (run : Run) (before after : List (List ℕ)) : Type 0 where
   pub going : OnOk result (run.session.ended ≡ false)
   pub kind : IfErr result (IsStop after)
   pub table : Extends before after
-
--- Why a file is absent, where none are told, or why its run stops.
-abbrev pub FileHasCause : {A F : Type 0} → Result (Option A) Verdict → Option F → (before now : ℕ) → Type 0
-FileHasCause (Ok None) None before now = Rose before now
-FileHasCause (Ok x) told before now = ⊤
-FileHasCause (Err v) told before now = AnswerHasCause v told before now
 
 -- the place in the file
 abbrev pub place_in : Source → Spot → Place
@@ -102,7 +97,7 @@ place_in s at = record { file = number_of s.from; line = at.line; offset = at.of
 abbrev pub refused_at : FaultName → Source → Spot → Verdict
 refused_at name s at = answer.Refused (record { name = name; place = place_in s at })
 
--- what is answered for a file that is there, by how its run ends
+-- what is returned for a file that is there, by how its run ends
 abbrev pub as_found : Result Spot Verdict → Result (Option Spot) Verdict
 as_found (Ok at) = Ok (Some at)
 as_found (Err v) = Err v
@@ -113,7 +108,7 @@ opened_at (Ok (Some end)) s at = Ok tt
 opened_at (Ok None) s at = Err (refused_at FileAbsent s at)
 opened_at (Err v) s at = Err v
 
--- what is answered for a file that is not read to its end
+-- the verdict of a file that is not read to its end
 abbrev pub stop_verdict : Stop → Source → Verdict
 stop_verdict (stop.Fault name at) s = refused_at name s at
 stop_verdict stop.ReadFault s = answer.ReadFault
@@ -131,18 +126,7 @@ BeginsHere s at (Ok x) m new = m ≡ Ok new
 BeginsHere s at (Err answer.OutOfMemory) m new = ⊤
 BeginsHere s at (Err v) m new = (name : FaultName) × (m ≡ Err name) × (v ≡ refused_at name s at)
 
--- ---- what a command asks for
-
-abbrev pub Opens : Option Files → Source → Spot → Next → Result (Unit {0}) Verdict → (old new : Progress) → List (List ℕ) → Type 0
-Opens told s at what (Ok x) old new paths = Told told (λ files. opener_of files s.opens s.path.now (origin_of s.from) at what old ≡ Ok new)
-Opens told s at what (Err v) old new paths = Told told (λ files. StopsAs (λ refusal. opener_of files s.opens s.path.now (origin_of s.from) at what old ≡ Err refusal) paths v)
-
--- the same of a command that includes the file of this path, or refers to it
-abbrev pub IncludesAt : Option Files → Source → Spot → (file : List ℕ) → Result (Unit {0}) Verdict → (old new : Progress) → List (List ℕ) → Type 0
-IncludesAt told s at file result old new paths = (name : List ℕ) → fold_path s.path.now name ≡ Some file → Opens told s at (next.Include name) result old new paths
-
-abbrev pub RefersAt : Option Files → Source → Spot → (file : List ℕ) → Result (Unit {0}) Verdict → (old new : Progress) → List (List ℕ) → Type 0
-RefersAt told s at file result old new paths = (name : List ℕ) → fold_path s.path.now name ≡ Some file → Opens told s at (next.Reference name) result old new paths
+-- ---- files inside
 
 -- i is this file as one that s includes: of the same origin, and with one less that may be open inside it.
 pub record IsIncluded (s : Source) (file : List ℕ) (number : ℕ) (i : Source) : Type 0 where
@@ -152,75 +136,115 @@ pub record IsIncluded (s : Source) (file : List ℕ) (number : ℕ) (i : Source)
   pub plain : i.wrapped ≡ false
   pub opens : i.opens ≡ s.opens - 1
 
--- ---- a piece, and the end
-
 -- This holds unless it is a reference file, which may end before its last byte, by a command.
 abbrev pub IfWhole : Origin → Type 0 → Type 0
 IfWhole from P = from ≢ origin.Reference → P
 
-pub record IsTaken (told : Option Files) (s : Source) (old new : Progress) (c d : Collecting) (piece : List ℕ) : Type 0 where
-  pub leads : Told told (λ files. LeadsIn files s old new (behind c piece) (behind d []))
-  pub live : IsLive d
-  pub waiting : IsWaiting limits d
-  pub here : (here_of d).offset ≤ (here_of c).offset + length piece
+-- ---- runs
 
--- The file ends with a command of the piece.
-pub record IsLeft (told : Option Files) (s : Source) (old new : Progress) (c : Collecting) (piece : List ℕ) : Type 0 where
-  pub finishes : Told told (λ files. FinishesIn files s old new (behind c piece))
-  pub reference : origin_of s.from ≡ origin.Reference
+-- what a command asks for
+abbrev pub opens_in : Files → Source → Spot → Next → Progress → Ran
+opens_in files s at what p = opener_of files s.opens s.path.now (origin_of s.from) at what p
 
--- The piece is taken, or the file ends in it.
-abbrev pub TakesPiece : Option Files → Source → Result Bool Verdict → (old new : Progress) → (c d : Collecting) → List ℕ → List (List ℕ) → Type 0
-TakesPiece told s (Ok true) old new c d piece paths = IsTaken told s old new c d piece
-TakesPiece told s (Ok false) old new c d piece paths = IsLeft told s old new c piece
-TakesPiece told s (Err v) old new c d piece paths = Told told (λ files. StopsAs (FailsIn files s old (behind c piece)) paths v)
-
-abbrev pub TakesEnd : Option Files → Source → Result Spot Verdict → (old new : Progress) → Collecting → List (List ℕ) → Type 0
-TakesEnd told s (Ok at) old new c paths = Told told (λ files. FinishesIn files s old new (at_end c) × IfWhole (origin_of s.from) (end_of (at_end c true []) ≡ Some at))
-TakesEnd told s (Err v) old new c paths = Told told (λ files. StopsAs (FailsIn files s old (at_end c)) paths v)
-
--- ---- a file
-
--- These bytes of the file opened last were read, and its rest is left. The other open files are as before.
-abbrev pub Passes : List Rest → List ℕ → List Rest → Type 0
-Passes [] bytes after = ⊥
-Passes (None ∷ others) bytes after = (rest : Rest) × (after ≡ rest ∷ others)
-Passes (Some file ∷ others) bytes after = (rest : List ℕ) × (file ≡ bytes ++ rest) × (after ≡ Some rest ∷ others)
-
--- the file opened last is still open, as are the others
-abbrev pub StaysOpen : List Rest → List Rest → Type 0
-StaysOpen [] after = ⊥
-StaysOpen (rest ∷ others) after = (left : Rest) × (after ≡ left ∷ others)
-
--- What a library keeps while the file opened last is read.
-pub record LibraryReads {S F : Type 0} (told : S → Option F) (open_files : S → List Rest) (faults : S → ℕ) (old new : S) : Type 0 where
-  pub same : told new ≡ told old
-  pub stays : StaysOpen (open_files old) (open_files new)
-  pub later : faults old ≤ faults new
-
--- How far a file is read.
-pub record IsRead (told : Option Files) (s : Source) (old new : Progress) (c : Collecting) (left : ℕ) (before after : List Rest) : Type 0 where
-  pub bytes : List ℕ
-  pub count : length bytes + left ≡ limits.file
-  pub passes : Passes before bytes after
-  pub taken : IsTaken told s old new (new_collector s.wrapped) c bytes
-
-abbrev pub RunsBytes : Files → Source → Result Spot Verdict → (old new : Progress) → List (List ℕ) → List ℕ → Type 0
-RunsBytes files s (Ok at) old new paths bytes = (run_source files s (commands_of s.wrapped bytes) old ≡ Ok new) × IfWhole (origin_of s.from) (at ≡ spot_after first_spot bytes)
-RunsBytes files s (Err v) old new paths bytes = StopsAs (λ refusal. run_source files s (commands_of s.wrapped bytes) old ≡ Err refusal) paths v
-
--- the file opened last is run to its end, where it is told
-abbrev pub RunsOpen : Option Files → Source → Result Spot Verdict → (old new : Progress) → List (List ℕ) → List Rest → Type 0
-RunsOpen told s result old new paths [] = ⊥
-RunsOpen told s result old new paths (None ∷ others) = ⊤
-RunsOpen told s result old new paths (Some bytes ∷ others) = Told told (λ files. RunsBytes files s result old new paths bytes)
+-- the run of these bytes of the source
+abbrev pub run_bytes : Files → Source → List ℕ → Progress → Ran
+run_bytes files s bytes p = run_source files s (commands_of s.wrapped bytes) p
 
 -- The file of the source is there, and its run is refused.
-abbrev pub RefusesFile : Files → Source → Progress → Refusal → Type 0
-RefusesFile files s old refusal = (bytes : List ℕ) × (file_at files s.path.now ≡ Some bytes) × (run_source files s (commands_of s.wrapped bytes) old ≡ Err refusal)
+abbrev pub RefusesFile : Files → Source → Progress → Stopped → Type 0
+RefusesFile files s p stopped = (bytes : List ℕ) × (file_at files s.path.now ≡ Some bytes) × (run_bytes files s bytes p ≡ Err stopped)
 
--- The file of the source is absent, or it is run to its end, or what is answered for it is told.
-abbrev pub RunsFile : Option Files → Source → Result (Option Spot) Verdict → (old new : Progress) → List (List ℕ) → Type 0
-RunsFile told s (Ok None) old new paths = Told told (λ files. file_at files s.path.now ≡ None)
-RunsFile told s (Ok (Some at)) old new paths = Told told (λ files. (bytes : List ℕ) × (file_at files s.path.now ≡ Some bytes) × RunsBytes files s (Ok at) old new paths bytes)
-RunsFile told s (Err v) old new paths = Told told (λ files. StopsAs (RefusesFile files s old) paths v)
+-- ---- from one point to another
+
+module _ {O : Type 0} (tells : O → List notes.Seen → Type 0) where
+  -- Whatever was accepted before and seen, the run from the first point ends at the second, and what was accepted is seen.
+  abbrev pub Reaches : (old new : Point O) → (Progress → Ran) → Type 0
+  Reaches old new run = (seen : List Seen) → SeesAt tells old seen → (all : List Seen) × SeesAt tells new all × (run (progress_at old seen) ≡ Ok (progress_at new all))
+
+  -- nothing more is accepted
+  abbrev pub StillSees : (old new : Point O) → Type 0
+  StillSees old new = (seen : List Seen) → SeesAt tells old seen → SeesAt tells new seen
+
+  -- or it is refused, with this verdict
+  abbrev pub Refuses : (old new : Point O) → Verdict → (Progress → Stopped → Type 0) → Type 0
+  Refuses old new v Stops = (seen : List Seen) → SeesAt tells old seen → StopsAs (Stops (progress_at old seen)) (SeesAt tells new) new.paths v
+
+  abbrev pub Runs : (old new : Point O) → Result (Unit {0}) Verdict → (Progress → Ran) → Type 0
+  Runs old new (Ok x) run = Reaches old new run
+  Runs old new (Err v) run = Refuses old new v (λ p stopped. run p ≡ Err stopped)
+
+  -- ---- what a command asks for
+
+  abbrev pub Opens : Option Files → Source → Spot → Next → Result (Unit {0}) Verdict → (old new : Point O) → Type 0
+  Opens told s at what result old new = Told told (λ files. Runs old new result (opens_in files s at what))
+
+  -- the same of a command that includes the file of this path, or refers to it
+  abbrev pub IncludesAt : Option Files → Source → Spot → (file : List ℕ) → Result (Unit {0}) Verdict → (old new : Point O) → Type 0
+  IncludesAt told s at file result old new = (name : List ℕ) → fold_path s.path.now name ≡ Some file → Opens told s at (next.Include name) result old new
+
+  abbrev pub RefersAt : Option Files → Source → Spot → (file : List ℕ) → Result (Unit {0}) Verdict → (old new : Point O) → Type 0
+  RefersAt told s at file result old new = (name : List ℕ) → fold_path s.path.now name ≡ Some file → Opens told s at (next.Reference name) result old new
+
+  -- ---- a piece, and the end
+
+  -- the run of r leads on to that of t
+  abbrev pub GoesOn : Files → Source → (old new : Point O) → (r t : Continuation) → Type 0
+  GoesOn files s old new r t = (seen : List Seen) → SeesAt tells old seen → (all : List Seen) × SeesAt tells new all × LeadsIn files s (progress_at old seen) (progress_at new all) r t
+
+  abbrev pub ComesToEnd : Files → Source → (old new : Point O) → Continuation → Type 0
+  ComesToEnd files s old new r = (seen : List Seen) → SeesAt tells old seen → (all : List Seen) × SeesAt tells new all × FinishesIn files s (progress_at old seen) (progress_at new all) r
+
+  abbrev pub IsFailing : Files → Source → (old new : Point O) → Continuation → Verdict → Type 0
+  IsFailing files s old new r v = Refuses old new v (λ p stopped. FailsIn files s p r stopped)
+
+  pub record IsTaken (told : Option Files) (s : Source) (old new : Point O) (c d : Collecting) (piece : List ℕ) : Type 0 where
+    pub leads : Told told (λ files. GoesOn files s old new (behind c piece) (behind d []))
+    pub live : IsLive d
+    pub waiting : IsWaiting limits d
+    pub here : (here_of d).offset ≤ (here_of c).offset + length piece
+
+  -- The file ends with a command of the piece.
+  pub record IsLeft (told : Option Files) (s : Source) (old new : Point O) (c : Collecting) (piece : List ℕ) : Type 0 where
+    pub finishes : Told told (λ files. ComesToEnd files s old new (behind c piece))
+    pub reference : origin_of s.from ≡ origin.Reference
+
+  -- The piece is taken, or the file ends in it.
+  abbrev pub TakesPiece : Option Files → Source → Result Bool Verdict → (old new : Point O) → (c d : Collecting) → List ℕ → Type 0
+  TakesPiece told s (Ok true) old new c d piece = IsTaken told s old new c d piece
+  TakesPiece told s (Ok false) old new c d piece = IsLeft told s old new c piece
+  TakesPiece told s (Err v) old new c d piece = Told told (λ files. IsFailing files s old new (behind c piece) v)
+
+  -- at this place
+  abbrev pub EndsAt : Files → Source → Spot → (old new : Point O) → Collecting → Type 0
+  EndsAt files s at old new c = (seen : List Seen) → SeesAt tells old seen → (all : List Seen) × SeesAt tells new all
+      × FinishesIn files s (progress_at old seen) (progress_at new all) (at_end c) × IfWhole (origin_of s.from) (end_of (at_end c true []) ≡ Some at)
+
+  abbrev pub TakesEnd : Option Files → Source → Result Spot Verdict → (old new : Point O) → Collecting → Type 0
+  TakesEnd told s (Ok at) old new c = Told told (λ files. EndsAt files s at old new c)
+  TakesEnd told s (Err v) old new c = Told told (λ files. IsFailing files s old new (at_end c) v)
+
+  -- ---- a file
+
+  -- How far a file is read.
+  pub record IsRead (told : Option Files) (s : Source) (old new : Point O) (c : Collecting) (left : ℕ) (before after : List Rest) : Type 0 where
+    pub bytes : List ℕ
+    pub count : length bytes + left ≡ limits.file
+    pub passes : Passes before bytes after
+    pub taken : IsTaken told s old new (new_collector s.wrapped) c bytes
+
+  abbrev pub RunsBytes : Files → Source → Result Spot Verdict → (old new : Point O) → List ℕ → Type 0
+  RunsBytes files s (Ok at) old new bytes = (seen : List Seen) → SeesAt tells old seen → (all : List Seen) × SeesAt tells new all
+      × (run_bytes files s bytes (progress_at old seen) ≡ Ok (progress_at new all)) × IfWhole (origin_of s.from) (at ≡ spot_after first_spot bytes)
+  RunsBytes files s (Err v) old new bytes = Refuses old new v (λ p stopped. run_bytes files s bytes p ≡ Err stopped)
+
+  -- the file opened last is run to its end, where it is told
+  abbrev pub RunsOpen : Option Files → Source → Result Spot Verdict → (old new : Point O) → List Rest → Type 0
+  RunsOpen told s result old new [] = ⊥
+  RunsOpen told s result old new (None ∷ others) = ⊤
+  RunsOpen told s result old new (Some bytes ∷ others) = Told told (λ files. RunsBytes files s result old new bytes)
+
+  -- The file of the source is absent, or it is run to its end, or the verdict of its refusal is told.
+  abbrev pub RunsFile : Option Files → Source → Result (Option Spot) Verdict → (old new : Point O) → Type 0
+  RunsFile told s (Ok None) old new = Told told (λ files. (file_at files s.path.now ≡ None) × StillSees old new)
+  RunsFile told s (Ok (Some at)) old new = Told told (λ files. (bytes : List ℕ) × (file_at files s.path.now ≡ Some bytes) × RunsBytes files s (Ok at) old new bytes)
+  RunsFile told s (Err v) old new = Told told (λ files. Refuses old new v (RefusesFile files s))

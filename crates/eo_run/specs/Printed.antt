@@ -43,7 +43,7 @@ bench_text n commands terms =
     line (codes "bench " ++ (decimal n ++ (codes ": correct, " ++ (decimal commands ++ (codes " commands, " ++ (decimal terms ++ codes " terms"))))))
 
 abbrev pub usage_text : List ℕ
-usage_text = line (codes "usage: ethos check [--include=F] [--reference=F] [--closed] PROOF | ethos load FILE | ethos bench N | ethos show FILE NAME")
+usage_text = line (codes "usage: ethos check [--include=F] [--reference=F] [--closed] PROOF | ethos load FILE | ethos bench N | ethos show FILE NAME | ethos trim [--include=F] [--reference=F] [--closed] PROOF | ethos prove --reference=F PROOF")
 
 abbrev pub read_fault_text : List ℕ
 read_fault_text = line (codes "read fault")

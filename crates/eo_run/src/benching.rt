@@ -4,12 +4,13 @@ ghost use Rattle.eo_io.specs.Stored.{with_file};
 ghost use Rattle.eo_run.specs.Bench.{bench_files, bench_job, bench_reference, bench_proof};
 ghost use Rattle.eo_run.specs.Bench.{hop, hop_clause, hop_fact, bench_end};
 ghost use Rattle.eo_run.specs.Benching.{AnswersBench, counted};
+ghost use Rattle.eo_run.specs.Ending.{IfCorrect};
 
 use crate::checking::{check_job, first_run};
-use crate::{BenchEnd, CheckJob, Verdict};
+use crate::{BenchEnd, CheckEnd, CheckJob, Verdict};
 use eo_base::{Text, both};
 use eo_io::{HonestLibrary, Paths};
-use eo_session::Session;
+use eo_session::{Nobody, Session};
 use std::alloc::{AllocError, Global};
 use std::fmt::Write;
 
@@ -68,23 +69,24 @@ fn count_run(
     let Ok(mut run) = first_run(alloc, job) else {
         return BenchEnd::Other(Verdict::OutOfMemory);
     };
-    let verdict = check_job(alloc, job, files, &mut run, paths);
-    let end = counts(verdict, &run.session);
+    let checked = check_job(alloc, job, files, &mut run, paths, &mut Nobody);
+    let end = counts(checked, &run.session);
     drop(run);
     end
 }
 
-/// What is answered for a verdict and the session behind it, which goes on where it is correct.
-fn counts(verdict: Verdict, session: &Session) -> BenchEnd
-    requires { verdict ≡ Verdict.Correct → session.now.ended ≡ false }
-    ensures { result ≡ counted verdict session.now.state }
+/// How a bench ends, by the end of its check and the session there, which goes on where it is
+/// correct.
+fn counts(checked: CheckEnd, session: &Session) -> BenchEnd
+    requires { IfCorrect checked (session.now.ended ≡ false) }
+    ensures { result ≡ counted checked session.now.state }
 {
-    match verdict {
-        Verdict::Correct => BenchEnd::Correct {
+    match checked {
+        CheckEnd::Correct(_) => BenchEnd::Correct {
             commands: session.commands(),
             terms: session.live(),
         },
-        _ => BenchEnd::Other(verdict),
+        CheckEnd::Ended(verdict) => BenchEnd::Other(verdict),
     }
 }
 

@@ -10,13 +10,15 @@ mod checking;
 mod laws;
 mod loading;
 mod opening;
+mod prelude;
 mod printing;
 mod reading;
 
 pub use benching::bench;
-pub use checking::{check_files, load_files};
+pub use checking::{check_files, check_observed, load_files};
 use eo_base::{Fault, Place, Text};
 use eo_session::Session;
+pub use eo_session::{Act, Note, Numbers, Observer, StepNote};
 pub use laws::soundness_law;
 pub use loading::load_session;
 pub use printing::{print_bench, print_line, print_verdict};
@@ -49,6 +51,28 @@ pub enum Verdict {
     ReadFault,
     /// There was no memory left.
     OutOfMemory,
+}
+
+/// How a check ends.
+#[derive(Clone, Copy, Debug, PartialEq, Eq)]
+pub enum CheckEnd {
+    /// The proof is correct.
+    Correct(Refutation),
+    /// It is not: any other verdict of a check.
+    Ended(Verdict),
+}
+
+/// What is known at the end of a correct proof.
+#[derive(Clone, Copy, Debug, PartialEq, Eq)]
+pub struct Refutation {
+    /// The number of the command that made the first `false` outside all scopes: how many commands
+    /// were accepted before it.
+    pub command: u64,
+    /// The place after the last byte of the proof.
+    pub end: Place,
+    /// Whether the proof's file was opened in another place too, as the include file or as the
+    /// reference file.
+    pub shared: bool,
 }
 
 /// What a load answers whose session is kept.

@@ -8,7 +8,7 @@ use crate::opening::Run;
 use crate::{LoadEnd, Verdict};
 use eo_base::{Place, Text};
 use eo_io::{Library, Paths};
-use eo_session::Session;
+use eo_session::{Nobody, Session};
 use std::alloc::Global;
 
 /// Runs a signature file, as [`load_files`](crate::load_files) does, and keeps its session.
@@ -34,11 +34,11 @@ pub fn load_session<L: Library>(
     let Ok(mut run) = first_load(alloc, file) else {
         return LoadEnd::Ended(Verdict::OutOfMemory);
     };
-    let end = load_to_end(alloc, file.as_bytes(), files, &mut run, paths);
+    let end = load_to_end(alloc, file.as_bytes(), files, &mut run, paths, &mut Nobody);
     load_end(session_of(run), end)
 }
 
-/// What is answered, with the session of a run that ends so.
+/// What is returned, with the session of a run that ends so.
 fn load_end(session: Session, end: Result<Place, Verdict>) -> LoadEnd
     ensures { result ≡ as_loaded session end }
 {
@@ -55,7 +55,12 @@ fn load_end(session: Session, end: Result<Place, Verdict>) -> LoadEnd
 fn session_of(run: Run) -> Session
     ensures { result ≡ run.session }
 {
-    let Run { session, included } = run;
+    let Run {
+        session,
+        included,
+        opened,
+    } = run;
     drop(included);
+    drop(opened);
     session
 }

@@ -1,23 +1,25 @@
 //! Files that are run, with the files that their commands open.
-ghost use Rattle.std.specs.Prelude.{◌≡◌, ◌≢◌, ◌<◌, ◌≤◌, ◌+◌, false, [], OnOk, IfOk, IfErr, length, drop, vec_len, bytes_eq};
+ghost use Rattle.std.specs.Prelude.{◌≡◌, ◌≢◌, ◌<◌, ◌≤◌, ◌+◌, false, [], OnOk, IfOk, IfErr, length, drop};
+ghost use Rattle.std.specs.Prelude.{vec_len, bytes_eq};
 ghost use Rattle.std.specs.List.{list_any};
 ghost use Rattle.eo_base.specs.Limits.{limits};
 ghost use Rattle.eo_io.specs.Library.{Closes};
+ghost use Rattle.eo_io.specs.Paths.{with_path};
 ghost use Rattle.eo_sexp.specs.Collecting.{new_collector, IsLive, HasRoom};
 ghost use Rattle.eo_sexp.specs.Cutting.{IsWaiting};
-ghost use Rattle.eo_run.specs.Answer.{AnswerHasCause};
-ghost use Rattle.eo_run.specs.Opening.{IsReady, Keeps, LibraryReads, FileHasCause, RunsOpen, RunsFile, TakesPiece, TakesEnd};
+ghost use Rattle.eo_run.specs.Answer.{AnswerHasCause, FileHasCause};
+ghost use Rattle.eo_run.specs.Opening.{IsReady, Keeps, RunsOpen, RunsFile, TakesPiece, TakesEnd};
 ghost use Rattle.eo_run.specs.Opening.{Opens, IncludesAt, RefersAt, FoldsHere, BeginsHere, IsIncluded, as_found, opened_at};
 ghost use Rattle.eo_run.specs.Opening.{stop_verdict, refused_at};
 ghost use Rattle.eo_session.specs.State.{begin_reference};
-ghost use Rattle.eo_run.specs.Progress.{progress_of};
-ghost use Rattle.eo_run.specs.Reading.{LibraryStays};
+ghost use Rattle.eo_run.specs.Progress.{point};
+ghost use Rattle.eo_run.specs.Reading.{LibraryStays, LibraryReads};
 
 use crate::Verdict;
 use crate::reading::{Stop, check_end, check_piece, exits};
 use eo_base::{Fault, FaultName, Place, Text, limits};
 use eo_io::{Got, Library, Opened, PathRefused, Paths, fold_path};
-use eo_session::{Next, Origin, Refused, Session};
+use eo_session::{Next, Observer, Origin, Refused, Session};
 use eo_sexp::{Collector, Spot, answers_law, pieces_law};
 use std::alloc::{AllocError, Global};
 
@@ -34,6 +36,8 @@ pub(crate) struct Run {
     pub(crate) session: Session,
     /// The files that were included, and those that count as included from the start.
     pub(crate) included: Paths,
+    /// The files that were opened, but for the proof of the job.
+    pub(crate) opened: Paths,
 }
 
 /// A file that is run.
@@ -49,19 +53,21 @@ pub(crate) struct Source<'a> {
     pub(crate) opens: usize,
 }
 
-/// Reads a file and checks its commands, with those of the files that they open. Answers the place
-/// behind its last byte, or nothing where it is absent. A reference file may end before, by a
+/// Reads a file and checks its commands, with those of the files that they open. Returns the place
+/// after its last byte, or nothing where it is absent. A reference file may end before, by a
 /// command. The library has the same files open as before.
 #[cycle(files)]
-pub(crate) fn check_file<L: Library>(
+pub(crate) fn check_file<L: Library, O: Observer>(
     alloc: Global,
     source: &Source<'_>,
     files: &mut L,
     run: &mut Run,
     paths: &mut Paths,
+    observer: &mut O,
 ) -> Result<Option<Spot>, Verdict>
     requires ready { IsReady (length (L.open_files files.old) + 1) source.now run.old paths.old }
-    ensures runs { RunsFile (L.told files.old) source.now result (progress_of run.old) (progress_of run.new) paths.new }
+    ensures runs { RunsFile O.tells (L.told files.old) source.now result (point run.old observer.old paths.old)
+        (point run.new observer.new paths.new) }
     ensures cause { FileHasCause result (L.told files.old) (L.faults files.old) (L.faults files.new) }
     ensures keeps { Keeps result run.new paths.old paths.new }
     ensures stays { LibraryStays L.told L.open_files L.faults files.old files.new }
@@ -70,7 +76,7 @@ pub(crate) fn check_file<L: Library>(
         Opened::Absent => Ok(None),
         Opened::Failed => Err(Verdict::ReadFault),
         Opened::Ready => {
-            let end = check_open(alloc, source, files, run, paths);
+            let end = check_open(alloc, source, files, run, paths, observer);
             closed(files, end)
         }
     }
@@ -93,17 +99,18 @@ fn closed<L: Library>(files: &mut L, end: Result<Spot, Verdict>) -> Result<Optio
 
 /// Reads the file opened last to its end, and checks its commands.
 #[cycle(files)]
-fn check_open<L: Library>(
+fn check_open<L: Library, O: Observer>(
     alloc: Global,
     source: &Source<'_>,
     files: &mut L,
     run: &mut Run,
     paths: &mut Paths,
+    observer: &mut O,
 ) -> Result<Spot, Verdict>
     requires open { L.open_files files.old ≢ [] }
     requires ready { IsReady (length (L.open_files files.old)) source.now run.old paths.old }
-    ensures runs { RunsOpen (L.told files.old) source.now result (progress_of run.old) (progress_of run.new) paths.new
-        (L.open_files files.old) }
+    ensures runs { RunsOpen O.tells (L.told files.old) source.now result (point run.old observer.old paths.old)
+        (point run.new observer.new paths.new) (L.open_files files.old) }
     ensures cause { IfErr result (λ v. AnswerHasCause v (L.told files.old) (L.faults files.old) (L.faults files.new)) }
     ensures keeps { Keeps result run.new paths.old paths.new }
     ensures reads { LibraryReads L.told L.open_files L.faults files.old files.new }
@@ -122,12 +129,13 @@ fn check_open<L: Library>(
         files,
         run,
         paths,
+        observer,
     )
 }
 
 /// The same by a new collector and a buffer that is not empty.
 #[cycle(files)]
-fn check_pieces<L: Library>(
+fn check_pieces<L: Library, O: Observer>(
     alloc: Global,
     source: &Source<'_>,
     collector: &mut Collector,
@@ -135,13 +143,14 @@ fn check_pieces<L: Library>(
     files: &mut L,
     run: &mut Run,
     paths: &mut Paths,
+    observer: &mut O,
 ) -> Result<Spot, Verdict>
     requires open { L.open_files files.old ≢ [] }
     requires ready { IsReady (length (L.open_files files.old)) source.now run.old paths.old }
     requires collector { collector.old ≡ new_collector source.now.wrapped }
     requires buffer { 0 < length buffer.old }
-    ensures runs { RunsOpen (L.told files.old) source.now result (progress_of run.old) (progress_of run.new) paths.new
-        (L.open_files files.old) }
+    ensures runs { RunsOpen O.tells (L.told files.old) source.now result (point run.old observer.old paths.old)
+        (point run.new observer.new paths.new) (L.open_files files.old) }
     ensures cause { IfErr result (λ v. AnswerHasCause v (L.told files.old) (L.faults files.old) (L.faults files.new)) }
     ensures keeps { Keeps result run.new paths.old paths.new }
     ensures reads { LibraryReads L.told L.open_files L.faults files.old files.new }
@@ -155,16 +164,27 @@ fn check_pieces<L: Library>(
             Got::Bytes(n) => n,
         };
         if n == 0 {
-            return check_rest(alloc, source, collector, files, run, paths);
+            return check_rest(alloc, source, collector, files, run, paths, observer);
         }
         if n as u64 > left {
             let counted = &buffer[..left as usize];
-            if take_piece(alloc, source, collector, counted, files, run, paths)? {
+            if take_piece(
+                alloc, source, collector, counted, files, run, paths, observer,
+            )? {
                 return Err(refused(FaultName::FileLong, source, collector.here()));
             }
             return Ok(collector.here());
         }
-        if !take_piece(alloc, source, collector, &buffer[..n], files, run, paths)? {
+        if !take_piece(
+            alloc,
+            source,
+            collector,
+            &buffer[..n],
+            files,
+            run,
+            paths,
+            observer,
+        )? {
             return Ok(collector.here());
         }
         left -= n as u64;
@@ -172,9 +192,9 @@ fn check_pieces<L: Library>(
 }
 
 /// Checks the commands that a piece of a file makes whole, with those of the files that they open.
-/// Answers whether the file goes on.
+/// Returns whether the file goes on.
 #[cycle(files)]
-fn take_piece<L: Library>(
+pub(crate) fn take_piece<L: Library, O: Observer>(
     alloc: Global,
     source: &Source<'_>,
     collector: &mut Collector,
@@ -182,25 +202,28 @@ fn take_piece<L: Library>(
     files: &mut L,
     run: &mut Run,
     paths: &mut Paths,
+    observer: &mut O,
 ) -> Result<bool, Verdict>
     requires ready { IsReady (length (L.open_files files.old)) source.now run.old paths.old }
     requires live { IsLive collector.old }
     requires waiting { IsWaiting limits collector.old }
     requires room { HasRoom collector.old piece.now }
-    ensures takes { TakesPiece (L.told files.old) source.now result (progress_of run.old) (progress_of run.new) collector.old collector.new
-        piece.now paths.new }
+    ensures takes { TakesPiece O.tells (L.told files.old) source.now result (point run.old observer.old paths.old)
+        (point run.new observer.new paths.new) collector.old collector.new piece.now }
     ensures cause { IfErr result (λ v. AnswerHasCause v (L.told files.old) (L.faults files.old) (L.faults files.new)) }
     ensures keeps { Keeps result run.new paths.old paths.new }
     ensures stays { LibraryStays L.told L.open_files L.faults files.old files.new }
 {
     let mut rest = piece;
     'commands: loop {
-        match check_piece(collector, source.from, &mut run.session, rest) {
+        match check_piece(collector, source.from, &mut run.session, observer, rest) {
             Err(stop) => return Err(stopped(stop, source)),
             Ok(None) => return Ok(true),
             Ok(Some(asked)) => {
                 let ends = exits(&asked.next);
-                open_next(alloc, source, asked.next, asked.at, files, run, paths)?;
+                open_next(
+                    alloc, source, asked.next, asked.at, files, run, paths, observer,
+                )?;
                 if ends {
                     return Ok(false);
                 }
@@ -210,7 +233,7 @@ fn take_piece<L: Library>(
     }
 }
 
-/// What is left of a piece behind these bytes.
+/// What is left of a piece after these bytes.
 fn left_of(piece: &[u8], used: usize) -> &[u8]
     requires { used ≤ length piece.now }
     ensures { result.now ≡ drop used piece.now }
@@ -219,31 +242,35 @@ fn left_of(piece: &[u8], used: usize) -> &[u8]
 }
 
 /// Checks the commands that the end of a file makes whole, with those of the files that they open.
-/// Answers the place behind its last byte, unless a command ends it before.
+/// Returns the place after its last byte, unless a command ends it before.
 #[cycle(files)]
-fn check_rest<L: Library>(
+pub(crate) fn check_rest<L: Library, O: Observer>(
     alloc: Global,
     source: &Source<'_>,
     collector: &mut Collector,
     files: &mut L,
     run: &mut Run,
     paths: &mut Paths,
+    observer: &mut O,
 ) -> Result<Spot, Verdict>
     requires ready { IsReady (length (L.open_files files.old)) source.now run.old paths.old }
     requires live { IsLive collector.old }
     requires waiting { IsWaiting limits collector.old }
-    ensures takes { TakesEnd (L.told files.old) source.now result (progress_of run.old) (progress_of run.new) collector.old paths.new }
+    ensures takes { TakesEnd O.tells (L.told files.old) source.now result (point run.old observer.old paths.old)
+        (point run.new observer.new paths.new) collector.old }
     ensures cause { IfErr result (λ v. AnswerHasCause v (L.told files.old) (L.faults files.old) (L.faults files.new)) }
     ensures keeps { Keeps result run.new paths.old paths.new }
     ensures stays { LibraryStays L.told L.open_files L.faults files.old files.new }
 {
     'atoms: loop {
-        match check_end(collector, source.from, &mut run.session) {
+        match check_end(collector, source.from, &mut run.session, observer) {
             Err(stop) => return Err(stopped(stop, source)),
             Ok(None) => return Ok(collector.here()),
             Ok(Some(asked)) => {
                 let ends = exits(&asked.next);
-                open_next(alloc, source, asked.next, asked.at, files, run, paths)?;
+                open_next(
+                    alloc, source, asked.next, asked.at, files, run, paths, observer,
+                )?;
                 if ends {
                     return Ok(collector.here());
                 }
@@ -255,7 +282,7 @@ fn check_rest<L: Library>(
 /// Does what a command at this place asks for. A reference file opens nothing. `BadPath` at this
 /// place: the file that is named has no path.
 #[cycle(files)]
-fn open_next<L: Library>(
+fn open_next<L: Library, O: Observer>(
     alloc: Global,
     source: &Source<'_>,
     next: Next,
@@ -263,9 +290,11 @@ fn open_next<L: Library>(
     files: &mut L,
     run: &mut Run,
     paths: &mut Paths,
+    observer: &mut O,
 ) -> Result<(), Verdict>
     requires ready { IsReady (length (L.open_files files.old)) source.now run.old paths.old }
-    ensures opens { Opens (L.told files.old) source.now at next result (progress_of run.old) (progress_of run.new) paths.new }
+    ensures opens { Opens O.tells (L.told files.old) source.now at next result (point run.old observer.old paths.old)
+        (point run.new observer.new paths.new) }
     ensures cause { IfErr result (λ v. AnswerHasCause v (L.told files.old) (L.faults files.old) (L.faults files.new)) }
     ensures keeps { Keeps result run.new paths.old paths.new }
     ensures stays { LibraryStays L.told L.open_files L.faults files.old files.new }
@@ -276,11 +305,29 @@ fn open_next<L: Library>(
     match next {
         Next::Include(name) => {
             let file = folded(alloc, source, &name, at)?;
-            include(alloc, source, file.as_bytes(), at, files, run, paths)
+            include(
+                alloc,
+                source,
+                file.as_bytes(),
+                at,
+                files,
+                run,
+                paths,
+                observer,
+            )
         }
         Next::Reference(name) => {
             let file = folded(alloc, source, &name, at)?;
-            refer(alloc, source, file.as_bytes(), at, files, run, paths)
+            refer(
+                alloc,
+                source,
+                file.as_bytes(),
+                at,
+                files,
+                run,
+                paths,
+                observer,
+            )
         }
         Next::Done | Next::Exit => Ok(()),
     }
@@ -289,7 +336,7 @@ fn open_next<L: Library>(
 /// Includes the file of this path, unless it is included already. At this place: `IncludeDepth`: it
 /// would be included too deep; `FileAbsent`: it is not there.
 #[cycle(files)]
-fn include<L: Library>(
+fn include<L: Library, O: Observer>(
     alloc: Global,
     source: &Source<'_>,
     file: &[u8],
@@ -297,10 +344,12 @@ fn include<L: Library>(
     files: &mut L,
     run: &mut Run,
     paths: &mut Paths,
+    observer: &mut O,
 ) -> Result<(), Verdict>
     requires opens { 0 < source.now.opens }
     requires ready { IsReady (length (L.open_files files.old)) source.now run.old paths.old }
-    ensures includes { IncludesAt (L.told files.old) source.now at file.now result (progress_of run.old) (progress_of run.new) paths.new }
+    ensures includes { IncludesAt O.tells (L.told files.old) source.now at file.now result (point run.old observer.old paths.old)
+        (point run.new observer.new paths.new) }
     ensures cause { IfErr result (λ v. AnswerHasCause v (L.told files.old) (L.faults files.old) (L.faults files.new)) }
     ensures keeps { Keeps result run.new paths.old paths.new }
     ensures stays { LibraryStays L.told L.open_files L.faults files.old files.new }
@@ -311,14 +360,14 @@ fn include<L: Library>(
     if source.opens == 1 {
         return Err(refused(FaultName::IncludeDepth, source, at));
     }
-    let Ok(_) = run.included.add(file) else {
+    let Ok(()) = count_included(run, file) else {
         return Err(Verdict::OutOfMemory);
     };
     let Ok(number) = paths.add(file) else {
         return Err(Verdict::OutOfMemory);
     };
     let inner = included_in(source, file, number);
-    let end = check_file(alloc, &inner, files, run, paths);
+    let end = check_file(alloc, &inner, files, run, paths, observer);
     opened(end, source, at)
 }
 
@@ -327,6 +376,17 @@ fn is_included(run: &Run, file: &[u8]) -> bool
     ensures { result ≡ list_any (bytes_eq file.now) run.now.included }
 {
     run.included.find(file).is_some()
+}
+
+/// Counts a file as included and opened. `Err` is out of memory.
+fn count_included(run: &mut Run, file: &[u8]) -> Result<(), AllocError>
+    ensures session { run.new.session ≡ run.old.session }
+    ensures included { OnOk result (run.new.included ≡ with_path run.old.included file.now) }
+    ensures opened { OnOk result (run.new.opened ≡ with_path run.old.opened file.now) }
+{
+    run.included.add(file)?;
+    run.opened.add(file)?;
+    Ok(())
 }
 
 /// The file of this path, with its number, as one that this file includes.
@@ -345,7 +405,7 @@ fn included_in<'a>(source: &Source<'_>, file: &'a [u8], number: usize) -> Source
 /// Reads the reference file of this path. At this place: `SecondReference`: there is one;
 /// `FileAbsent`: it is not there.
 #[cycle(files)]
-fn refer<L: Library>(
+fn refer<L: Library, O: Observer>(
     alloc: Global,
     source: &Source<'_>,
     file: &[u8],
@@ -353,15 +413,17 @@ fn refer<L: Library>(
     files: &mut L,
     run: &mut Run,
     paths: &mut Paths,
+    observer: &mut O,
 ) -> Result<(), Verdict>
     requires opens { 0 < source.now.opens }
     requires ready { IsReady (length (L.open_files files.old)) source.now run.old paths.old }
-    ensures refers { RefersAt (L.told files.old) source.now at file.now result (progress_of run.old) (progress_of run.new) paths.new }
+    ensures refers { RefersAt O.tells (L.told files.old) source.now at file.now result (point run.old observer.old paths.old)
+        (point run.new observer.new paths.new) }
     ensures cause { IfErr result (λ v. AnswerHasCause v (L.told files.old) (L.faults files.old) (L.faults files.new)) }
     ensures keeps { Keeps result run.new paths.old paths.new }
     ensures stays { LibraryStays L.told L.open_files L.faults files.old files.new }
 {
-    begin(run, source, at)?;
+    begin(run, source, file, at)?;
     let Ok(number) = paths.add(file) else {
         return Err(Verdict::OutOfMemory);
     };
@@ -371,11 +433,11 @@ fn refer<L: Library>(
         wrapped: false,
         opens: 0,
     };
-    let end = check_file(alloc, &reference, files, run, paths);
+    let end = check_file(alloc, &reference, files, run, paths, observer);
     opened(end, source, at)
 }
 
-/// What is answered for a command at this place that names a file, by how the run of the file ends.
+/// What is returned for a command at this place that names a file, by how the run of the file ends.
 fn opened(end: Result<Option<Spot>, Verdict>, source: &Source<'_>, at: Spot) -> Result<(), Verdict>
     ensures { result ≡ opened_at end source.now at }
 {
@@ -386,18 +448,24 @@ fn opened(end: Result<Option<Spot>, Verdict>, source: &Source<'_>, at: Spot) -> 
     }
 }
 
-/// Begins the reference file that a command at this place names. It does not count as included.
-fn begin(run: &mut Run, source: &Source<'_>, at: Spot) -> Result<(), Verdict>
+/// Begins the reference file that a command at this place names. It counts as opened, and not as
+/// included.
+fn begin(run: &mut Run, source: &Source<'_>, file: &[u8], at: Spot) -> Result<(), Verdict>
     requires going { run.old.session.ended ≡ false }
     ensures going { OnOk result (run.new.session.ended ≡ false) }
     ensures included { OnOk result (run.new.included ≡ run.old.included) }
+    ensures opened { OnOk result (run.new.opened ≡ with_path run.old.opened file.now) }
     ensures begins { BeginsHere source.now at result (begin_reference run.old.session.state) run.new.session.state }
 {
     match run.session.begin_reference() {
-        Ok(()) => Ok(()),
-        Err(Refused::Fault(name)) => Err(refused(name, source, at)),
+        Ok(()) => {}
+        Err(Refused::Fault(name)) => return Err(refused(name, source, at)),
         Err(Refused::Ended) => unreachable!(),
-        Err(Refused::Memory(_)) => Err(Verdict::OutOfMemory),
+        Err(Refused::Memory(_)) => return Err(Verdict::OutOfMemory),
+    }
+    match run.opened.add(file) {
+        Ok(_) => Ok(()),
+        Err(_) => Err(Verdict::OutOfMemory),
     }
 }
 

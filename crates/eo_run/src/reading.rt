@@ -4,13 +4,14 @@ ghost use Rattle.std.specs.Prelude.{◌≡◌, ◌↔◌, false, IsFalse, OnOk};
 ghost use Rattle.eo_base.specs.Limits.{limits};
 ghost use Rattle.eo_sexp.specs.Collecting.{IsLive, IsAtCommand, HasRoom};
 ghost use Rattle.eo_sexp.specs.Cutting.{IsWaiting};
-ghost use Rattle.eo_session.specs.Numbered.{origin_of};
+ghost use Rattle.eo_session.specs.Numbered.{origin_of, number_of};
 ghost use Rattle.eo_session.specs.declared.Next.TheVariants.{Done};
 ghost use Rattle.eo_run.specs.Run.{is_exit};
-ghost use Rattle.eo_run.specs.Reading.{IsOfText, ChecksLast, ChecksPiece, ChecksEnd};
+ghost use Rattle.eo_run.specs.Reading.{IsOfText, ChecksLast, ShowsLast, ChecksPiece, ChecksEnd};
+ghost use Rattle.eo_run.specs.Watching.{IsShown};
 
-use eo_base::FaultName;
-use eo_session::{Next, Origin, Refused, Session};
+use eo_base::{FaultName, Place};
+use eo_session::{Next, Observer, Origin, Refused, Session};
 use eo_sexp::{Collector, Fed, Finished, Spot, answers_law, pieces_law};
 
 /// Why a file is not read and checked to its end.
@@ -36,11 +37,12 @@ pub(crate) struct Asked {
 }
 
 /// Feeds a piece of a file, and checks each command that it makes whole, up to one that asks for
-/// something.
-pub(crate) fn check_piece(
+/// something. The observer is shown those that are accepted.
+pub(crate) fn check_piece<O: Observer>(
     collector: &mut Collector,
     from: Origin,
     session: &mut Session,
+    observer: &mut O,
     piece: &[u8],
 ) -> Result<Option<Asked>, Stop>
     requires live { IsLive collector.old }
@@ -48,7 +50,8 @@ pub(crate) fn check_piece(
     requires room { HasRoom collector.old piece.now }
     requires going { session.old.ended ≡ false }
     ensures going { OnOk result (session.new.ended ≡ false) }
-    ensures checks { ChecksPiece (origin_of from) result session.old.state session.new.state collector.old collector.new piece.now }
+    ensures checks { ChecksPiece (origin_of from) (IsShown O.tells observer.old observer.new (number_of from)) result session.old.state
+        session.new.state collector.old collector.new piece.now }
     ensures of_text { IsOfText result }
 {
     pieces_law();
@@ -58,7 +61,7 @@ pub(crate) fn check_piece(
         match collector.feed(rest) {
             Fed::More => return Ok(None),
             Fed::Command { used } => {
-                let next = check_command(collector, from, session)?;
+                let next = check_command(collector, from, session, observer)?;
                 rest = &rest[used..];
                 if asks(&next) {
                     let at = collector.start();
@@ -73,17 +76,20 @@ pub(crate) fn check_piece(
 }
 
 /// Ends a file, and checks the commands that the end makes whole, up to one that asks for
-/// something. Where none does, the collector stands behind the last byte.
-pub(crate) fn check_end(
+/// something. Where none does, the collector stands after the last byte. The observer is shown those
+/// that are accepted.
+pub(crate) fn check_end<O: Observer>(
     collector: &mut Collector,
     from: Origin,
     session: &mut Session,
+    observer: &mut O,
 ) -> Result<Option<Asked>, Stop>
     requires live { IsLive collector.old }
     requires waiting { IsWaiting limits collector.old }
     requires going { session.old.ended ≡ false }
     ensures going { OnOk result (session.new.ended ≡ false) }
-    ensures checks { ChecksEnd (origin_of from) result session.old.state session.new.state collector.old collector.new }
+    ensures checks { ChecksEnd (origin_of from) (IsShown O.tells observer.old observer.new (number_of from)) result session.old.state
+        session.new.state collector.old collector.new }
     ensures of_text { IsOfText result }
 {
     pieces_law();
@@ -92,7 +98,7 @@ pub(crate) fn check_end(
         match collector.finish() {
             Finished::End => return Ok(None),
             Finished::Command => {
-                let next = check_command(collector, from, session)?;
+                let next = check_command(collector, from, session, observer)?;
                 if asks(&next) {
                     let at = collector.start();
                     return Ok(Some(Asked { next, at, used: 0 }));
@@ -103,16 +109,34 @@ pub(crate) fn check_end(
     }
 }
 
-/// Checks the last command of the collector, which stays as it is.
-fn check_command(collector: &Collector, from: Origin, session: &mut Session) -> Result<Next, Stop>
+/// Checks the last command of the collector, which stays as it is, and shows it to the observer where
+/// it is accepted.
+fn check_command<O: Observer>(
+    collector: &Collector,
+    from: Origin,
+    session: &mut Session,
+    observer: &mut O,
+) -> Result<Next, Stop>
     requires command { IsAtCommand collector.now }
     requires going { session.old.ended ≡ false }
     ensures going { OnOk result (session.new.ended ≡ false) }
     ensures checks { ChecksLast (origin_of from) result session.old.state session.new.state collector.now }
+    ensures shows { ShowsLast O.tells observer.old observer.new (origin_of from) (number_of from) result session.old.state collector.now }
     ensures of_text { IsOfText result }
 {
     let at = collector.start();
-    match session.command(&collector.command(), from) {
+    let place = Place {
+        file: from.file(),
+        line: at.line,
+        offset: at.offset,
+    };
+    match session.command_by(
+        &collector.command(),
+        from,
+        collector.bytes(),
+        place,
+        observer,
+    ) {
         Ok(next) => Ok(next),
         Err(Refused::Fault(name)) => Err(Stop::Fault { name, at }),
         Err(Refused::Ended) => unreachable!(),
@@ -132,7 +156,7 @@ fn asks(next: &Next) -> bool
     }
 }
 
-/// Whether nothing of the file is read behind it.
+/// Whether nothing of the file is read after it.
 pub(crate) fn exits(next: &Next) -> bool
     ensures { result ≡ is_exit next.now }
 {

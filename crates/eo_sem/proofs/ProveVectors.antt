@@ -4,18 +4,20 @@ use Rattle.std.proofs.Common.{subst}
 use Rattle.std.proofs.lemmas.Option.{none-some, same_Some}
 use Rattle.eo_base.specs.Checks.{Checked}
 use Rattle.eo_base.specs.declared.FaultName.{FaultName}
-use Rattle.eo_base.specs.declared.FaultName.TheVariants.{ProofDeclares}
+use Rattle.eo_base.specs.declared.FaultName.TheVariants.{NotSemantic, ProofDeclares}
 use Rattle.eo_cpc.specs.Suite.{suite}
 use Rattle.eo_io.specs.Library.{Files}
 use Rattle.eo_run.proofs.Computed.{computed}
 use Rattle.eo_run.specs.Check.{checked}
 use Rattle.eo_run.specs.Run.{Ran, commands_of}
+use Rattle.eo_run.specs.Seen.{noted}
 use Rattle.eo_run.specs.Verdict.{Verdict, Correct, Refused}
 use Rattle.eo_sem.proofs.Accepted.{after_all, IfThere, then_there, all_there}
-use Rattle.eo_sem.specs.Proving.{prove_run}
+use Rattle.eo_sem.specs.Proving.{ProveVerdict, Valid, Other, prove_run, prove}
 use Rattle.eo_sem.specs.Reached.{ReachedBy, is_first, begins, accepts}
 use Rattle.eo_sem.specs.SemanticRules.{is_semantic}
 use Rattle.eo_sem.specs.Suite.{suite_state}
+use Rattle.eo_session.specs.Decisions.{scoped_decision, placed_decision}
 use Rattle.eo_session.specs.Origin.{Origin}
 use Rattle.eo_session.specs.Origin as origin
 use Rattle.eo_session.specs.State.{State, begin_reference}
@@ -67,6 +69,9 @@ ran reference proof = prove_run (files reference proof) (codes "r.smt2") (codes 
 
 abbrev verdict : (reference proof : List ℕ) → Verdict
 verdict reference proof = checked (files reference proof) (codes "p.eo") (ran reference proof)
+
+abbrev said : (reference proof : List ℕ) → ProveVerdict
+said reference proof = prove (files reference proof) (codes "r.smt2") (codes "p.eo")
 
 -- whether each command uses no rule or one that keeps truth, so that the state after them is reached by such rules
 abbrev is_semantic_proof : (reference proof : List ℕ) → Bool
@@ -155,3 +160,17 @@ discharged = refl
 discharged_by_semantic : is_semantic_proof implications discharging ≡ true
 unfolding computed suite_state
 discharged_by_semantic = refl
+
+-- ---- what is said
+
+contradiction_said : said contradiction contradicting ≡ Valid
+unfolding computed suite prove prove_run noted scoped_decision placed_decision
+contradiction_said = refl
+
+discharged_said : said implications discharging ≡ Valid
+unfolding computed suite prove prove_run noted scoped_decision placed_decision
+discharged_said = refl
+
+chained_said : said clauses chaining ≡ Other (Refused (record { name = NotSemantic; file = codes "p.eo"; line = 4; offset = 64 }))
+unfolding computed suite prove prove_run noted scoped_decision placed_decision
+chained_said = refl

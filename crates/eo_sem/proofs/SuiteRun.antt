@@ -1,5 +1,5 @@
 -- The run of the suite.
-use Rattle.std.specs.Prelude.{◌≡◌, refl, ℕ, true, false, List, Option, Some, None, Ok, Err}
+use Rattle.std.specs.Prelude.{◌≡◌, refl, ℕ, true, false, List, [], Option, Some, None, Ok, Err}
 use Rattle.eo_cpc.specs.Suite.{suite}
 use Rattle.eo_io.specs.Library.{Files}
 use Rattle.eo_run.specs.Run.{Ran, Runner, commands_of, run_file}
@@ -14,7 +14,7 @@ state_after (Ok p) = Some p.state
 state_after (Err refusal) = None
 
 -- Whatever its path, and whatever was included before, the suite runs to its end, and gives its signature.
-pub suite_runs : (files : Files) (deeper : Option Runner) (path : List ℕ) (included : List (List ℕ)) → state_after (run_file files deeper false path origin.Signature suite (record { state = first_state true; included = included })) ≡ Some suite_state
+pub suite_runs : (files : Files) (deeper : Option Runner) (path : List ℕ) (included : List (List ℕ)) → state_after (run_file files deeper false path origin.Signature suite (record { state = first_state true; included = included; opened = []; seen = [] })) ≡ Some suite_state
 unfolding computed suite suite_state
 suite_runs files deeper path included = refl
 

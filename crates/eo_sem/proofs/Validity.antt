@@ -21,10 +21,10 @@ use Rattle.eo_sound.specs.Quiet.{IsQuiet}
 use Rattle.eo_sound.specs.Soundness.{IsSoundBy}
 
 -- the session is closed, with the rules of the suite, and its signature begins with the suite's
-record FollowsSuite (st : State) : Type 0 where
-  closed : st.closed ≡ true
-  same : rules st.signature ≡ rules suite_signature
-  starts : (later : Signature) × (st.signature ≡ suite_signature ++ later)
+pub record FollowsSuite (st : State) : Type 0 where
+  pub closed : st.closed ≡ true
+  pub same : rules st.signature ≡ rules suite_signature
+  pub starts : (later : Signature) × (st.signature ≡ suite_signature ++ later)
 
 module _ (laws : CommandLaws) where
   -- ---- the suite
@@ -33,20 +33,20 @@ module _ (laws : CommandLaws) where
   suite_sound =
       all_there (IsSoundBy is_semantic) origin.Signature (λ st s r h may e. laws.command st origin.Signature s r h may e) (commands_of false suite) (first_state true) (laws.first true) suite_state suite_after
 
-  suite_follows : FollowsSuite suite_state
+  pub suite_follows : FollowsSuite suite_state
   unfolding suite_state first_state
   suite_follows = record { closed = refl; same = refl; starts = ([], sym (append-nil suite_signature)) }
 
   -- ---- what follows
 
-  quiet_follows : (st new : State) → FollowsSuite st → new.closed ≡ st.closed → IsQuiet st new → FollowsSuite new
+  pub quiet_follows : (st new : State) → FollowsSuite st → new.closed ≡ st.closed → IsQuiet st new → FollowsSuite new
   quiet_follows st new b c q = record {
     closed = c ∙ b.closed;
     same = q.rules_stay ∙ b.same;
     starts = (b.starts.0 ++ q.grows.0, q.grows.1 ∙ (ap (λ (S : Signature). S ++ q.grows.0) b.starts.1 ∙ append_assoc suite_signature b.starts.0 q.grows.0));
   }
 
-  begun_follows : (st new : State) → FollowsSuite st → begin_reference st ≡ Ok new → FollowsSuite new
+  pub begun_follows : (st new : State) → FollowsSuite st → begin_reference st ≡ Ok new → FollowsSuite new
   unfolding begin_reference
   begun_follows st new b e = by st.has_reference e
     where

@@ -1,6 +1,7 @@
 pub mod Building
 pub mod CommandLaws
 pub mod Connectives
+pub mod ProveAnswers
 pub mod Proving
 pub mod Reached
 pub mod SemanticRules

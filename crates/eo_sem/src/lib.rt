@@ -1,36 +1,19 @@
 //! Whether the assertions of a reference file have no model, as a proof shows by rules that keep truth.
 #![tactic(auto)]
 
-ghost use Rattle.std.specs.Prelude.{◌≡◌, ℕ, List, None, Ok, false};
-ghost use Rattle.eo_io.specs.Library.{Files};
-ghost use Rattle.eo_rule.specs.ByRules.{any_rule};
-ghost use Rattle.eo_run.specs.Run.{Progress};
-ghost use Rattle.eo_sem.specs.Proving.{IsProved, IsRefuted, prove_run};
-ghost use Rattle.eo_sem.specs.Reached.{ReachedBy};
-ghost use Rattle.eo_sem.specs.SemanticRules.{is_semantic};
-ghost use Rattle.eo_sem.specs.Suite.{suite_state};
-ghost use Rattle.eo_sem.specs.Truth.{HaveNoModel};
-ghost use Rattle.eo_session.specs.State.{State, end_fault};
+mod laws;
+mod proving;
+mod watching;
 
-use eo_sound::{allowed_law, commands_law};
+use eo_run::Verdict;
+pub use laws::validity_law;
+pub use proving::prove_files;
 
-/// A law: a correct proof whose steps use rules that keep truth leaves no valuation that makes all
-/// assertions true.
-///
-/// These rules keep truth by the truth tables of the suite's connectives, whatever formulas stand
-/// for their parameters. So each fact of a scope is true where the assertions and the assumptions
-/// of that scope and of the scopes around it are, and `false` is never true.
-///
-/// It is so in each state that is reached from the one after the suite by such rules, and each run
-/// of a proof after the suite reaches its last state by the rules that its steps use.
-pub fn validity_law()
-    ensures state { (st : State) → ReachedBy is_semantic suite_state st → end_fault st ≡ None → st.sorry ≡ false →
-        HaveNoModel st.signature st.assertions }
-    ensures proof { (files : Files) (reference proof : List ℕ) → IsProved files reference proof →
-        IsRefuted files reference proof }
-    ensures reached { (files : Files) (reference proof : List ℕ) (final : Progress) → prove_run files reference proof ≡ Ok final →
-        ReachedBy any_rule suite_state final.state }
-{
-    allowed_law();
-    commands_law();
+/// How a proof of validity ends.
+#[derive(Clone, Copy, Debug, PartialEq, Eq)]
+pub enum ProveEnd {
+    /// The proof is correct by rules that keep truth, so that no valuation makes all assertions true.
+    Valid,
+    /// It is not: any other verdict, and `Refused` with `NotSemantic` where it is correct by other rules too.
+    Other(Verdict),
 }

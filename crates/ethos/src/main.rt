@@ -1,4 +1,5 @@
-//! The program `ethos`: it checks proofs against reference files, loads signatures, and shows values.
+//! The program `ethos`: it checks and trims proofs against reference files, loads signatures, shows values, and
+//! says where a proof leaves no model of the assertions.
 #![tactic(auto)]
 
 use eo_base::{Status, Text};

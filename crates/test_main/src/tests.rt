@@ -6,7 +6,9 @@ mod extreme;
 mod failing;
 mod loads;
 mod opened;
+mod proves;
 mod shows;
+mod trims;
 
 use eo_base::Status;
 use eo_io::MemorySink;

@@ -5,7 +5,8 @@ use std::alloc::{AllocError, Global};
 use test_runs::{File, Job, Want, does_in_pieces, first_wrong};
 
 const USAGE: &[u8] =
-    b"usage: ethos check [--include=F] [--reference=F] [--closed] PROOF | ethos load FILE | ethos bench N | ethos show FILE NAME\n";
+    b"usage: ethos check [--include=F] [--reference=F] [--closed] PROOF | ethos load FILE | ethos bench N | ethos show FILE NAME \
+| ethos trim [--include=F] [--reference=F] [--closed] PROOF | ethos prove --reference=F PROOF\n";
 
 /// The files that a line may name, but for `p.eo`, each with its path.
 const FILES: &[File<'static>] = &[
@@ -148,6 +149,16 @@ fn words_that_are_read(rt: HostRuntime) {
             b"refused F13 UnknownSymbol c.eo:2:23\n",
         ),
         (
+            "ethos trim p.eo --reference r.smt2 --include=c.eo --closed",
+            Status::Ok,
+            b"(assume @p1 false)\n",
+        ),
+        (
+            "ethos prove --reference=r.smt2 -- -p.eo",
+            Status::Ok,
+            b"valid\n",
+        ),
+        (
             "ethos bench -- 10",
             Status::Ok,
             b"bench 10: correct, 33 commands, 99 terms\n",
@@ -227,6 +238,18 @@ fn words_that_are_not_read(rt: HostRuntime) {
         "ethos show c.eo -p",
         "ethos show --closed c.eo p",
         "ethos show --help",
+        "ethos trim",
+        "ethos trim p.eo q.eo",
+        "ethos trim --reference=r.smt2",
+        "ethos trim --closed --closed p.eo",
+        "ethos trim --help",
+        "ethos prove",
+        "ethos prove p.eo",
+        "ethos prove --reference=r.smt2",
+        "ethos prove --reference=r.smt2 --reference=r.smt2 p.eo",
+        "ethos prove --include=c.eo --reference=r.smt2 p.eo",
+        "ethos prove --closed --reference=r.smt2 p.eo",
+        "ethos prove --help",
     ];
     assert_none(&rt, first_wrong(rt.alloc(), LINES, is_usage));
 }

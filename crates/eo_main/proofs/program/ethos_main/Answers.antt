@@ -1,10 +1,11 @@
 use Rattle.std.proofs.Common.{◌≡◌, ◌∙◌, ap, sym, refl, arith, Some, None}
 use Rattle.eo_main.specs.CommandLine.{request}
 use Rattle.eo_main.specs.declared.Request.{Request}
-use Rattle.eo_main.specs.declared.Request.TheVariants.{Check, Load, Bench, Show}
+use Rattle.eo_main.specs.declared.Request.TheVariants.{Check, Load, Bench, Show, Trim, Prove}
 use Rattle.eo_main.proofs.EndLemmas.{reading_ends, reads_ends, no_reading_ends, usage_ends, bench_ends_as, own_has_cause, own_ends, own_usage, own_bench, own_memory, wants_files, asks_bench}
 use Rattle.eo_main.proofs.AbsentLemmas.{absent_by_letter}
 use Rattle.eo_main.proofs.Refuting.{ok_refutes}
+use Rattle.eo_main.proofs.ToolLemmas.{trim_says, trim_shortens, prove_says}
 use Rattle.eo_main.proofs.program.ethos_main.Goals as goal
 
 pub returns-in-Ok-Some-Check-clause-refutes : goal.returns-in-Ok-Some-Check-clause-refutes
@@ -19,10 +20,10 @@ returns-in-Ok-None-clause-exact g c =
     reading_ends _ _ _ _ _ _ _ reading (no_reading_ends _ _ _ _ _ (usage_ends _ _ _ _ c.print_line.ensures.due))
 
 pub returns-in-Ok-None-clause-absent : goal.returns-in-Ok-None-clause-absent
-returns-in-Ok-None-clause-absent g c = λ files. absent_by_letter _ 117 _ _ _ _ _ _ _ (omega arith) c.print_line.ensures.due
+returns-in-Ok-None-clause-absent g c = λ files proof. absent_by_letter _ 117 _ _ _ _ _ _ _ (omega arith) c.print_line.ensures.due
 
 pub returns-in-Err-clause-absent : goal.returns-in-Err-clause-absent
-returns-in-Err-clause-absent g c = λ files. absent_by_letter _ 111 _ _ _ _ _ _ _ (omega arith) c.print_line-in-Err.ensures.due
+returns-in-Err-clause-absent g c = λ files proof. absent_by_letter _ 111 _ _ _ _ _ _ _ (omega arith) c.print_line-in-Err.ensures.due
 
 -- ---- what needs no files
 
@@ -70,7 +71,7 @@ returns-in-Ok-Some-Bench-clause-absent g c =
     let n = c.in-Ok-Some-Bench.n in
     let reading : Some (Bench n) ≡ request c.args.words.now =
     sym (c.in-Ok-Some-Bench.field-0-is ∙ ap (λ (r : Request). Some r) c.in-Ok-Some-Bench.field-0-0-is) ∙ c.in-Ok-Some-Bench.ensures in
-    λ files. absurd (asks_bench (Some (Bench n)) (request c.args.words.now) reading refl files)
+    λ files proof. absurd (asks_bench (Some (Bench n)) (request c.args.words.now) reading refl files)
 
 -- ---- a check, and a signature file
 
@@ -90,7 +91,7 @@ returns-in-Ok-Some-Check-clause-usage g c =
     reads_ends _ (Check c.in-Ok-Some-Check.job) _ reading c.check.ensures.usage
 
 pub returns-in-Ok-Some-Check-clause-absent : goal.returns-in-Ok-Some-Check-clause-absent
-returns-in-Ok-Some-Check-clause-absent g c = λ files. c.check.ensures.absent
+returns-in-Ok-Some-Check-clause-absent g c = λ files proof. c.check.ensures.absent
 
 pub returns-in-Ok-Some-Load-clause-exact : goal.returns-in-Ok-Some-Load-clause-exact
 returns-in-Ok-Some-Load-clause-exact g c =
@@ -108,7 +109,7 @@ returns-in-Ok-Some-Load-clause-usage g c =
     reads_ends _ (Load c.in-Ok-Some-Load.file) _ reading c.load.ensures.usage
 
 pub returns-in-Ok-Some-Load-clause-absent : goal.returns-in-Ok-Some-Load-clause-absent
-returns-in-Ok-Some-Load-clause-absent g c = λ files. c.load.ensures.absent
+returns-in-Ok-Some-Load-clause-absent g c = λ files proof. c.load.ensures.absent
 
 -- ---- the value of a name
 
@@ -134,4 +135,71 @@ returns-in-Ok-Some-Show-clause-usage g c =
     reads_ends _ (Show c.in-Ok-Some-Show.file c.in-Ok-Some-Show.name) _ reading c.show.ensures.usage
 
 pub returns-in-Ok-Some-Show-clause-absent : goal.returns-in-Ok-Some-Show-clause-absent
-returns-in-Ok-Some-Show-clause-absent g c = λ files. c.show.ensures.absent
+returns-in-Ok-Some-Show-clause-absent g c = λ files proof. c.show.ensures.absent
+
+-- ---- a proof that is trimmed
+
+pub returns-in-Ok-Some-Trim-clause-exact : goal.returns-in-Ok-Some-Trim-clause-exact
+returns-in-Ok-Some-Trim-clause-exact g c =
+    let reading : Some (Trim c.in-Ok-Some-Trim.job) ≡ request c.args.words.now =
+    sym (c.in-Ok-Some-Trim.field-0-is ∙ ap (λ (r : Request). Some r) c.in-Ok-Some-Trim.field-0-0-is) ∙ c.in-Ok-Some-Trim.ensures in
+    reading_ends _ _ _ _ _ _ _ reading c.trim.ensures.exact
+
+pub returns-in-Ok-Some-Trim-clause-own : goal.returns-in-Ok-Some-Trim-clause-own
+returns-in-Ok-Some-Trim-clause-own g c =
+    let reading : Some (Trim c.in-Ok-Some-Trim.job) ≡ request c.args.words.now =
+    sym (c.in-Ok-Some-Trim.field-0-is ∙ ap (λ (r : Request). Some r) c.in-Ok-Some-Trim.field-0-0-is) ∙ c.in-Ok-Some-Trim.ensures in
+    λ own. absurd (wants_files (Some (Trim c.in-Ok-Some-Trim.job)) (request c.args.words.now) reading refl own)
+
+pub returns-in-Ok-Some-Trim-clause-cause : goal.returns-in-Ok-Some-Trim-clause-cause
+returns-in-Ok-Some-Trim-clause-cause g c = c.trim.ensures.cause
+
+pub returns-in-Ok-Some-Trim-clause-usage : goal.returns-in-Ok-Some-Trim-clause-usage
+returns-in-Ok-Some-Trim-clause-usage g c =
+    let reading : Some (Trim c.in-Ok-Some-Trim.job) ≡ request c.args.words.now =
+    sym (c.in-Ok-Some-Trim.field-0-is ∙ ap (λ (r : Request). Some r) c.in-Ok-Some-Trim.field-0-0-is) ∙ c.in-Ok-Some-Trim.ensures in
+    reads_ends _ (Trim c.in-Ok-Some-Trim.job) _ reading c.trim.ensures.usage
+
+pub returns-in-Ok-Some-Trim-clause-shorter : goal.returns-in-Ok-Some-Trim-clause-shorter
+returns-in-Ok-Some-Trim-clause-shorter g c =
+    let reading : Some (Trim c.in-Ok-Some-Trim.job) ≡ request c.args.words.now =
+    sym (c.in-Ok-Some-Trim.field-0-is ∙ ap (λ (r : Request). Some r) c.in-Ok-Some-Trim.field-0-0-is) ∙ c.in-Ok-Some-Trim.ensures in
+    trim_shortens _ _ c.in-Ok-Some-Trim.job (request c.args.words.now) _ _ reading c.trim.ensures.shorter
+
+pub returns-in-Ok-Some-Trim-clause-absent : goal.returns-in-Ok-Some-Trim-clause-absent
+returns-in-Ok-Some-Trim-clause-absent g c =
+    let reading : Some (Trim c.in-Ok-Some-Trim.job) ≡ request c.args.words.now =
+    sym (c.in-Ok-Some-Trim.field-0-is ∙ ap (λ (r : Request). Some r) c.in-Ok-Some-Trim.field-0-0-is) ∙ c.in-Ok-Some-Trim.ensures in
+    λ files proof. trim_says _ _ c.in-Ok-Some-Trim.job (request c.args.words.now) reading c.trim.ensures.absent proof
+
+-- ---- a proof that assertions have no model
+
+pub returns-in-Ok-Some-Prove-clause-exact : goal.returns-in-Ok-Some-Prove-clause-exact
+returns-in-Ok-Some-Prove-clause-exact g c =
+    let reading : Some (Prove c.in-Ok-Some-Prove.reference c.in-Ok-Some-Prove.proof) ≡ request c.args.words.now =
+    sym (c.in-Ok-Some-Prove.field-0-is ∙ ap (λ (r : Request). Some r) c.in-Ok-Some-Prove.field-0-0-is) ∙ c.in-Ok-Some-Prove.ensures in
+    reading_ends _ _ _ _ _ _ _ reading c.prove.ensures.exact
+
+pub returns-in-Ok-Some-Prove-clause-own : goal.returns-in-Ok-Some-Prove-clause-own
+returns-in-Ok-Some-Prove-clause-own g c =
+    let reading : Some (Prove c.in-Ok-Some-Prove.reference c.in-Ok-Some-Prove.proof) ≡ request c.args.words.now =
+    sym (c.in-Ok-Some-Prove.field-0-is ∙ ap (λ (r : Request). Some r) c.in-Ok-Some-Prove.field-0-0-is) ∙ c.in-Ok-Some-Prove.ensures in
+    λ own. absurd (wants_files (Some (Prove c.in-Ok-Some-Prove.reference c.in-Ok-Some-Prove.proof)) (request c.args.words.now) reading refl own)
+
+pub returns-in-Ok-Some-Prove-clause-cause : goal.returns-in-Ok-Some-Prove-clause-cause
+returns-in-Ok-Some-Prove-clause-cause g c = c.prove.ensures.cause
+
+pub returns-in-Ok-Some-Prove-clause-usage : goal.returns-in-Ok-Some-Prove-clause-usage
+returns-in-Ok-Some-Prove-clause-usage g c =
+    let reading : Some (Prove c.in-Ok-Some-Prove.reference c.in-Ok-Some-Prove.proof) ≡ request c.args.words.now =
+    sym (c.in-Ok-Some-Prove.field-0-is ∙ ap (λ (r : Request). Some r) c.in-Ok-Some-Prove.field-0-0-is) ∙ c.in-Ok-Some-Prove.ensures in
+    reads_ends _ (Prove c.in-Ok-Some-Prove.reference c.in-Ok-Some-Prove.proof) _ reading c.prove.ensures.usage
+
+pub returns-in-Ok-Some-Prove-clause-model : goal.returns-in-Ok-Some-Prove-clause-model
+returns-in-Ok-Some-Prove-clause-model g c =
+    let reading : Some (Prove c.in-Ok-Some-Prove.reference c.in-Ok-Some-Prove.proof) ≡ request c.args.words.now =
+    sym (c.in-Ok-Some-Prove.field-0-is ∙ ap (λ (r : Request). Some r) c.in-Ok-Some-Prove.field-0-0-is) ∙ c.in-Ok-Some-Prove.ensures in
+    prove_says _ _ c.in-Ok-Some-Prove.reference c.in-Ok-Some-Prove.proof (request c.args.words.now) reading c.prove.ensures.model
+
+pub returns-in-Ok-Some-Prove-clause-absent : goal.returns-in-Ok-Some-Prove-clause-absent
+returns-in-Ok-Some-Prove-clause-absent g c = λ files proof. c.prove.ensures.absent

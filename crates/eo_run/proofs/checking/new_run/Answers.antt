@@ -1,5 +1,5 @@
+use Rattle.std.specs.Prelude.{[]}
 use Rattle.std.proofs.lemmas.Result.{IfOk-at_ok}
-use Rattle.eo_run.specs.Reading.{progress}
 use Rattle.eo_run.proofs.checking.new_run.Goals as goal
 
 pub returns : goal.returns
@@ -7,5 +7,5 @@ returns c =
     let new = IfOk-at_ok _ c.in_ok-session.ensures.called c.new.ensures in
     record {
       going = new.going;
-      is = λ i. progress (new.state i) (c.in_ok-session.ensures.other i);
+      is = λ i. record { state = new.state i; included = c.in_ok-session.ensures.other i; opened = c.new-2.ensures i; seen = [] };
     }

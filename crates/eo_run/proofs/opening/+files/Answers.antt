@@ -1,16 +1,18 @@
 use Rattle.std.proofs.Common.{◌-◌, ◌<◌, ℕ, List, [], false, length, take, drop, refl, Bool, sym, ap, subst, ◌∙◌, arith, length-take, append-nil, inl, inr}
-use Rattle.std.specs.Prelude.{Result, Ok, Err, Option, Some, IfErr, slice_get}
+use Rattle.std.specs.Prelude.{Result, Ok, Err, Option, Some, IfErr, position, bytes_eq}
 use Rattle.eo_base.specs.declared.FaultName.TheVariants.{IncludeDepth, FileLong}
 use Rattle.eo_io.specs.Library.{Rest}
 use Rattle.eo_sexp.specs.Spot.{Spot}
 use Rattle.eo_sexp.specs.Texts.{Ends}
 use Rattle.eo_sexp.specs.Collecting.{here_of}
-use Rattle.eo_run.specs.Answer.{Denotes, AnswerHasCause}
+use Rattle.eo_run.specs.Answer.{Denotes, AnswerHasCause, FileHasCause}
 use Rattle.eo_session.specs.Numbered.{origin_of, number_of}
-use Rattle.eo_run.specs.Progress.{progress_of}
-use Rattle.eo_run.specs.Reading.{progress, count_of, behind, at_end, LeadsOn, ChecksPiece, ChecksEnd, IsAsked, IsAskedAtEnd, IsFed, IsEnded}
+use Rattle.eo_session.specs.Stepping.{Standing}
+use Rattle.eo_run.specs.Progress.{point, progress_at}
+use Rattle.eo_run.specs.Watching.{IsShown}
+use Rattle.eo_run.specs.Reading.{count_of, behind, at_end, LeadsOn, ChecksPiece, ChecksEnd, IsAsked, IsAskedAtEnd, IsFed, IsEnded, StaysOpen}
 use Rattle.eo_run.specs.Run.{refusal_at}
-use Rattle.eo_run.specs.Opening.{Keeps, IsNumbered, LeadsIn, Told, IsStop, IsRead, IsTaken, IsLeft, Opens, StaysOpen, FileHasCause, TakesPiece, TakesEnd, RunsOpen, RunsFile, place_in}
+use Rattle.eo_run.specs.Opening.{opener_of, Keeps, IsNumbered, GoesOn, Told, IsStop, IsRead, IsTaken, IsLeft, Opens, TakesPiece, TakesEnd, RunsOpen, RunsFile, place_in}
 use Rattle.eo_session.specs.declared.Next.{Next}
 use Rattle.eo_session.specs.declared.Next.TheVariants as next
 use Rattle.eo_session.specs.declared.Origin.TheVariants as code
@@ -20,8 +22,11 @@ use Rattle.eo_run.specs.declared.reading.Asked.{Asked}
 use Rattle.eo_run.specs.declared.reading.Stop.{Stop}
 use Rattle.eo_base.proofs.Answering.{at_exit}
 use Rattle.eo_run.proofs.Taking.{opens-later, taken-later, left-later, takes-later, open-later, ends-later, goes-on, goes-behind, leaves-behind, leaves-reference, finishes-here, stops-behind, stopped-here, extends-trans, stays-trans, reads-trans, stays-length, one-less, include-unfolded, refer-unfolded, refer-unbegun, unbegun-present, includes-again, includes-deep, includes-ends, refers-ends, found-cause, found-keeps, opened-cause, opened-keeps}
-use Rattle.eo_run.proofs.Numbers.{numbered-later, denotes-here, placed-in, closes-open, ready-runs, opens-done, opens-exit}
+use Rattle.eo_run.proofs.Running.{leads-refl}
+use Rattle.eo_run.proofs.Watched.{numbered-later, sees-later}
+use Rattle.eo_run.proofs.Numbers.{denotes-here, placed-in, closes-open, ready-runs, opens-done, opens-exit}
 use Rattle.eo_run.proofs.Pieces.{reads-nothing, reads-piece, has_room, front-is, piece-is, stops-open, left-open, long-open, ends-open, stays-read}
+use Rattle.eo_run.proofs.Refusals.{unfolded-stop, unbegun-stop}
 use Rattle.eo_run.proofs.opening.+files.Goals as goal
 
 -- ---- the commands of a piece
@@ -30,24 +35,30 @@ pub take_piece-returns-in-Err-clause-takes : goal.take_piece-returns-in-Err-clau
 take_piece-returns-in-Err-clause-takes g t c =
     let s = c.args.source.now in
     let i = c.commands.invariant in
-    let st = c.commands.run.session.state in
-    let new = c.check_piece.new.session.state in
-    let rest = c.commands.rest.now in
+    let told = g.L.Library.told c.args.files.now in
+    let tells = g.O.Observer.tells in
+    let old = point c.args.run.now c.args.observer.now c.args.paths.now in
+    let mid = point c.commands.run c.commands.observer c.commands.paths in
+    let now = point (record c.commands.run { session = c.check_piece.new.session }) c.check_piece.new.observer c.commands.paths in
     let d = c.check_piece.new.collector in
-    stopped-here (g.L.Library.told c.args.files.now) s (progress_of c.args.run.now) st new c.commands.run.included (behind c.args.collector.now c.args.piece.now) (behind c.commands.collector rest) i.leads
-    c.in-Err.stop c.stopped.result c.commands.paths c.stopped.ensures i.ready.numbered (λ name at e. subst (λ (x : Stop). ChecksPiece (origin_of s.from) (Err x) st new c.commands.collector d rest) e c.in-Err.ensures.checks)
+    let rest = c.commands.rest.now in
+    stopped-here tells told s old mid now i.ready.numbered refl refl refl (behind c.args.collector.now c.args.piece.now) (behind c.commands.collector rest) i.leads c.in-Err.stop c.stopped.result c.stopped.ensures i.ready.numbered
+    (λ name at e. subst (λ (x : Stop). ChecksPiece (origin_of s.from) (IsShown tells c.commands.observer c.check_piece.new.observer (number_of s.from)) (Err x) c.commands.run.session.state c.check_piece.new.session.state c.commands.collector d rest) e c.in-Err.ensures.checks)
 
 pub take_piece-returns-in-Ok-None-clause-takes : goal.take_piece-returns-in-Ok-None-clause-takes
 take_piece-returns-in-Ok-None-clause-takes g t c =
     let s = c.args.source.now in
     let i = c.commands.invariant in
-    let st = c.commands.run.session.state in
-    let new = c.check_piece.new.session.state in
-    let rest = c.commands.rest.now in
+    let told = g.L.Library.told c.args.files.now in
+    let tells = g.O.Observer.tells in
+    let old = point c.args.run.now c.args.observer.now c.args.paths.now in
+    let mid = point c.commands.run c.commands.observer c.commands.paths in
+    let now = point (record c.commands.run { session = c.check_piece.new.session }) c.check_piece.new.observer c.commands.paths in
     let d = c.check_piece.new.collector in
-    let fed : IsFed (origin_of s.from) st new c.commands.collector d rest = subst (λ (o : Option Asked). ChecksPiece (origin_of s.from) (Ok o) st new c.commands.collector d rest) c.in-Ok-None.field-0-is c.in-Ok-None.ensures.checks in
+    let rest = c.commands.rest.now in
+    let fed : IsFed (origin_of s.from) (IsShown tells c.commands.observer c.check_piece.new.observer (number_of s.from)) c.commands.run.session.state c.check_piece.new.session.state c.commands.collector d rest = subst (λ (o : Option Asked). ChecksPiece (origin_of s.from) (IsShown tells c.commands.observer c.check_piece.new.observer (number_of s.from)) (Ok o) c.commands.run.session.state c.check_piece.new.session.state c.commands.collector d rest) c.in-Ok-None.field-0-is c.in-Ok-None.ensures.checks in
     record {
-      leads = goes-on (g.L.Library.told c.args.files.now) s (progress_of c.args.run.now) st new c.commands.run.included (behind c.args.collector.now c.args.piece.now) (behind c.commands.collector rest) i.leads (behind d []) fed.leads;
+      leads = goes-on tells told s old mid now i.ready.numbered refl refl refl (behind c.args.collector.now c.args.piece.now) (behind c.commands.collector rest) i.leads (behind d []) fed.passes fed.shown fed.leads;
       live = fed.live;
       waiting = fed.waiting;
       here = omega (arith, i.here, fed.here);
@@ -58,19 +69,19 @@ take_piece-returns-in_err-open_next-in-Ok-Some-clause-takes g t c =
     let s = c.args.source.now in
     let i = c.commands.invariant in
     let told = g.L.Library.told c.args.files.now in
-    let old = progress_of c.args.run.now in
-    let st = c.commands.run.session.state in
-    let new = c.check_piece.new.session.state in
-    let included = c.commands.run.included in
-    let last = progress_of c.open_next.new.run in
-    let rest = c.commands.rest.now in
+    let tells = g.O.Observer.tells in
+    let old = point c.args.run.now c.args.observer.now c.args.paths.now in
+    let mid = point c.commands.run c.commands.observer c.commands.paths in
+    let now = point (record c.commands.run { session = c.check_piece.new.session }) c.check_piece.new.observer c.commands.paths in
     let d = c.check_piece.new.collector in
+    let rest = c.commands.rest.now in
     let a = c.in-Ok-Some.asked in
-    let asked : IsAsked (origin_of s.from) st new c.commands.collector d rest a = subst (λ (o : Option Asked). ChecksPiece (origin_of s.from) (Ok o) st new c.commands.collector d rest) c.in-Ok-Some.field-0-is c.in-Ok-Some.ensures.checks in
+    let last = point c.open_next.new.run c.open_next.new.observer c.open_next.new.paths in
+    let asked : IsAsked (origin_of s.from) (IsShown tells c.commands.observer c.check_piece.new.observer (number_of s.from)) c.commands.run.session.state c.check_piece.new.session.state c.commands.collector d rest a = subst (λ (o : Option Asked). ChecksPiece (origin_of s.from) (IsShown tells c.commands.observer c.check_piece.new.observer (number_of s.from)) (Ok o) c.commands.run.session.state c.check_piece.new.session.state c.commands.collector d rest) c.in-Ok-Some.field-0-is c.in-Ok-Some.ensures.checks in
     let x = c.in_err-open_next-in-Ok-Some.field-0.0 in
-    at_exit (λ (r : Result Bool Verdict). TakesPiece told s r old last c.args.collector.now d c.args.piece.now c.open_next.new.paths) c.from_residual.result x c.from_residual.ensures.1
-    (stops-behind told s old st new included (behind c.args.collector.now c.args.piece.now) (behind c.commands.collector rest) i.leads (behind d (drop a.used rest)) a.next a.at asked.asks last c.open_next.new.paths x
-    (opens-later told (g.L.Library.told c.commands.files) i.stays.same s a.at a.next (Err x) (progress new included) last c.open_next.new.paths c.in_err-open_next-in-Ok-Some.ensures.opens))
+    at_exit (λ (r : Result Bool Verdict). TakesPiece tells told s r old last c.args.collector.now d c.args.piece.now) c.from_residual.result x c.from_residual.ensures.1
+    (stops-behind tells told s old mid now i.ready.numbered refl refl refl (behind c.args.collector.now c.args.piece.now) (behind c.commands.collector rest) i.leads (behind d (drop a.used rest)) a.next a.at asked.passes asked.shown asked.asks last x
+    (opens-later tells told (g.L.Library.told c.commands.files) i.stays.same s a.at a.next (Err x) now last c.in_err-open_next-in-Ok-Some.ensures.opens))
 
 pub take_piece-returns-in_err-open_next-in-Ok-Some-clause-keeps : goal.take_piece-returns-in_err-open_next-in-Ok-Some-clause-keeps
 take_piece-returns-in_err-open_next-in-Ok-Some-clause-keeps g t c =
@@ -86,22 +97,20 @@ take_piece-returns-then-ends-clause-takes g t c =
     let s = c.args.source.now in
     let i = c.commands.invariant in
     let told = g.L.Library.told c.args.files.now in
-    let old = progress_of c.args.run.now in
-    let st = c.commands.run.session.state in
-    let new = c.check_piece.new.session.state in
-    let included = c.commands.run.included in
-    let last = progress_of c.open_next.new.run in
-    let paths = c.open_next.new.paths in
-    let rest = c.commands.rest.now in
+    let tells = g.O.Observer.tells in
+    let old = point c.args.run.now c.args.observer.now c.args.paths.now in
+    let mid = point c.commands.run c.commands.observer c.commands.paths in
+    let now = point (record c.commands.run { session = c.check_piece.new.session }) c.check_piece.new.observer c.commands.paths in
     let d = c.check_piece.new.collector in
+    let rest = c.commands.rest.now in
     let a = c.in-Ok-Some.asked in
-    let asked : IsAsked (origin_of s.from) st new c.commands.collector d rest a = subst (λ (o : Option Asked). ChecksPiece (origin_of s.from) (Ok o) st new c.commands.collector d rest) c.in-Ok-Some.field-0-is c.in-Ok-Some.ensures.checks in
+    let last = point c.open_next.new.run c.open_next.new.observer c.open_next.new.paths in
+    let asked : IsAsked (origin_of s.from) (IsShown tells c.commands.observer c.check_piece.new.observer (number_of s.from)) c.commands.run.session.state c.check_piece.new.session.state c.commands.collector d rest a = subst (λ (o : Option Asked). ChecksPiece (origin_of s.from) (IsShown tells c.commands.observer c.check_piece.new.observer (number_of s.from)) (Ok o) c.commands.run.session.state c.check_piece.new.session.state c.commands.collector d rest) c.in-Ok-Some.field-0-is c.in-Ok-Some.ensures.checks in
     let ends = sym c.exits-ends.ensures ∙ c.if-ends.true in
-    let left : IsLeft told s old last c.args.collector.now c.args.piece.now = record {
-      finishes = leaves-behind told s old st new included (behind c.args.collector.now c.args.piece.now) (behind c.commands.collector rest) i.leads (behind d (drop a.used rest)) a.next a.at asked.asks last paths tt
-          (opens-later told (g.L.Library.told c.commands.files) i.stays.same s a.at a.next (Ok tt) (progress new included) last paths c.in_ok-open_next-in-Ok-Some.ensures.opens) ends;
-      reference = leaves-reference told s old st new included (behind c.args.collector.now c.args.piece.now) (behind c.commands.collector rest) i.leads (behind d (drop a.used rest)) a.next a.at asked.asks ends;
-    } in
+    let finishes = leaves-behind tells told s old mid now i.ready.numbered refl refl refl (behind c.args.collector.now c.args.piece.now) (behind c.commands.collector rest) i.leads (behind d (drop a.used rest)) a.next a.at asked.passes asked.shown asked.asks last tt
+    (opens-later tells told (g.L.Library.told c.commands.files) i.stays.same s a.at a.next (Ok tt) now last c.in_ok-open_next-in-Ok-Some.ensures.opens) ends in
+    let reference = leaves-reference tells told s old mid now i.ready.numbered refl refl refl (behind c.args.collector.now c.args.piece.now) (behind c.commands.collector rest) i.leads (behind d (drop a.used rest)) a.next a.at asked.passes asked.shown asked.asks ends in
+    let left : IsLeft tells told s old last c.args.collector.now c.args.piece.now = record { finishes = finishes; reference = reference } in
     left
 
 pub take_piece-returns-then-ends-clause-keeps : goal.take_piece-returns-then-ends-clause-keeps
@@ -118,22 +127,22 @@ take_piece-commands-preserved g t c =
     let s = c.args.source.now in
     let i = c.commands.invariant in
     let told = g.L.Library.told c.args.files.now in
-    let old = progress_of c.args.run.now in
-    let st = c.commands.run.session.state in
-    let new = c.check_piece.new.session.state in
-    let included = c.commands.run.included in
-    let last = progress_of c.open_next.new.run in
-    let paths = c.open_next.new.paths in
-    let rest = c.commands.rest.now in
+    let tells = g.O.Observer.tells in
+    let old = point c.args.run.now c.args.observer.now c.args.paths.now in
+    let mid = point c.commands.run c.commands.observer c.commands.paths in
+    let now = point (record c.commands.run { session = c.check_piece.new.session }) c.check_piece.new.observer c.commands.paths in
     let d = c.check_piece.new.collector in
+    let rest = c.commands.rest.now in
     let a = c.in-Ok-Some.asked in
-    let asked : IsAsked (origin_of s.from) st new c.commands.collector d rest a = subst (λ (o : Option Asked). ChecksPiece (origin_of s.from) (Ok o) st new c.commands.collector d rest) c.in-Ok-Some.field-0-is c.in-Ok-Some.ensures.checks in
+    let last = point c.open_next.new.run c.open_next.new.observer c.open_next.new.paths in
+    let asked : IsAsked (origin_of s.from) (IsShown tells c.commands.observer c.check_piece.new.observer (number_of s.from)) c.commands.run.session.state c.check_piece.new.session.state c.commands.collector d rest a = subst (λ (o : Option Asked). ChecksPiece (origin_of s.from) (IsShown tells c.commands.observer c.check_piece.new.observer (number_of s.from)) (Ok o) c.commands.run.session.state c.check_piece.new.session.state c.commands.collector d rest) c.in-Ok-Some.field-0-is c.in-Ok-Some.ensures.checks in
     let opened = c.in_ok-open_next-in-Ok-Some.ensures in
+    let paths = c.open_next.new.paths in
     let tail = c.left_of-rest.ensures in
     record {
-      leads = subst (λ (q : List ℕ). Told told (λ files. LeadsIn files s old last (behind c.args.collector.now c.args.piece.now) (behind d q))) (sym tail)
-          (goes-behind told s old st new included (behind c.args.collector.now c.args.piece.now) (behind c.commands.collector rest) i.leads (behind d (drop a.used rest)) a.next a.at asked.asks last paths tt
-          (opens-later told (g.L.Library.told c.commands.files) i.stays.same s a.at a.next (Ok tt) (progress new included) last paths opened.opens) (sym c.exits-ends.ensures ∙ c.if-ends.false));
+      leads = subst (λ (q : List ℕ). Told told (λ files. GoesOn tells files s old last (behind c.args.collector.now c.args.piece.now) (behind d q))) (sym tail)
+          (goes-behind tells told s old mid now i.ready.numbered refl refl refl (behind c.args.collector.now c.args.piece.now) (behind c.commands.collector rest) i.leads (behind d (drop a.used rest)) a.next a.at asked.passes asked.shown asked.asks last tt
+          (opens-later tells told (g.L.Library.told c.commands.files) i.stays.same s a.at a.next (Ok tt) now last opened.opens) (sym c.exits-ends.ensures ∙ c.if-ends.false));
       live = asked.live;
       waiting = asked.waiting;
       here = (let same = ap length tail in omega (arith, same, i.here, asked.here));
@@ -146,15 +155,32 @@ take_piece-commands-preserved g t c =
       stays = stays-trans g.L.Library.told g.L.Library.open_files g.L.Library.faults c.args.files.now c.commands.files c.open_next.new.files i.stays opened.stays;
     }
 
+pub take_piece-commands-init : goal.take_piece-commands-init
+take_piece-commands-init g t c =
+    let w = point c.args.run.now c.args.observer.now c.args.paths.now in
+    record {
+      leads = λ files k seen sees. (seen, sees, leads-refl (opener_of files c.args.source.now.opens) c.args.source.now.path.now (origin_of c.args.source.now.from) (progress_at w seen) (behind c.args.collector.now c.args.piece.now));
+      live = c.requires.live;
+      waiting = c.requires.waiting;
+      here = omega arith;
+      ready = c.requires.ready;
+      table = ([], sym (append-nil c.args.paths.now));
+      stays = record { same = refl; closed = refl; later = omega arith };
+    }
+
 pub take_piece-commands-smaller : goal.take_piece-commands-smaller
 take_piece-commands-smaller g t c =
     let s = c.args.source.now in
-    let st = c.commands.run.session.state in
-    let new = c.check_piece.new.session.state in
-    let rest = c.commands.rest.now in
+    let i = c.commands.invariant in
+    let told = g.L.Library.told c.args.files.now in
+    let tells = g.O.Observer.tells in
+    let old = point c.args.run.now c.args.observer.now c.args.paths.now in
+    let mid = point c.commands.run c.commands.observer c.commands.paths in
+    let now = point (record c.commands.run { session = c.check_piece.new.session }) c.check_piece.new.observer c.commands.paths in
     let d = c.check_piece.new.collector in
+    let rest = c.commands.rest.now in
     let a = c.in-Ok-Some.asked in
-    let asked : IsAsked (origin_of s.from) st new c.commands.collector d rest a = subst (λ (o : Option Asked). ChecksPiece (origin_of s.from) (Ok o) st new c.commands.collector d rest) c.in-Ok-Some.field-0-is c.in-Ok-Some.ensures.checks in
+    let asked : IsAsked (origin_of s.from) (IsShown tells c.commands.observer c.check_piece.new.observer (number_of s.from)) c.commands.run.session.state c.check_piece.new.session.state c.commands.collector d rest a = subst (λ (o : Option Asked). ChecksPiece (origin_of s.from) (IsShown tells c.commands.observer c.check_piece.new.observer (number_of s.from)) (Ok o) c.commands.run.session.state c.check_piece.new.session.state c.commands.collector d rest) c.in-Ok-Some.field-0-is c.in-Ok-Some.ensures.checks in
     subst (λ (q : List ℕ). count_of (behind d q false []) < count_of (behind c.commands.collector rest false [])) (sym (c.left_of-rest.ensures)) asked.fewer
 
 -- ---- what the end makes whole
@@ -163,41 +189,47 @@ pub check_rest-returns-in-Err-clause-takes : goal.check_rest-returns-in-Err-clau
 check_rest-returns-in-Err-clause-takes g t c =
     let s = c.args.source.now in
     let i = c.atoms.invariant in
-    let st = c.atoms.run.session.state in
-    let new = c.check_end.new.session.state in
+    let told = g.L.Library.told c.args.files.now in
+    let tells = g.O.Observer.tells in
+    let old = point c.args.run.now c.args.observer.now c.args.paths.now in
+    let mid = point c.atoms.run c.atoms.observer c.atoms.paths in
+    let now = point (record c.atoms.run { session = c.check_end.new.session }) c.check_end.new.observer c.atoms.paths in
     let d = c.check_end.new.collector in
-    stopped-here (g.L.Library.told c.args.files.now) s (progress_of c.args.run.now) st new c.atoms.run.included (at_end c.args.collector.now) (at_end c.atoms.collector) i.leads
-    c.in-Err.stop c.stopped.result c.atoms.paths c.stopped.ensures i.ready.numbered (λ name at e. subst (λ (x : Stop). ChecksEnd (origin_of s.from) (Err x) st new c.atoms.collector d) e c.in-Err.ensures.checks)
+    stopped-here tells told s old mid now i.ready.numbered refl refl refl (at_end c.args.collector.now) (at_end c.atoms.collector) i.leads c.in-Err.stop c.stopped.result c.stopped.ensures i.ready.numbered
+    (λ name at e. subst (λ (x : Stop). ChecksEnd (origin_of s.from) (IsShown tells c.atoms.observer c.check_end.new.observer (number_of s.from)) (Err x) c.atoms.run.session.state c.check_end.new.session.state c.atoms.collector d) e c.in-Err.ensures.checks)
 
 pub check_rest-returns-in-Ok-None-clause-takes : goal.check_rest-returns-in-Ok-None-clause-takes
 check_rest-returns-in-Ok-None-clause-takes g t c =
     let s = c.args.source.now in
     let i = c.atoms.invariant in
-    let st = c.atoms.run.session.state in
-    let new = c.check_end.new.session.state in
+    let told = g.L.Library.told c.args.files.now in
+    let tells = g.O.Observer.tells in
+    let old = point c.args.run.now c.args.observer.now c.args.paths.now in
+    let mid = point c.atoms.run c.atoms.observer c.atoms.paths in
+    let now = point (record c.atoms.run { session = c.check_end.new.session }) c.check_end.new.observer c.atoms.paths in
     let d = c.check_end.new.collector in
-    let ended : IsEnded (origin_of s.from) st new c.atoms.collector d = subst (λ (o : Option Asked). ChecksEnd (origin_of s.from) (Ok o) st new c.atoms.collector d) c.in-Ok-None.field-0-is c.in-Ok-None.ensures.checks in
+    let ended : IsEnded (origin_of s.from) (IsShown tells c.atoms.observer c.check_end.new.observer (number_of s.from)) c.atoms.run.session.state c.check_end.new.session.state c.atoms.collector d = subst (λ (o : Option Asked). ChecksEnd (origin_of s.from) (IsShown tells c.atoms.observer c.check_end.new.observer (number_of s.from)) (Ok o) c.atoms.run.session.state c.check_end.new.session.state c.atoms.collector d) c.in-Ok-None.field-0-is c.in-Ok-None.ensures.checks in
     let at = c.here.result in
-    finishes-here (g.L.Library.told c.args.files.now) s (progress_of c.args.run.now) st new c.atoms.run.included (at_end c.args.collector.now) (at_end c.atoms.collector) i.leads at
-    (subst (λ (p : Spot). LeadsOn (origin_of s.from) st (at_end c.atoms.collector) new (λ closes more. Ends p)) (sym (c.here.ensures ended.live)) ended.leads)
+    finishes-here tells told s old mid now i.ready.numbered refl refl refl (at_end c.args.collector.now) (at_end c.atoms.collector) i.leads at ended.passes ended.shown
+    (subst (λ (p : Spot). LeadsOn (origin_of s.from) c.atoms.run.session.state (at_end c.atoms.collector) ended.passes c.check_end.new.session.state (λ closes more. Ends p)) (sym (c.here.ensures ended.live)) ended.leads)
 
 pub check_rest-returns-in_err-open_next-in-Ok-Some-clause-takes : goal.check_rest-returns-in_err-open_next-in-Ok-Some-clause-takes
 check_rest-returns-in_err-open_next-in-Ok-Some-clause-takes g t c =
     let s = c.args.source.now in
     let i = c.atoms.invariant in
     let told = g.L.Library.told c.args.files.now in
-    let old = progress_of c.args.run.now in
-    let st = c.atoms.run.session.state in
-    let new = c.check_end.new.session.state in
-    let included = c.atoms.run.included in
-    let last = progress_of c.open_next.new.run in
+    let tells = g.O.Observer.tells in
+    let old = point c.args.run.now c.args.observer.now c.args.paths.now in
+    let mid = point c.atoms.run c.atoms.observer c.atoms.paths in
+    let now = point (record c.atoms.run { session = c.check_end.new.session }) c.check_end.new.observer c.atoms.paths in
     let d = c.check_end.new.collector in
     let a = c.in-Ok-Some.asked in
-    let asked : IsAskedAtEnd (origin_of s.from) st new c.atoms.collector d a = subst (λ (o : Option Asked). ChecksEnd (origin_of s.from) (Ok o) st new c.atoms.collector d) c.in-Ok-Some.field-0-is c.in-Ok-Some.ensures.checks in
+    let last = point c.open_next.new.run c.open_next.new.observer c.open_next.new.paths in
+    let asked : IsAskedAtEnd (origin_of s.from) (IsShown tells c.atoms.observer c.check_end.new.observer (number_of s.from)) c.atoms.run.session.state c.check_end.new.session.state c.atoms.collector d a = subst (λ (o : Option Asked). ChecksEnd (origin_of s.from) (IsShown tells c.atoms.observer c.check_end.new.observer (number_of s.from)) (Ok o) c.atoms.run.session.state c.check_end.new.session.state c.atoms.collector d) c.in-Ok-Some.field-0-is c.in-Ok-Some.ensures.checks in
     let x = c.in_err-open_next-in-Ok-Some.field-0.0 in
-    at_exit (λ (r : Result Spot Verdict). TakesEnd told s r old last c.args.collector.now c.open_next.new.paths) c.from_residual.result x c.from_residual.ensures.1
-    (stops-behind told s old st new included (at_end c.args.collector.now) (at_end c.atoms.collector) i.leads (at_end d) a.next a.at asked.asks last c.open_next.new.paths x
-    (opens-later told (g.L.Library.told c.atoms.files) i.stays.same s a.at a.next (Err x) (progress new included) last c.open_next.new.paths c.in_err-open_next-in-Ok-Some.ensures.opens))
+    at_exit (λ (r : Result Spot Verdict). TakesEnd tells told s r old last c.args.collector.now) c.from_residual.result x c.from_residual.ensures.1
+    (stops-behind tells told s old mid now i.ready.numbered refl refl refl (at_end c.args.collector.now) (at_end c.atoms.collector) i.leads (at_end d) a.next a.at asked.passes asked.shown asked.asks last x
+    (opens-later tells told (g.L.Library.told c.atoms.files) i.stays.same s a.at a.next (Err x) now last c.in_err-open_next-in-Ok-Some.ensures.opens))
 
 pub check_rest-returns-in_err-open_next-in-Ok-Some-clause-keeps : goal.check_rest-returns-in_err-open_next-in-Ok-Some-clause-keeps
 check_rest-returns-in_err-open_next-in-Ok-Some-clause-keeps g t c =
@@ -213,20 +245,21 @@ check_rest-returns-then-ends-clause-takes g t c =
     let s = c.args.source.now in
     let i = c.atoms.invariant in
     let told = g.L.Library.told c.args.files.now in
-    let old = progress_of c.args.run.now in
-    let st = c.atoms.run.session.state in
-    let new = c.check_end.new.session.state in
-    let included = c.atoms.run.included in
-    let last = progress_of c.open_next.new.run in
-    let paths = c.open_next.new.paths in
+    let tells = g.O.Observer.tells in
+    let old = point c.args.run.now c.args.observer.now c.args.paths.now in
+    let mid = point c.atoms.run c.atoms.observer c.atoms.paths in
+    let now = point (record c.atoms.run { session = c.check_end.new.session }) c.check_end.new.observer c.atoms.paths in
     let d = c.check_end.new.collector in
     let a = c.in-Ok-Some.asked in
-    let asked : IsAskedAtEnd (origin_of s.from) st new c.atoms.collector d a = subst (λ (o : Option Asked). ChecksEnd (origin_of s.from) (Ok o) st new c.atoms.collector d) c.in-Ok-Some.field-0-is c.in-Ok-Some.ensures.checks in
+    let last = point c.open_next.new.run c.open_next.new.observer c.open_next.new.paths in
+    let asked : IsAskedAtEnd (origin_of s.from) (IsShown tells c.atoms.observer c.check_end.new.observer (number_of s.from)) c.atoms.run.session.state c.check_end.new.session.state c.atoms.collector d a = subst (λ (o : Option Asked). ChecksEnd (origin_of s.from) (IsShown tells c.atoms.observer c.check_end.new.observer (number_of s.from)) (Ok o) c.atoms.run.session.state c.check_end.new.session.state c.atoms.collector d) c.in-Ok-Some.field-0-is c.in-Ok-Some.ensures.checks in
     let ends = sym c.exits-ends.ensures ∙ c.if-ends.true in
-    let finishes = leaves-behind told s old st new included (at_end c.args.collector.now) (at_end c.atoms.collector) i.leads (at_end d) a.next a.at asked.asks last paths tt
-    (opens-later told (g.L.Library.told c.atoms.files) i.stays.same s a.at a.next (Ok tt) (progress new included) last paths c.in_ok-open_next-in-Ok-Some.ensures.opens) ends in
-    let reference = leaves-reference told s old st new included (at_end c.args.collector.now) (at_end c.atoms.collector) i.leads (at_end d) a.next a.at asked.asks ends in
-    λ files k. (finishes files k, λ other. absurd (other reference))
+    let finishes = leaves-behind tells told s old mid now i.ready.numbered refl refl refl (at_end c.args.collector.now) (at_end c.atoms.collector) i.leads (at_end d) a.next a.at asked.passes asked.shown asked.asks last tt
+    (opens-later tells told (g.L.Library.told c.atoms.files) i.stays.same s a.at a.next (Ok tt) now last c.in_ok-open_next-in-Ok-Some.ensures.opens) ends in
+    let reference = leaves-reference tells told s old mid now i.ready.numbered refl refl refl (at_end c.args.collector.now) (at_end c.atoms.collector) i.leads (at_end d) a.next a.at asked.passes asked.shown asked.asks ends in
+    λ files k seen sees.
+    let b = finishes files k seen sees in
+    (b.0, b.1, b.2, λ other. absurd (other reference))
 
 pub check_rest-returns-then-ends-clause-keeps : goal.check_rest-returns-then-ends-clause-keeps
 check_rest-returns-then-ends-clause-keeps g t c =
@@ -242,19 +275,19 @@ check_rest-atoms-preserved g t c =
     let s = c.args.source.now in
     let i = c.atoms.invariant in
     let told = g.L.Library.told c.args.files.now in
-    let old = progress_of c.args.run.now in
-    let st = c.atoms.run.session.state in
-    let new = c.check_end.new.session.state in
-    let included = c.atoms.run.included in
-    let last = progress_of c.open_next.new.run in
-    let paths = c.open_next.new.paths in
+    let tells = g.O.Observer.tells in
+    let old = point c.args.run.now c.args.observer.now c.args.paths.now in
+    let mid = point c.atoms.run c.atoms.observer c.atoms.paths in
+    let now = point (record c.atoms.run { session = c.check_end.new.session }) c.check_end.new.observer c.atoms.paths in
     let d = c.check_end.new.collector in
     let a = c.in-Ok-Some.asked in
-    let asked : IsAskedAtEnd (origin_of s.from) st new c.atoms.collector d a = subst (λ (o : Option Asked). ChecksEnd (origin_of s.from) (Ok o) st new c.atoms.collector d) c.in-Ok-Some.field-0-is c.in-Ok-Some.ensures.checks in
+    let last = point c.open_next.new.run c.open_next.new.observer c.open_next.new.paths in
+    let asked : IsAskedAtEnd (origin_of s.from) (IsShown tells c.atoms.observer c.check_end.new.observer (number_of s.from)) c.atoms.run.session.state c.check_end.new.session.state c.atoms.collector d a = subst (λ (o : Option Asked). ChecksEnd (origin_of s.from) (IsShown tells c.atoms.observer c.check_end.new.observer (number_of s.from)) (Ok o) c.atoms.run.session.state c.check_end.new.session.state c.atoms.collector d) c.in-Ok-Some.field-0-is c.in-Ok-Some.ensures.checks in
     let opened = c.in_ok-open_next-in-Ok-Some.ensures in
+    let paths = c.open_next.new.paths in
     record {
-      leads = goes-behind told s old st new included (at_end c.args.collector.now) (at_end c.atoms.collector) i.leads (at_end d) a.next a.at asked.asks last paths tt
-          (opens-later told (g.L.Library.told c.atoms.files) i.stays.same s a.at a.next (Ok tt) (progress new included) last paths opened.opens) (sym c.exits-ends.ensures ∙ c.if-ends.false);
+      leads = goes-behind tells told s old mid now i.ready.numbered refl refl refl (at_end c.args.collector.now) (at_end c.atoms.collector) i.leads (at_end d) a.next a.at asked.passes asked.shown asked.asks last tt
+          (opens-later tells told (g.L.Library.told c.atoms.files) i.stays.same s a.at a.next (Ok tt) now last opened.opens) (sym c.exits-ends.ensures ∙ c.if-ends.false);
       live = asked.live;
       waiting = asked.waiting;
       ready = record {
@@ -266,41 +299,71 @@ check_rest-atoms-preserved g t c =
       stays = stays-trans g.L.Library.told g.L.Library.open_files g.L.Library.faults c.args.files.now c.atoms.files c.open_next.new.files i.stays opened.stays;
     }
 
+pub check_rest-atoms-init : goal.check_rest-atoms-init
+check_rest-atoms-init g t c =
+    let w = point c.args.run.now c.args.observer.now c.args.paths.now in
+    record {
+      leads = λ files k seen sees. (seen, sees, leads-refl (opener_of files c.args.source.now.opens) c.args.source.now.path.now (origin_of c.args.source.now.from) (progress_at w seen) (at_end c.args.collector.now));
+      live = c.requires.live;
+      waiting = c.requires.waiting;
+      ready = c.requires.ready;
+      table = ([], sym (append-nil c.args.paths.now));
+      stays = record { same = refl; closed = refl; later = omega arith };
+    }
+
 -- ---- what a command asks for
 
 pub open_next-returns-in_err-file-in-Include-clause-opens : goal.open_next-returns-in_err-file-in-Include-clause-opens
 open_next-returns-in_err-file-in-Include-clause-opens g t c =
     let s = c.args.source.now in
     let told = g.L.Library.told c.args.files.now in
-    let p = progress_of c.args.run.now in
-    let paths = c.args.paths.now in
+    let p = point c.args.run.now c.args.observer.now c.args.paths.now in
     let x = c.in_err-file-in-Include.field-0.0 in
     let r = c.from_residual.result in
-    subst (λ (n : Next). Opens told s c.args.at n r p p paths) (sym c.in-Include.is)
-    (at_exit (λ (r : Result (Unit {0}) Verdict). Opens told s c.args.at (next.Include c.in-Include.name) r p p paths) r x c.from_residual.ensures.1
-    (include-unfolded told s (s.opens - 1) (one-less s.opens c.if-source-eq0.false) c.args.at p p paths c.requires.ready.numbered c.in-Include.name x c.in_err-file-in-Include.ensures))
+    subst (λ (n : Next). Opens g.O.Observer.tells told s c.args.at n r p p) (sym c.in-Include.is)
+    (at_exit (λ (r : Result (Unit {0}) Verdict). Opens g.O.Observer.tells told s c.args.at (next.Include c.in-Include.name) r p p) r x c.from_residual.ensures.1
+    (include-unfolded g.O.Observer.tells told s (s.opens - 1) (one-less s.opens c.if-source-eq0.false) c.args.at p p (λ seen sees. sees) c.requires.ready.numbered c.in-Include.name x c.in_err-file-in-Include.ensures))
 
 pub open_next-returns-in_err-file-in-Reference-clause-opens : goal.open_next-returns-in_err-file-in-Reference-clause-opens
 open_next-returns-in_err-file-in-Reference-clause-opens g t c =
     let s = c.args.source.now in
     let told = g.L.Library.told c.args.files.now in
-    let p = progress_of c.args.run.now in
-    let paths = c.args.paths.now in
+    let p = point c.args.run.now c.args.observer.now c.args.paths.now in
     let x = c.in_err-file-in-Reference.field-0.0 in
     let r = c.from_residual-in_err-file-in-Reference.result in
-    subst (λ (n : Next). Opens told s c.args.at n r p p paths) (sym c.in-Reference.is)
-    (at_exit (λ (r : Result (Unit {0}) Verdict). Opens told s c.args.at (next.Reference c.in-Reference.name) r p p paths) r x c.from_residual-in_err-file-in-Reference.ensures.1
-    (refer-unfolded told s (s.opens - 1) (one-less s.opens c.if-source-eq0.false) c.args.at p p paths c.requires.ready.numbered c.in-Reference.name x c.in_err-file-in-Reference.ensures))
+    subst (λ (n : Next). Opens g.O.Observer.tells told s c.args.at n r p p) (sym c.in-Reference.is)
+    (at_exit (λ (r : Result (Unit {0}) Verdict). Opens g.O.Observer.tells told s c.args.at (next.Reference c.in-Reference.name) r p p) r x c.from_residual-in_err-file-in-Reference.ensures.1
+    (refer-unfolded g.O.Observer.tells told s (s.opens - 1) (one-less s.opens c.if-source-eq0.false) c.args.at p p (λ seen sees. sees) c.requires.ready.numbered c.in-Reference.name x c.in_err-file-in-Reference.ensures))
+
+pub open_next-returns-in_err-file-in-Include-clause-keeps : goal.open_next-returns-in_err-file-in-Include-clause-keeps
+open_next-returns-in_err-file-in-Include-clause-keeps g t c =
+    let paths = c.args.paths.now in
+    let x = c.in_err-file-in-Include.field-0.0 in
+    at_exit (λ (r : Result (Unit {0}) Verdict). Keeps r c.args.run.now paths paths) c.from_residual.result x c.from_residual.ensures.1 record {
+      going = tt;
+      kind = unfolded-stop paths c.args.source.now c.args.at c.requires.ready.numbered c.in-Include.name x c.in_err-file-in-Include.ensures;
+      table = ([], sym (append-nil paths));
+    }
+
+pub open_next-returns-in_err-file-in-Reference-clause-keeps : goal.open_next-returns-in_err-file-in-Reference-clause-keeps
+open_next-returns-in_err-file-in-Reference-clause-keeps g t c =
+    let paths = c.args.paths.now in
+    let x = c.in_err-file-in-Reference.field-0.0 in
+    at_exit (λ (r : Result (Unit {0}) Verdict). Keeps r c.args.run.now paths paths) c.from_residual-in_err-file-in-Reference.result x c.from_residual-in_err-file-in-Reference.ensures.1 record {
+      going = tt;
+      kind = unfolded-stop paths c.args.source.now c.args.at c.requires.ready.numbered c.in-Reference.name x c.in_err-file-in-Reference.ensures;
+      table = ([], sym (append-nil paths));
+    }
 
 pub open_next-returns-in-Done-clause-opens : goal.open_next-returns-in-Done-clause-opens
 open_next-returns-in-Done-clause-opens g t c =
     let s = c.args.source.now in
     let told = g.L.Library.told c.args.files.now in
-    let p = progress_of c.args.run.now in
+    let p = point c.args.run.now c.args.observer.now c.args.paths.now in
     let left = one-less s.opens c.if-source-eq0.false in
     elim c.in-Done.is [
-      | inl e ↦ subst (λ (n : Next). Opens told s c.args.at n (Ok tt) p p c.args.paths.now) (sym e) (opens-done told s c.args.at p c.args.paths.now tt (s.opens - 1) left)
-      | inr e ↦ subst (λ (n : Next). Opens told s c.args.at n (Ok tt) p p c.args.paths.now) (sym e) (opens-exit told s c.args.at p c.args.paths.now tt (s.opens - 1) left)
+      | inl e ↦ subst (λ (n : Next). Opens g.O.Observer.tells told s c.args.at n (Ok tt) p p) (sym e) (opens-done g.O.Observer.tells told s c.args.at p tt (s.opens - 1) left)
+      | inr e ↦ subst (λ (n : Next). Opens g.O.Observer.tells told s c.args.at n (Ok tt) p p) (sym e) (opens-exit g.O.Observer.tells told s c.args.at p tt (s.opens - 1) left)
     ]
 
 -- ---- a file that is included
@@ -311,12 +374,15 @@ include-check_file-end-requires g t c κs within =
     let is = c.included_in-inner.ensures in (
       omega (arith, is.opens, c.requires.opens),
       (
-        within,
-        record {
-          room = omega (arith, is.opens, c.requires.opens, c.requires.ready.room);
-          going = c.requires.ready.going;
-          numbered = ap (slice_get c.add-2.new.self) is.numbered ∙ c.in-Ok-add.ensures.number ∙ ap (λ (p : List ℕ). Some p) (sym is.path);
-        },
+        within.0,
+        (
+          within.1,
+          record {
+            room = omega (arith, is.opens, c.requires.opens, c.requires.ready.room);
+            going = ap (λ (x : Standing). x.ended) c.count_included.ensures.session ∙ c.requires.ready.going;
+            numbered = (λ j. position (bytes_eq (is.path j)) c.add.new.self) ∙ c.in-Ok-add.ensures.first ∙ ap (λ (n : ℕ). Some n) (sym is.numbered);
+          },
+        ),
       ),
     )
 
@@ -324,7 +390,7 @@ pub include-returns-then-is_included-clause-includes : goal.include-returns-then
 include-returns-then-is_included-clause-includes g t c = λ name folds.
     let s = c.args.source.now in
     let file = c.args.file.now in
-    includes-again (g.L.Library.told c.args.files.now) s (s.opens - 1) (omega (arith, c.requires.opens)) c.args.at name (progress_of c.args.run.now) c.args.paths.now file folds tt
+    includes-again g.O.Observer.tells (g.L.Library.told c.args.files.now) s (s.opens - 1) (omega (arith, c.requires.opens)) c.args.at name (point c.args.run.now c.args.observer.now c.args.paths.now) file folds tt
     (sym c.is_included.ensures ∙ c.if-is_included.true)
 
 pub include-returns-then-source-eq1-clause-includes : goal.include-returns-then-source-eq1-clause-includes
@@ -332,31 +398,41 @@ include-returns-then-source-eq1-clause-includes g t c = λ name folds.
     let s = c.args.source.now in
     let told = g.L.Library.told c.args.files.now in
     let file = c.args.file.now in
-    let p = progress_of c.args.run.now in
+    let p = point c.args.run.now c.args.observer.now c.args.paths.now in
     let paths = c.args.paths.now in
     let at = c.args.at in
     let new = sym c.is_included.ensures ∙ c.if-is_included.false in
-    subst (λ (v : Verdict). Opens told s at (next.Include name) (Err v) p p paths) (sym c.refused.ensures)
-    (includes-deep told s (s.opens - 1) (omega (arith, c.requires.opens)) at name p paths file folds new (record { name = IncludeDepth; place = place_in s at }) p (omega (arith, c.if-source-eq1.true)) (denotes-here paths s IncludeDepth at c.requires.ready.numbered))
+    subst (λ (v : Verdict). Opens g.O.Observer.tells told s at (next.Include name) (Err v) p p) (sym c.refused.ensures)
+    (includes-deep g.O.Observer.tells told s (s.opens - 1) (omega (arith, c.requires.opens)) at name p file folds new (record { name = IncludeDepth; place = place_in s at }) p (λ seen sees. sees) (omega (arith, c.if-source-eq1.true)) (denotes-here paths s IncludeDepth at c.requires.ready.numbered))
+
+pub include-returns-then-source-eq1-clause-keeps : goal.include-returns-then-source-eq1-clause-keeps
+include-returns-then-source-eq1-clause-keeps g t c =
+    let paths = c.args.paths.now in
+    record {
+      going = tt;
+      kind = subst (IsStop paths) (sym c.refused.ensures) (placed-in paths c.args.source.now c.requires.ready.numbered);
+      table = ([], sym (append-nil paths));
+    }
 
 pub include-returns-clause-includes : goal.include-returns-clause-includes
 include-returns-clause-includes g t c = λ name folds.
     let s = c.args.source.now in
     let told = g.L.Library.told c.args.files.now in
     let file = c.args.file.now in
-    let p = progress_of c.args.run.now in
+    let p = point c.args.run.now c.args.observer.now c.args.paths.now in
     let end = c.check_file-end in
-    let last = progress_of end.new.run in
+    let last = point end.new.run end.new.observer end.new.paths in
     let paths = end.new.paths in
     let at = c.args.at in
     let new = sym c.is_included.ensures ∙ c.if-is_included.false in
     let i = c.included_in-inner.result in
     let is = c.included_in-inner.ensures in
-    let added : IsNumbered c.add-2.new.self s = numbered-later c.args.paths.now c.add-2.new.self (number_of s.from) s.path.now c.in-Ok-add.ensures.grows c.requires.ready.numbered in
-    let here : IsNumbered paths s = numbered-later c.add-2.new.self paths (number_of s.from) s.path.now end.ensures.keeps.table added in
-    subst (λ (r : Result (Unit {0}) Verdict). Opens told s at (next.Include name) r p last paths) (sym c.opened.ensures)
-    (includes-ends told s (s.opens - 1) (omega (arith, c.requires.opens)) at name p paths file folds new (s.opens - 2) (omega (arith, c.requires.opens, c.if-source-eq1.false)) i is.path is.same is.plain is.opens end.result last here
-    (subst (λ (ps : List (List ℕ)). RunsFile told i end.result (progress p.state ps) last paths) c.in-Ok.ensures.table end.ensures.runs))
+    let added : IsNumbered c.add.new.self s = numbered-later c.args.paths.now c.add.new.self (number_of s.from) s.path.now c.in-Ok-add.ensures.grows c.requires.ready.numbered in
+    let here : IsNumbered paths s = numbered-later c.add.new.self paths (number_of s.from) s.path.now end.ensures.keeps.table added in
+    subst (λ (r : Result (Unit {0}) Verdict). Opens g.O.Observer.tells told s at (next.Include name) r p last) (sym c.opened.ensures)
+    (includes-ends g.O.Observer.tells told s (s.opens - 1) (omega (arith, c.requires.opens)) at name p file folds new (s.opens - 2) (omega (arith, c.requires.opens, c.if-source-eq1.false)) i is.path is.same is.plain is.opens
+    (point c.count_included.new.run c.args.observer.now c.add.new.self) (ap (λ (x : Standing). x.state) c.count_included.ensures.session) c.in-Ok.ensures.included c.in-Ok.ensures.opened
+    (λ seen sees. sees-later g.O.Observer.tells c.args.observer.now c.args.paths.now c.add.new.self seen c.in-Ok-add.ensures.grows sees) end.result last here end.ensures.runs)
 
 pub include-returns-clause-cause : goal.include-returns-clause-cause
 include-returns-clause-cause g t c =
@@ -371,7 +447,7 @@ include-returns-clause-keeps g t c =
     let s = c.args.source.now in
     let run = c.check_file-end.new.run in
     let before = c.args.paths.now in
-    let mid = c.add-2.new.self in
+    let mid = c.add.new.self in
     let after = c.check_file-end.new.paths in
     let grows = c.in-Ok-add.ensures.grows in
     subst (λ (r : Result (Unit {0}) Verdict). Keeps r run before after) (sym c.opened.ensures)
@@ -383,12 +459,15 @@ pub refer-check_file-end-requires : goal.refer-check_file-end-requires
 refer-check_file-end-requires g t c κs within = (
   omega (arith, c.requires.opens),
   (
-    within,
-    record {
-      room = omega (arith, c.requires.opens, c.requires.ready.room);
-      going = c.in_ok-begin.ensures.going;
-      numbered = c.in-Ok.ensures.number;
-    },
+    within.0,
+    (
+      within.1,
+      record {
+        room = omega (arith, c.requires.opens, c.requires.ready.room);
+        going = c.in_ok-begin.ensures.going;
+        numbered = c.in-Ok.ensures.first;
+      },
+    ),
   ),
 )
 
@@ -396,11 +475,11 @@ pub refer-returns-in_err-begin-clause-refers : goal.refer-returns-in_err-begin-c
 refer-returns-in_err-begin-clause-refers g t c = λ name folds.
     let s = c.args.source.now in
     let told = g.L.Library.told c.args.files.now in
-    let p = progress_of c.args.run.now in
-    let last = progress_of c.begin.new.run in
+    let p = point c.args.run.now c.args.observer.now c.args.paths.now in
+    let last = point c.begin.new.run c.args.observer.now c.args.paths.now in
     let x = c.in_err-begin.field-0.0 in
-    at_exit (λ (r : Result (Unit {0}) Verdict). Opens told s c.args.at (next.Reference name) r p last c.args.paths.now) c.from_residual.result x c.from_residual.ensures.1
-    (refer-unbegun told s (s.opens - 1) (omega (arith, c.requires.opens)) c.args.at p last c.args.paths.now c.requires.ready.numbered name c.args.file.now folds x c.begin.new.run.session.state c.in_err-begin.ensures.begins)
+    at_exit (λ (r : Result (Unit {0}) Verdict). Opens g.O.Observer.tells told s c.args.at (next.Reference name) r p last) c.from_residual.result x c.from_residual.ensures.1
+    (refer-unbegun g.O.Observer.tells told s (s.opens - 1) (omega (arith, c.requires.opens)) c.args.at p last (λ seen sees. sees) c.requires.ready.numbered name c.args.file.now folds x c.begin.new.run.session.state c.in_err-begin.ensures.begins)
 
 pub refer-returns-in_err-begin-clause-cause : goal.refer-returns-in_err-begin-clause-cause
 refer-returns-in_err-begin-clause-cause g t c =
@@ -410,22 +489,33 @@ refer-returns-in_err-begin-clause-cause g t c =
     at_exit (λ (r : Result (Unit {0}) Verdict). IfErr r (λ v. AnswerHasCause v told n n)) c.from_residual.result x c.from_residual.ensures.1
     (unbegun-present told c.args.source.now c.args.at x c.args.run.now.session.state c.begin.new.run.session.state n n c.in_err-begin.ensures.begins)
 
+pub refer-returns-in_err-begin-clause-keeps : goal.refer-returns-in_err-begin-clause-keeps
+refer-returns-in_err-begin-clause-keeps g t c =
+    let paths = c.args.paths.now in
+    let x = c.in_err-begin.field-0.0 in
+    at_exit (λ (r : Result (Unit {0}) Verdict). Keeps r c.begin.new.run paths paths) c.from_residual.result x c.from_residual.ensures.1 record {
+      going = tt;
+      kind = unbegun-stop paths c.args.source.now c.args.at c.requires.ready.numbered x c.args.run.now.session.state c.begin.new.run.session.state c.in_err-begin.ensures.begins;
+      table = ([], sym (append-nil paths));
+    }
+
 pub refer-returns-clause-refers : goal.refer-returns-clause-refers
 refer-returns-clause-refers g t c = λ name folds.
     let s = c.args.source.now in
     let told = g.L.Library.told c.args.files.now in
-    let p = progress_of c.args.run.now in
+    let p = point c.args.run.now c.args.observer.now c.args.paths.now in
     let end = c.check_file-end in
-    let last = progress_of end.new.run in
+    let last = point end.new.run end.new.observer end.new.paths in
     let paths = end.new.paths in
     let at = c.args.at in
     let st = c.begin.new.run.session.state in
     let i : Source = record { path = c.args.file; from = code.Reference c.in-Ok.number; wrapped = false; opens = 0 } in
     let added : IsNumbered c.add.new.self s = numbered-later c.args.paths.now c.add.new.self (number_of s.from) s.path.now c.in-Ok.ensures.grows c.requires.ready.numbered in
     let here : IsNumbered paths s = numbered-later c.add.new.self paths (number_of s.from) s.path.now end.ensures.keeps.table added in
-    subst (λ (r : Result (Unit {0}) Verdict). Opens told s at (next.Reference name) r p last paths) (sym c.opened.ensures)
-    (refers-ends told s (s.opens - 1) (omega (arith, c.requires.opens)) at name p paths c.args.file.now folds st c.in_ok-begin.ensures.begins i refl refl refl refl end.result last here
-    (subst (λ (ps : List (List ℕ)). RunsFile told i end.result (progress st ps) last paths) c.in_ok-begin.ensures.included end.ensures.runs))
+    subst (λ (r : Result (Unit {0}) Verdict). Opens g.O.Observer.tells told s at (next.Reference name) r p last) (sym c.opened.ensures)
+    (refers-ends g.O.Observer.tells told s (s.opens - 1) (omega (arith, c.requires.opens)) at name p c.args.file.now folds i refl refl refl refl
+    (point c.begin.new.run c.args.observer.now c.add.new.self) c.in_ok-begin.ensures.begins c.in_ok-begin.ensures.included c.in_ok-begin.ensures.opened
+    (λ seen sees. sees-later g.O.Observer.tells c.args.observer.now c.args.paths.now c.add.new.self seen c.in-Ok.ensures.grows sees) end.result last here end.ensures.runs)
 
 pub refer-returns-clause-cause : goal.refer-returns-clause-cause
 refer-returns-clause-cause g t c =
@@ -452,14 +542,14 @@ pub check_file-returns-in-Ready-clause-runs : goal.check_file-returns-in-Ready-c
 check_file-returns-in-Ready-clause-runs g t c =
     let s = c.args.source.now in
     let told = g.L.Library.told c.args.files.now in
-    let old = progress_of c.args.run.now in
+    let old = point c.args.run.now c.args.observer.now c.args.paths.now in
     let end = c.check_open-end in
-    let new = progress_of end.new.run in
+    let new = point end.new.run end.new.observer end.new.paths in
     let paths = end.new.paths in
     let mid = g.L.Library.open_files c.open.new.self in
-    subst (λ (r : Result (Option Spot) Verdict). RunsFile told s r old new paths) (sym c.closed.ensures.is)
-    (ready-runs told s end.result old new paths (g.L.Library.open_files c.args.files.now) mid c.in-Ready.ensures.opens
-    (open-later told (g.L.Library.told c.open.new.self) c.in-Ready.ensures.same s end.result old new paths mid end.ensures.runs))
+    subst (λ (r : Result (Option Spot) Verdict). RunsFile g.O.Observer.tells told s r old new) (sym c.closed.ensures.is)
+    (ready-runs g.O.Observer.tells told s end.result old new (g.L.Library.open_files c.args.files.now) mid c.in-Ready.ensures.opens
+    (open-later g.O.Observer.tells told (g.L.Library.told c.open.new.self) c.in-Ready.ensures.same s end.result old new mid end.ensures.runs))
 
 pub check_file-returns-in-Ready-clause-cause : goal.check_file-returns-in-Ready-clause-cause
 check_file-returns-in-Ready-clause-cause g t c =
@@ -490,9 +580,9 @@ check_file-returns-in-Ready-clause-stays g t c =
 
 pub check_pieces-pieces-init : goal.check_pieces-pieces-init
 check_pieces-pieces-init g t c =
-    let p = progress_of c.args.run.now in
+    let p = point c.args.run.now c.args.observer.now c.args.paths.now in
     record {
-      read = reads-nothing c.answers_law.ensures (g.L.Library.told c.args.files.now) c.args.source.now p c.args.collector.now 1099511627776 (g.L.Library.open_files c.args.files.now) c.requires.open refl c.requires.collector;
+      read = reads-nothing g.O.Observer.tells c.answers_law.ensures (g.L.Library.told c.args.files.now) c.args.source.now p c.args.collector.now 1099511627776 (g.L.Library.open_files c.args.files.now) c.requires.open refl c.requires.collector;
       ready = c.requires.ready;
       table = ([], sym (append-nil c.args.paths.now));
       same = refl;
@@ -504,12 +594,12 @@ check_pieces-returns-then-n-eq0-clause-runs g t c =
     let s = c.args.source.now in
     let i = c.pieces.invariant in
     let told = g.L.Library.told c.args.files.now in
-    let st = progress_of c.pieces.run in
-    let last = progress_of c.check_rest.new.run in
+    let st = point c.pieces.run c.pieces.observer c.pieces.paths in
+    let last = point c.check_rest.new.run c.check_rest.new.observer c.check_rest.new.paths in
     let paths = c.check_rest.new.paths in
-    ends-open c.pieces_law.ensures c.answers_law.ensures told s (progress_of c.args.run.now) st last c.pieces.collector c.pieces.left c.in-Bytes.n c.read.new.buf (g.L.Library.open_files c.args.files.now) (g.L.Library.open_files c.pieces.files) (g.L.Library.open_files c.read.new.self) paths
+    ends-open g.O.Observer.tells c.pieces_law.ensures c.answers_law.ensures told s (point c.args.run.now c.args.observer.now c.args.paths.now) st last c.pieces.collector c.pieces.left c.in-Bytes.n c.read.new.buf (g.L.Library.open_files c.args.files.now) (g.L.Library.open_files c.pieces.files) (g.L.Library.open_files c.read.new.self)
     i.read c.in-Bytes.ensures.reads c.if-n-eq0.true c.check_rest.result
-    (ends-later told (g.L.Library.told c.read.new.self) (c.in-Bytes.ensures.same ∙ i.same) s c.check_rest.result st last c.pieces.collector paths c.check_rest.ensures.takes)
+    (ends-later g.O.Observer.tells told (g.L.Library.told c.read.new.self) (c.in-Bytes.ensures.same ∙ i.same) s c.check_rest.result st last c.pieces.collector c.check_rest.ensures.takes)
 
 pub check_pieces-returns-then-n-eq0-clause-keeps : goal.check_pieces-returns-then-n-eq0-clause-keeps
 check_pieces-returns-then-n-eq0-clause-keeps g t c =
@@ -528,17 +618,17 @@ check_pieces-take_piece-requires g t c κs within =
     let mid = g.L.Library.open_files c.pieces.files in
     let after = g.L.Library.open_files c.read.new.self in
     let same = stays-length before after (stays-read c.in-Bytes.n c.read.new.buf before mid after i.read.bytes i.read.passes c.in-Bytes.ensures.reads) in
-    let room = has_room (g.L.Library.told c.args.files.now) s (progress_of c.args.run.now) (progress_of c.pieces.run) c.pieces.collector c.pieces.left before mid (take c.pieces.left c.read.new.buf) i.read (omega (arith, length-take c.pieces.left c.read.new.buf)) in
-    (omega arith, (within, (record { room = omega (arith, same, c.requires.ready.room); going = i.ready.going; numbered = i.ready.numbered }, (i.read.taken.live, (i.read.taken.waiting, room)))))
+    let room = has_room g.O.Observer.tells (g.L.Library.told c.args.files.now) s (point c.args.run.now c.args.observer.now c.args.paths.now) (point c.pieces.run c.pieces.observer c.pieces.paths) c.pieces.collector c.pieces.left before mid (take c.pieces.left c.read.new.buf) i.read (omega (arith, length-take c.pieces.left c.read.new.buf)) in
+    (omega arith, (within.0, (within.1, (record { room = omega (arith, same, c.requires.ready.room); going = i.ready.going; numbered = i.ready.numbered }, (i.read.taken.live, (i.read.taken.waiting, room))))))
 
 pub check_pieces-returns-in_err-take_piece-clause-runs : goal.check_pieces-returns-in_err-take_piece-clause-runs
 check_pieces-returns-in_err-take_piece-clause-runs g t c =
     let s = c.args.source.now in
     let i = c.pieces.invariant in
     let told = g.L.Library.told c.args.files.now in
-    let old = progress_of c.args.run.now in
-    let st = progress_of c.pieces.run in
-    let last = progress_of c.take_piece.new.run in
+    let old = point c.args.run.now c.args.observer.now c.args.paths.now in
+    let st = point c.pieces.run c.pieces.observer c.pieces.paths in
+    let last = point c.take_piece.new.run c.take_piece.new.observer c.take_piece.new.paths in
     let paths = c.take_piece.new.paths in
     let d = c.take_piece.new.collector in
     let left = c.pieces.left in
@@ -548,9 +638,9 @@ check_pieces-returns-in_err-take_piece-clause-runs g t c =
     let before = g.L.Library.open_files c.args.files.now in
     let mid = g.L.Library.open_files c.pieces.files in
     let after = g.L.Library.open_files c.read.new.self in
-    at_exit (λ (r : Result Spot Verdict). RunsOpen told s r old last paths before) c.from_residual.result x c.from_residual.ensures.1
-    (stops-open c.pieces_law.ensures told s old st last c.pieces.collector left left p before mid paths i.read (λ rest others e. front-is left n c.read.new.buf mid after rest others c.in-Bytes.ensures.reads (omega (arith, c.if-n-left.true)) e) (omega arith) x
-    (takes-later told (g.L.Library.told c.read.new.self) (c.in-Bytes.ensures.same ∙ i.same) s (Err x) st last c.pieces.collector d p paths c.in_err-take_piece.ensures.takes))
+    at_exit (λ (r : Result Spot Verdict). RunsOpen g.O.Observer.tells told s r old last before) c.from_residual.result x c.from_residual.ensures.1
+    (stops-open g.O.Observer.tells c.pieces_law.ensures told s old st last c.pieces.collector left left p before mid i.read (λ rest others e. front-is left n c.read.new.buf mid after rest others c.in-Bytes.ensures.reads (omega (arith, c.if-n-left.true)) e) (omega arith) x
+    (takes-later g.O.Observer.tells told (g.L.Library.told c.read.new.self) (c.in-Bytes.ensures.same ∙ i.same) s (Err x) st last c.pieces.collector d p c.in_err-take_piece.ensures.takes))
 
 pub check_pieces-returns-in_err-take_piece-clause-keeps : goal.check_pieces-returns-in_err-take_piece-clause-keeps
 check_pieces-returns-in_err-take_piece-clause-keeps g t c =
@@ -574,21 +664,21 @@ check_pieces-returns-then-branch-clause-runs g t c =
     let s = c.args.source.now in
     let i = c.pieces.invariant in
     let told = g.L.Library.told c.args.files.now in
-    let old = progress_of c.args.run.now in
-    let st = progress_of c.pieces.run in
-    let last = progress_of c.take_piece.new.run in
+    let old = point c.args.run.now c.args.observer.now c.args.paths.now in
+    let st = point c.pieces.run c.pieces.observer c.pieces.paths in
+    let last = point c.take_piece.new.run c.take_piece.new.observer c.take_piece.new.paths in
     let paths = c.take_piece.new.paths in
     let d = c.take_piece.new.collector in
     let left = c.pieces.left in
     let p = take left c.read.new.buf in
     let at = c.here.result in
     let before = g.L.Library.open_files c.args.files.now in
-    let taken : IsTaken told s st last c.pieces.collector d p = taken-later told (g.L.Library.told c.read.new.self) (c.in-Bytes.ensures.same ∙ i.same) s st last c.pieces.collector d p (subst (λ (b : Bool). TakesPiece (g.L.Library.told c.read.new.self) s (Ok b) st last c.pieces.collector d p paths) c.if-branch.true c.in_ok-take_piece.ensures.takes) in
+    let taken : IsTaken g.O.Observer.tells told s st last c.pieces.collector d p = taken-later g.O.Observer.tells told (g.L.Library.told c.read.new.self) (c.in-Bytes.ensures.same ∙ i.same) s st last c.pieces.collector d p (subst (λ (b : Bool). TakesPiece g.O.Observer.tells (g.L.Library.told c.read.new.self) s (Ok b) st last c.pieces.collector d p) c.if-branch.true c.in_ok-take_piece.ensures.takes) in
     let here : IsNumbered paths s = numbered-later c.pieces.paths paths (number_of s.from) s.path.now c.in_ok-take_piece.ensures.keeps.table i.ready.numbered in
     let place : Denotes paths (record { name = FileLong; place = place_in s at }) (refusal_at s.path.now (here_of d) FileLong) =
     subst (λ (q : Spot). Denotes paths (record { name = FileLong; place = place_in s at }) (refusal_at s.path.now q FileLong)) (c.here.ensures taken.live) (denotes-here paths s FileLong at here) in
-    subst (λ (v : Verdict). RunsOpen told s (Err v) old last paths before) (sym c.refused.ensures)
-    (long-open c.pieces_law.ensures told s old st last c.pieces.collector d left c.in-Bytes.n c.read.new.buf p before (g.L.Library.open_files c.pieces.files) (g.L.Library.open_files c.read.new.self) paths (record { name = FileLong; place = place_in s at }) i.read c.in-Bytes.ensures.reads c.if-n-left.true refl taken place)
+    subst (λ (v : Verdict). RunsOpen g.O.Observer.tells told s (Err v) old last before) (sym c.refused.ensures)
+    (long-open g.O.Observer.tells c.pieces_law.ensures told s old st last c.pieces.collector d left c.in-Bytes.n c.read.new.buf p before (g.L.Library.open_files c.pieces.files) (g.L.Library.open_files c.read.new.self) (record { name = FileLong; place = place_in s at }) i.read c.in-Bytes.ensures.reads c.if-n-left.true refl taken place)
 
 pub check_pieces-returns-then-branch-clause-keeps : goal.check_pieces-returns-then-branch-clause-keeps
 check_pieces-returns-then-branch-clause-keeps g t c =
@@ -615,9 +705,9 @@ check_pieces-returns-then-n-left-clause-runs g t c =
     let s = c.args.source.now in
     let i = c.pieces.invariant in
     let told = g.L.Library.told c.args.files.now in
-    let old = progress_of c.args.run.now in
-    let st = progress_of c.pieces.run in
-    let last = progress_of c.take_piece.new.run in
+    let old = point c.args.run.now c.args.observer.now c.args.paths.now in
+    let st = point c.pieces.run c.pieces.observer c.pieces.paths in
+    let last = point c.take_piece.new.run c.take_piece.new.observer c.take_piece.new.paths in
     let paths = c.take_piece.new.paths in
     let d = c.take_piece.new.collector in
     let left = c.pieces.left in
@@ -625,9 +715,9 @@ check_pieces-returns-then-n-left-clause-runs g t c =
     let p = take left c.read.new.buf in
     let mid = g.L.Library.open_files c.pieces.files in
     let after = g.L.Library.open_files c.read.new.self in
-    left-open c.pieces_law.ensures told s old st last c.pieces.collector left left p (g.L.Library.open_files c.args.files.now) mid paths i.read (λ rest others e. front-is left n c.read.new.buf mid after rest others c.in-Bytes.ensures.reads (omega (arith, c.if-n-left.true)) e) (omega arith)
-    (left-later told (g.L.Library.told c.read.new.self) (c.in-Bytes.ensures.same ∙ i.same) s st last c.pieces.collector p
-    (subst (λ (b : Bool). TakesPiece (g.L.Library.told c.read.new.self) s (Ok b) st last c.pieces.collector d p paths) c.if-branch.false c.in_ok-take_piece.ensures.takes)) c.here-then-n-left.result
+    left-open g.O.Observer.tells c.pieces_law.ensures told s old st last c.pieces.collector left left p (g.L.Library.open_files c.args.files.now) mid i.read (λ rest others e. front-is left n c.read.new.buf mid after rest others c.in-Bytes.ensures.reads (omega (arith, c.if-n-left.true)) e) (omega arith)
+    (left-later g.O.Observer.tells told (g.L.Library.told c.read.new.self) (c.in-Bytes.ensures.same ∙ i.same) s st last c.pieces.collector p
+    (subst (λ (b : Bool). TakesPiece g.O.Observer.tells (g.L.Library.told c.read.new.self) s (Ok b) st last c.pieces.collector d p) c.if-branch.false c.in_ok-take_piece.ensures.takes)) c.here-then-n-left.result
 
 pub check_pieces-returns-then-n-left-clause-keeps : goal.check_pieces-returns-then-n-left-clause-keeps
 check_pieces-returns-then-n-left-clause-keeps g t c =
@@ -654,17 +744,17 @@ check_pieces-take_piece-requires-in-pieces g t c κs within =
     let mid = g.L.Library.open_files c.pieces.files in
     let after = g.L.Library.open_files c.read.new.self in
     let same = stays-length before after (stays-read c.in-Bytes.n c.read.new.buf before mid after i.read.bytes i.read.passes c.in-Bytes.ensures.reads) in
-    let room = has_room (g.L.Library.told c.args.files.now) s (progress_of c.args.run.now) (progress_of c.pieces.run) c.pieces.collector c.pieces.left before mid (take c.in-Bytes.n c.read.new.buf) i.read (omega (arith, length-take c.in-Bytes.n c.read.new.buf, c.if-n-left.false)) in
-    (omega arith, (within, (record { room = omega (arith, same, c.requires.ready.room); going = i.ready.going; numbered = i.ready.numbered }, (i.read.taken.live, (i.read.taken.waiting, room)))))
+    let room = has_room g.O.Observer.tells (g.L.Library.told c.args.files.now) s (point c.args.run.now c.args.observer.now c.args.paths.now) (point c.pieces.run c.pieces.observer c.pieces.paths) c.pieces.collector c.pieces.left before mid (take c.in-Bytes.n c.read.new.buf) i.read (omega (arith, length-take c.in-Bytes.n c.read.new.buf, c.if-n-left.false)) in
+    (omega arith, (within.0, (within.1, (record { room = omega (arith, same, c.requires.ready.room); going = i.ready.going; numbered = i.ready.numbered }, (i.read.taken.live, (i.read.taken.waiting, room))))))
 
 pub check_pieces-returns-in_err-take_piece-2-clause-runs : goal.check_pieces-returns-in_err-take_piece-2-clause-runs
 check_pieces-returns-in_err-take_piece-2-clause-runs g t c =
     let s = c.args.source.now in
     let i = c.pieces.invariant in
     let told = g.L.Library.told c.args.files.now in
-    let old = progress_of c.args.run.now in
-    let st = progress_of c.pieces.run in
-    let last = progress_of c.take_piece-in-pieces.new.run in
+    let old = point c.args.run.now c.args.observer.now c.args.paths.now in
+    let st = point c.pieces.run c.pieces.observer c.pieces.paths in
+    let last = point c.take_piece-in-pieces.new.run c.take_piece-in-pieces.new.observer c.take_piece-in-pieces.new.paths in
     let paths = c.take_piece-in-pieces.new.paths in
     let d = c.take_piece-in-pieces.new.collector in
     let n = c.in-Bytes.n in
@@ -673,9 +763,9 @@ check_pieces-returns-in_err-take_piece-2-clause-runs g t c =
     let before = g.L.Library.open_files c.args.files.now in
     let mid = g.L.Library.open_files c.pieces.files in
     let after = g.L.Library.open_files c.read.new.self in
-    at_exit (λ (r : Result Spot Verdict). RunsOpen told s r old last paths before) c.from_residual-in_err-take_piece-2.result x c.from_residual-in_err-take_piece-2.ensures.1
-    (stops-open c.pieces_law.ensures told s old st last c.pieces.collector c.pieces.left n p before mid paths i.read (λ rest others e. piece-is n c.read.new.buf mid after rest others c.in-Bytes.ensures.reads e) (omega (arith, c.if-n-left.false)) x
-    (takes-later told (g.L.Library.told c.read.new.self) (c.in-Bytes.ensures.same ∙ i.same) s (Err x) st last c.pieces.collector d p paths c.in_err-take_piece-2.ensures.takes))
+    at_exit (λ (r : Result Spot Verdict). RunsOpen g.O.Observer.tells told s r old last before) c.from_residual-in_err-take_piece-2.result x c.from_residual-in_err-take_piece-2.ensures.1
+    (stops-open g.O.Observer.tells c.pieces_law.ensures told s old st last c.pieces.collector c.pieces.left n p before mid i.read (λ rest others e. piece-is n c.read.new.buf mid after rest others c.in-Bytes.ensures.reads e) (omega (arith, c.if-n-left.false)) x
+    (takes-later g.O.Observer.tells told (g.L.Library.told c.read.new.self) (c.in-Bytes.ensures.same ∙ i.same) s (Err x) st last c.pieces.collector d p c.in_err-take_piece-2.ensures.takes))
 
 pub check_pieces-returns-in_err-take_piece-2-clause-keeps : goal.check_pieces-returns-in_err-take_piece-2-clause-keeps
 check_pieces-returns-in_err-take_piece-2-clause-keeps g t c =
@@ -699,9 +789,9 @@ check_pieces-returns-then-not-branch-clause-runs g t c =
     let s = c.args.source.now in
     let i = c.pieces.invariant in
     let told = g.L.Library.told c.args.files.now in
-    let old = progress_of c.args.run.now in
-    let st = progress_of c.pieces.run in
-    let last = progress_of c.take_piece-in-pieces.new.run in
+    let old = point c.args.run.now c.args.observer.now c.args.paths.now in
+    let st = point c.pieces.run c.pieces.observer c.pieces.paths in
+    let last = point c.take_piece-in-pieces.new.run c.take_piece-in-pieces.new.observer c.take_piece-in-pieces.new.paths in
     let paths = c.take_piece-in-pieces.new.paths in
     let d = c.take_piece-in-pieces.new.collector in
     let left = c.pieces.left in
@@ -709,9 +799,9 @@ check_pieces-returns-then-not-branch-clause-runs g t c =
     let p = take n c.read.new.buf in
     let mid = g.L.Library.open_files c.pieces.files in
     let after = g.L.Library.open_files c.read.new.self in
-    left-open c.pieces_law.ensures told s old st last c.pieces.collector left n p (g.L.Library.open_files c.args.files.now) mid paths i.read (λ rest others e. piece-is n c.read.new.buf mid after rest others c.in-Bytes.ensures.reads e) (omega (arith, c.if-n-left.false))
-    (left-later told (g.L.Library.told c.read.new.self) (c.in-Bytes.ensures.same ∙ i.same) s st last c.pieces.collector p
-    (subst (λ (b : Bool). TakesPiece (g.L.Library.told c.read.new.self) s (Ok b) st last c.pieces.collector d p paths) c.if-not-branch.true c.in_ok-take_piece-2.ensures.takes)) c.here-then-not-branch.result
+    left-open g.O.Observer.tells c.pieces_law.ensures told s old st last c.pieces.collector left n p (g.L.Library.open_files c.args.files.now) mid i.read (λ rest others e. piece-is n c.read.new.buf mid after rest others c.in-Bytes.ensures.reads e) (omega (arith, c.if-n-left.false))
+    (left-later g.O.Observer.tells told (g.L.Library.told c.read.new.self) (c.in-Bytes.ensures.same ∙ i.same) s st last c.pieces.collector p
+    (subst (λ (b : Bool). TakesPiece g.O.Observer.tells (g.L.Library.told c.read.new.self) s (Ok b) st last c.pieces.collector d p) c.if-not-branch.true c.in_ok-take_piece-2.ensures.takes)) c.here-then-not-branch.result
 
 pub check_pieces-returns-then-not-branch-clause-keeps : goal.check_pieces-returns-then-not-branch-clause-keeps
 check_pieces-returns-then-not-branch-clause-keeps g t c =
@@ -735,9 +825,9 @@ check_pieces-pieces-preserved g t c =
     let s = c.args.source.now in
     let i = c.pieces.invariant in
     let told = g.L.Library.told c.args.files.now in
-    let old = progress_of c.args.run.now in
-    let st = progress_of c.pieces.run in
-    let last = progress_of c.take_piece-in-pieces.new.run in
+    let old = point c.args.run.now c.args.observer.now c.args.paths.now in
+    let st = point c.pieces.run c.pieces.observer c.pieces.paths in
+    let last = point c.take_piece-in-pieces.new.run c.take_piece-in-pieces.new.observer c.take_piece-in-pieces.new.paths in
     let paths = c.take_piece-in-pieces.new.paths in
     let d = c.take_piece-in-pieces.new.collector in
     let n = c.in-Bytes.n in
@@ -748,12 +838,12 @@ check_pieces-pieces-preserved g t c =
     let now_open = g.L.Library.open_files c.take_piece-in-pieces.new.files in
     let took = c.in_ok-take_piece-2.ensures in
     let same_files = c.in-Bytes.ensures.same ∙ i.same in
-    let taken : IsTaken told s st last c.pieces.collector d p = taken-later told (g.L.Library.told c.read.new.self) same_files s st last c.pieces.collector d p (subst (λ (b : Bool). TakesPiece (g.L.Library.told c.read.new.self) s (Ok b) st last c.pieces.collector d p c.take_piece-in-pieces.new.paths) c.if-not-branch.false took.takes) in
-    let read : IsRead told s old last d (c.pieces.left - n) before after = reads-piece told s old st last c.pieces.collector d c.pieces.left n c.read.new.buf p before mid after i.read c.in-Bytes.ensures.reads refl (omega (arith, c.if-n-left.false)) taken in
+    let taken : IsTaken g.O.Observer.tells told s st last c.pieces.collector d p = taken-later g.O.Observer.tells told (g.L.Library.told c.read.new.self) same_files s st last c.pieces.collector d p (subst (λ (b : Bool). TakesPiece g.O.Observer.tells (g.L.Library.told c.read.new.self) s (Ok b) st last c.pieces.collector d p) c.if-not-branch.false took.takes) in
+    let read : IsRead g.O.Observer.tells told s old last d (c.pieces.left - n) before after = reads-piece g.O.Observer.tells told s old st last c.pieces.collector d c.pieces.left n c.read.new.buf p before mid after i.read c.in-Bytes.ensures.reads refl (omega (arith, c.if-n-left.false)) taken in
     let stays : StaysOpen before now_open = subst (StaysOpen before) (sym took.stays.closed) (stays-read n c.read.new.buf before mid after i.read.bytes i.read.passes c.in-Bytes.ensures.reads) in
     let same = stays-length before now_open stays in
     record {
-      read = subst (λ (fs : List Rest). IsRead told s old last d (c.pieces.left - n) before fs) (sym took.stays.closed) read;
+      read = subst (λ (fs : List Rest). IsRead g.O.Observer.tells told s old last d (c.pieces.left - n) before fs) (sym took.stays.closed) read;
       ready = record {
         room = omega (arith, same, c.requires.ready.room);
         going = took.keeps.going;

@@ -3,8 +3,8 @@ use Rattle.eo_base.specs.Limits.{limits}
 use Rattle.eo_io.specs.Paths.{Extends}
 use Rattle.eo_sexp.specs.Collecting.{IsLive, here_of}
 use Rattle.eo_sexp.specs.Cutting.{IsWaiting}
-use Rattle.eo_run.specs.Opening.{IsReady, IsRead, LeadsIn, Told}
-use Rattle.eo_run.specs.Progress.{progress_of}
+use Rattle.eo_run.specs.Opening.{IsReady, IsRead, GoesOn, Told}
+use Rattle.eo_run.specs.Progress.{point}
 use Rattle.eo_run.specs.Reading.{LibraryStays, behind, at_end, count_of}
 use Rattle.eo_run.proofs.opening.+files.Given as goal
 
@@ -38,7 +38,7 @@ decreases-refer g l = 8 * l.source.now.opens + 2
 
 abbrev pub invariant-check_pieces-pieces : goal.invariant-check_pieces-pieces
 invariant-check_pieces-pieces g l = record {
-  read : IsRead (g.L.Library.told l.fn.files) l.source (progress_of l.fn.run) (progress_of l.run) l.collector l.left (g.L.Library.open_files l.fn.files) (g.L.Library.open_files l.files);
+  read : IsRead g.O.Observer.tells (g.L.Library.told l.fn.files) l.source (point l.fn.run l.fn.observer l.fn.paths) (point l.run l.observer l.paths) l.collector l.left (g.L.Library.open_files l.fn.files) (g.L.Library.open_files l.files);
   ready : IsReady (length (g.L.Library.open_files l.files)) l.source l.run l.paths;
   table : Extends l.fn.paths l.paths;
   same : g.L.Library.told l.files ≡ g.L.Library.told l.fn.files;
@@ -52,7 +52,7 @@ decreases-check_pieces-pieces g l = l.left
 
 abbrev pub invariant-take_piece-commands : goal.invariant-take_piece-commands
 invariant-take_piece-commands g l = record {
-  leads : Told (g.L.Library.told l.fn.files) (λ files. LeadsIn files l.source (progress_of l.fn.run) (progress_of l.run) (behind l.fn.collector l.piece) (behind l.collector l.rest));
+  leads : Told (g.L.Library.told l.fn.files) (λ files. GoesOn g.O.Observer.tells files l.source (point l.fn.run l.fn.observer l.fn.paths) (point l.run l.observer l.paths) (behind l.fn.collector l.piece) (behind l.collector l.rest));
   live : IsLive l.collector;
   waiting : IsWaiting limits l.collector;
   here : (here_of l.collector).offset + length l.rest ≤ (here_of l.fn.collector).offset + length l.piece;
@@ -68,7 +68,7 @@ decreases-take_piece-commands g l = count_of (behind l.collector l.rest false []
 
 abbrev pub invariant-check_rest-atoms : goal.invariant-check_rest-atoms
 invariant-check_rest-atoms g l = record {
-  leads : Told (g.L.Library.told l.fn.files) (λ files. LeadsIn files l.source (progress_of l.fn.run) (progress_of l.run) (at_end l.fn.collector) (at_end l.collector));
+  leads : Told (g.L.Library.told l.fn.files) (λ files. GoesOn g.O.Observer.tells files l.source (point l.fn.run l.fn.observer l.fn.paths) (point l.run l.observer l.paths) (at_end l.fn.collector) (at_end l.collector));
   live : IsLive l.collector;
   waiting : IsWaiting limits l.collector;
   ready : IsReady (length (g.L.Library.open_files l.files)) l.source l.run l.paths;

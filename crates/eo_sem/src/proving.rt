@@ -1,0 +1,101 @@
+//! Proofs that the assertions of a reference file have no model.
+ghost use Rattle.std.specs.Prelude.{◌≡◌, [], IfOk};
+ghost use Rattle.eo_run.specs.Reading.{LibraryStays};
+ghost use Rattle.eo_sem.specs.Proving.{prove_job};
+ghost use Rattle.eo_sem.specs.ProveAnswers.{AnswersProve, ValidRefutes, ProveHasCause, IsProveAnswer, end_by, end_at, refused_in};
+
+use crate::ProveEnd;
+use crate::laws::validity_law;
+use crate::watching::Watch;
+use eo_base::{Fault, FaultName, Place, Text, both};
+use eo_cpc::suite;
+use eo_io::{Library, Paths};
+use eo_run::{CheckEnd, CheckJob, Verdict, check_observed};
+use std::alloc::{AllocError, Global};
+
+/// Checks whether a proof shows, by rules that keep truth alone, that the assertions of a reference
+/// file have no model.
+///
+/// The check is that of a closed proof, after the commands of the suite, and without an include
+/// file: see [`check_observed`], whose verdicts stay unless it is `Correct`.
+///
+/// - `Valid`: the proof is correct, and each of its steps is by a rule of the suite that keeps truth by
+///   the truth tables of the connectives. Then no valuation makes all assertions true.
+/// - `Other`, `Refused` with `NotSemantic`, at the first byte of the first step by another rule: the
+///   proof is correct otherwise.
+/// - `Other`, with `Incomplete`, `Refused`, `ReadFault` or `OutOfMemory`: the verdict of the check.
+///
+/// No file of the library is open, before or after. The file of a refusal is one of the paths.
+pub fn prove_files<L: Library>(
+    alloc: Global,
+    reference: &Text,
+    proof: &Text,
+    files: &mut L,
+    paths: &mut Paths,
+) -> ProveEnd
+    requires none_open { L.open_files files.old ≡ [] }
+    ensures proves { AnswersProve (L.told files.old) reference.now proof.now paths.new result }
+    ensures sound { ValidRefutes (L.told files.old) reference.now proof.now result }
+    ensures cause { ProveHasCause result (L.told files.old) (L.faults files.old) (L.faults files.new) }
+    ensures kind { IsProveAnswer paths.new result }
+    ensures stays { LibraryStays L.told L.open_files L.faults files.old files.new }
+{
+    validity_law();
+    let Ok(job) = closed_job(alloc, reference, proof) else {
+        return ProveEnd::Other(Verdict::OutOfMemory);
+    };
+    let mut watch = Watch { other: None };
+    let end = check_observed(alloc, Some(suite()), &job, files, paths, &mut watch);
+    drop(job);
+    end_by(&end, watch.other, paths)
+}
+
+/// The check of a closed proof against a reference file. `Err` is out of memory.
+fn closed_job(alloc: Global, reference: &Text, proof: &Text) -> Result<CheckJob, AllocError>
+    ensures { IfOk result (λ job. job ≡ prove_job reference.now proof.now) }
+{
+    let reference = Text::new(alloc, reference.as_str())?;
+    let (proof, reference) = both(Text::new(alloc, proof.as_str()), reference)?;
+    Ok(CheckJob {
+        include: None,
+        reference: Some(reference),
+        proof,
+        closed: true,
+    })
+}
+
+/// What is returned for a check that ends so, with the place of the first step by a rule that does
+/// not keep truth, if there was one.
+fn end_by(end: &CheckEnd, other: Option<Place>, paths: &Paths) -> ProveEnd
+    ensures { result ≡ end_by paths.now end.now other }
+{
+    match end {
+        CheckEnd::Correct(_) => end_at(other, paths),
+        CheckEnd::Ended(verdict) => ProveEnd::Other(*verdict),
+    }
+}
+
+/// The same where the check is correct.
+fn end_at(other: Option<Place>, paths: &Paths) -> ProveEnd
+    ensures { result ≡ end_at paths.now other }
+{
+    match other {
+        None => ProveEnd::Valid,
+        Some(place) => ProveEnd::Other(refused_in(place, paths)),
+    }
+}
+
+/// The refusal of a step at this place. Its file is one of the paths: no other place is found, and
+/// what is returned of one stands for none.
+fn refused_in(place: Place, paths: &Paths) -> Verdict
+    ensures { result ≡ refused_in paths.now place }
+{
+    if place.file < paths.len() {
+        Verdict::Refused(Fault {
+            name: FaultName::NotSemantic,
+            place,
+        })
+    } else {
+        Verdict::OutOfMemory
+    }
+}

@@ -1,0 +1,9 @@
+pub mod Needed
+pub mod Needing
+pub mod Trim
+pub mod Correct
+pub mod Entries
+pub mod Keeping
+pub mod Recording
+pub mod Marking
+pub mod TrimAnswers

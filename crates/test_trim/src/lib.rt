@@ -1,0 +1,6 @@
+//! Tests of trimmed proofs (`eo_trim`), in a crate of their own: with them in its own crate the layer would be proved once
+//! more.
+#![tactic(auto)]
+
+#[cfg(test)]
+mod tests;
