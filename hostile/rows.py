@@ -49,6 +49,26 @@ REFUSED = {
         },
         (0, "correct\n"),
     ),
+    "a proof that is trimmed": (
+        ["trim", "--include=cpc.eo", "--reference=r.smt2", "p.eo"],
+        {
+            "r.smt2": lines("(declare-const p Bool)", "(assert p)", "(assert (not p))"),
+            "p.eo": lines(
+                "(assume @p1 p)", "(assume-push @h p)", "(step @x :rule refl :args (p))",
+                "(step-pop @y :rule scope :premises (@h))", "(assume @p2 (not p))",
+                "(step @p3 false :rule contra :premises (@p1 @p2))",
+            ),
+        },
+        (0, lines("(assume @p1 p)", "(assume @p2 (not p))", "(step @p3 false :rule contra :premises (@p1 @p2))")),
+    ),
+    "a proof by rules that keep truth": (
+        ["prove", "--reference=r.smt2", "p.eo"],
+        {
+            "r.smt2": lines("(declare-const p Bool)", "(assert p)", "(assert (not p))"),
+            "p.eo": lines("(assume @p1 p)", "(assume @p2 (not p))", "(step @p3 false :rule contra :premises (@p1 @p2))"),
+        },
+        (0, "valid\n"),
+    ),
     "files that include others": (
         LOAD,
         {
