@@ -1,5 +1,5 @@
 // Counts the allocations of a program that it is loaded before, and refuses one of them: the one whose
-// number stands in REFUSE, counted from 1. At the end it writes how many there were to the file that
+// number is in REFUSE, counted from 1. At the end it writes how many there were to the file that
 // COUNT names.
 #define _GNU_SOURCE
 #include <dlfcn.h>

@@ -1,4 +1,4 @@
-"""The rows that hostile/run tries: what is run, over which files, and what is due."""
+"""The rows that hostile/run tries: what is run, over which files, and what is expected."""
 import os
 import resource
 import subprocess
@@ -101,7 +101,7 @@ REFUSED = {
 
 
 def proof(*rows):
-    """A check of these lines, and the place behind them."""
+    """A check of these lines, and the place after them."""
     text = lines(*rows)
     return CHECK, {"r.smt2": FORMULAS, "p.eo": text}, f"p.eo:{len(rows) + 1}:{len(text)}\n"
 
@@ -173,7 +173,7 @@ def value(term, name="@s"):
 
 
 def lets(name, count):
-    """Lets of which each binds a name by what stands for the one before it."""
+    """Nested lets that each bind a name to the name before it."""
     opened = "".join(f"(let (({name(k + 1)} {name(k)})) " for k in range(count))
     return f"(let (({name(0)} q)) {opened}{name(count)}{')' * (count + 1)}"
 

@@ -1,1 +1,1 @@
-"""What brings proofs of solvers into Eunoia: terms that share, their text, and the steps of rules."""
+"""Translates proofs of solvers into Eunoia: terms that share parts, their text, and the steps of rules."""

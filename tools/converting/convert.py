@@ -108,7 +108,7 @@ class Converter:
             raise Refused("the proof does not end with false")
 
     def find_skolems(self, body):
-        """What the names stand for that the solver made."""
+        """What the names that the solver made mean."""
         for proof in self.walk(body):
             rule, conclusion, premises, _ = self.parts(proof)
             if rule in ("SKOLEM_INTRO", "THEORY_PREPROCESS") and self.terms.head(conclusion) == "=":
@@ -125,7 +125,7 @@ class Converter:
                     self.constants[index] = self.terms.app("@array_deq_diff", *self.terms.arguments(unequal))
 
     def find_witnesses(self, premise, conclusion):
-        """The names in `(not F')` that stand where the variables of `(not (forall xs F))` are."""
+        """The names in `(not F')` that are where `(not (forall xs F))` has its variables."""
         terms = self.terms
         if terms.head(premise) != "not" or terms.head(conclusion) != "not":
             return
@@ -247,7 +247,7 @@ class Converter:
         if rule == "ASSUME":
             if conclusion not in self.asserted:
                 raise Refused("an assumption of no scope")
-            # an `assume` stands outside every scope
+            # an `assume` is outside every scope
             name = self.writer.assume(conclusion)
             self.facts.setdefault(conclusion, []).insert(0, name)
             self.levels[0].append(conclusion)

@@ -1,4 +1,4 @@
-"""Brings terms as cvc5 prints them into the form of the signatures."""
+"""Translates terms as cvc5 prints them into the form of the signatures."""
 import re
 
 DECIMAL = re.compile(r"\d+\.0+$")
@@ -15,7 +15,7 @@ def negative(numeral):
 def normalizer(terms, constants):
     """A function from a term as it is read to the term as it is written.
 
-    `constants` gives what a name stands for, such as a skolem. Numbers are integers: `1.0` is 1,
+    `constants` gives what a name means, such as a skolem. Numbers are integers: `1.0` is 1,
     `(- 1)` is -1, and `(to_real t)` is t."""
     nodes = terms.nodes
     known = {}
@@ -53,7 +53,7 @@ def normalizer(terms, constants):
                     known[top] = known.get(value, value)
                     stack.pop()
                 else:
-                    stack.append(value)  # what a name stands for is brought into form itself
+                    stack.append(value)  # what a name means is brought into form itself
                 continue
             pending = [part for part in node if part not in known]
             if pending:

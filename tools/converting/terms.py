@@ -1,6 +1,6 @@
 """Terms that share their parts, and a reader of s-expressions that keeps what is shared.
 
-A term is a number. An atom's number stands for its text, and any other number for a tuple of numbers.
+A term is a number. An atom's number represents its text, and any other number a tuple of numbers.
 Equal terms have equal numbers, so a proof takes as much memory as it has different parts."""
 import re
 
@@ -90,10 +90,10 @@ def tokens(pieces):
 
 
 def read(terms, pieces):
-    """The terms of a text, one after another. `let` is read as what its names stand for.
+    """The terms of a text, one after another. `let` is read as what its names mean.
 
     Nothing here calls itself: a list is on a stack while it is open, however deep."""
-    bound = {}  # what each name that a `let` binds stands for, innermost last
+    bound = {}  # what each name that a `let` binds means, innermost last
     open_lists = []
     current = []
     let = terms.atom("let")
@@ -136,7 +136,7 @@ def is_bindings(current, open_lists, let):
 
 
 def is_binding(current, open_lists, let):
-    """Whether the list that ends is one binding of a `let`: a name and what it stands for."""
+    """Whether the list that ends is one binding of a `let`: a name and what it means."""
     if len(open_lists) < 2:
         return False
     outer = open_lists[-2]

@@ -96,7 +96,7 @@ class Writer:
         return "@p%d" % self.facts
 
     def assume(self, term):
-        """A fact that the reference file asserts. It stands outside every scope."""
+        """A fact that the reference file asserts. It is outside every scope."""
         name = self.name()
         self.out.write("(assume %s %s)\n" % (name, self.text(term)))
         return name

@@ -1,6 +1,6 @@
-//! The commands of `bench/reading/run` checked in plain Rust, over std's `HashMap`: an s-expression is
-//! a tree whose symbols are lent from the file, terms stand in a table in which each stands once, and
-//! facts in a map by name. It knows `assert`, `assume` and applications, and no other command or
+//! The commands of `bench/reading/run` checked in plain Rust, with std's `HashMap`: an s-expression is
+//! a tree whose symbols are borrowed from the file, each term is in a table once, and facts are in a
+//! map by name. It knows `assert`, `assume` and applications, and no other command or
 //! literal. Build it with `cargo build --release`, and run it with `plain REFERENCE PROOF`.
 use std::collections::{HashMap, HashSet};
 
