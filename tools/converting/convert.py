@@ -27,9 +27,9 @@ class Converter:
         self.asserted = set()
         self.conclusion_key = terms.atom(":conclusion")
         self.arguments_key = terms.atom(":args")
-        self.free = {}  # the assumptions of open scopes that each proof rests on
-        self.facts = {}  # the fact that a term is, innermost last
-        self.levels = [[]]  # the terms that became facts in each open scope
+        self.free = {}  # the assumptions of open scopes that a proof rests on, where there are any
+        self.facts = {}  # the name of the fact that a term is
+        self.levels = []  # of each open scope: the terms that became facts in it, with the facts that they were
         self.rules = Rules(self)
 
     # ---- the parts of a proof
@@ -46,26 +46,27 @@ class Converter:
 
     def walk(self, root):
         """All proofs below one, premises first."""
-        seen, stack = set(), [(root, False)]
+        seen, stack = bytearray(len(self.terms.nodes)), [(root, False)]
         while stack:
             proof, done = stack.pop()
             if done:
                 yield proof
-            elif proof not in seen:
-                seen.add(proof)
+            elif not seen[proof]:
+                seen[proof] = True
                 stack.append((proof, True))
-                stack += [(premise, False) for premise in reversed(self.parts(proof)[2])]
+                stack += [(premise, False) for premise in reversed(self.parts(proof)[2]) if not seen[premise]]
 
     # ---- facts
 
     def known(self, term):
         """The name of the fact that a term is, if it is one here."""
-        names = self.facts.get(term)
-        return names[-1] if names else None
+        return self.facts.get(term)
 
     def add(self, term, name):
-        self.facts.setdefault(term, []).append(name)
-        self.levels[-1].append(term)
+        """A fact is what a term is, until the scope is closed that is open now."""
+        if self.levels:
+            self.levels[-1].append((term, self.facts.get(term)))
+        self.facts[term] = name
         return name
 
     def step(self, rule, conclusion, premises=(), arguments=()):
@@ -167,12 +168,12 @@ class Converter:
                 formula = self.normal(conclusion)
                 free = nothing if formula in self.asserted else frozenset((formula,))
             else:
-                found = [self.free[premise] for premise in premises]
-                found = [one for one in found if one]
+                found = [self.free[premise] for premise in premises if premise in self.free]
                 free = nothing if not found else found[0] if len(set(found)) == 1 else frozenset().union(*found)
                 if rule == "SCOPE" and free:
                     free = free.difference(map(self.normal, arguments))
-            self.free[proof] = kept.setdefault(free, free)
+            if free:
+                self.free[proof] = kept.setdefault(free, free)
 
     def run(self, work):
         while work:
@@ -205,7 +206,7 @@ class Converter:
             rule, _, premises, _ = self.parts(proof)
             if rule == "ASSUME" or self.known(self.conclusion(proof)) is not None:
                 continue
-            if all(self.known(formula) is not None for formula in self.free[proof]):
+            if all(self.known(formula) is not None for formula in self.free.get(proof, ())):
                 found.append(proof)
             elif rule == "SCOPE":
                 stack += reversed(premises)
@@ -233,8 +234,11 @@ class Converter:
         inner = self.conclusion(premises[0])
         implied = self.terms.app("=>", self.together(list(map(self.normal, arguments))), inner)
         name = self.writer.pop("scope", implied, (self.fact(premises[0]),))
-        for term in self.levels.pop():
-            self.facts[term].pop()
+        for term, before in reversed(self.levels.pop()):
+            if before is None:
+                del self.facts[term]
+            else:
+                self.facts[term] = before
         self.add(implied, name)
         if conclusion != implied:
             self.step("process_scope", conclusion, (name,), (inner,))
@@ -247,10 +251,8 @@ class Converter:
         if rule == "ASSUME":
             if conclusion not in self.asserted:
                 raise Refused("an assumption of no scope")
-            # an `assume` is outside every scope
-            name = self.writer.assume(conclusion)
-            self.facts.setdefault(conclusion, []).insert(0, name)
-            self.levels[0].append(conclusion)
+            # an `assume` is outside every scope, and so is a fact after each of these
+            self.facts[conclusion] = self.writer.assume(conclusion)
         else:
             self.rules.write(proof)
             if self.known(conclusion) is None:

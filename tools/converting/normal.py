@@ -18,7 +18,7 @@ def normalizer(terms, constants):
     `constants` gives what a name means, such as a skolem. Numbers are integers: `1.0` is 1,
     `(- 1)` is -1, and `(to_real t)` is t."""
     nodes = terms.nodes
-    known = {}
+    known = []  # of each term: what is written for it, None where that is not known yet
 
     def leaf(term):
         text = nodes[term]
@@ -38,30 +38,30 @@ def normalizer(terms, constants):
         return terms.list(parts)
 
     def normal(term):
-        if term in known:
+        if term < len(known) and known[term] is not None:
             return known[term]
         stack = [term]
         while stack:
+            known.extend([None] * (len(nodes) - len(known)))
             top = stack[-1]
-            if top in known:
+            if known[top] is not None:
                 stack.pop()
                 continue
             node = nodes[top]
             if isinstance(node, str):
                 value = leaf(top)
-                if value == top or value in known:
-                    known[top] = known.get(value, value)
+                if value == top or value < len(known) and known[value] is not None:
+                    known[top] = value if value == top else known[value]
                     stack.pop()
                 else:
                     stack.append(value)  # what a name means is brought into form itself
                 continue
-            pending = [part for part in node if part not in known]
+            pending = [part for part in node if known[part] is None]
             if pending:
                 stack += pending
                 continue
-            known[top] = whole(tuple(known[part] for part in node))
+            known[top] = whole([known[part] for part in node])
             stack.pop()
         return known[term]
 
     return normal
-

@@ -3,16 +3,43 @@
 A term is a number. An atom's number represents its text, and any other number a tuple of numbers.
 Equal terms have equal numbers, so a proof takes as much memory as it has different parts."""
 import re
+from struct import Struct
+from sys import byteorder
 
 TOKEN = re.compile(r'[ \t\r\n]+|;[^\n\r]*|\(|\)|\|[^|]*\||"(?:[^"]|"")*"|[^ \t\r\n()|";]+')
 BLANK = " \t\r\n;"  # what begins a blank or a comment
+SIZE = 4  # the bytes that a number takes in a list
+
+
+class Packing(dict):
+    """How a list of so many numbers is packed into bytes."""
+
+    def __missing__(self, count):
+        self[count] = packing = Struct("=%dI" % count)
+        return packing
+
+
+PACKING = Packing()
+
+
+class Nodes(list):
+    """The text of each atom, and the parts of each other term, which are kept packed."""
+
+    def __getitem__(self, term):
+        node = list.__getitem__(self, term)
+        return node if isinstance(node, str) else PACKING[len(node) // SIZE].unpack(node)
+
+    def first(self, term):
+        """The first part; None of an atom or of the empty list."""
+        node = list.__getitem__(self, term)
+        return None if isinstance(node, str) or not node else int.from_bytes(node[:SIZE], byteorder)
 
 
 class Terms:
     """The table of all terms: `nodes[n]` is the text of the atom n, or the tuple of the parts of n."""
 
     def __init__(self):
-        self.nodes = []
+        self.nodes = Nodes()
         self.uses = bytearray()  # how often a term is a part of another, up to 2
         self.numbers = {}
 
@@ -26,13 +53,26 @@ class Terms:
 
     def list(self, parts):
         """The number of the list of these numbers."""
-        number = self.numbers.get(parts)
+        packed = PACKING[len(parts)].pack(*parts)
+        number = self.numbers.get(packed)
         if number is None:
-            number = self._number(parts)
-            for part in parts:
-                if self.uses[part] < 2:
-                    self.uses[part] += 1
+            number = self._number(packed)
+            self._use(parts)
         return number
+
+    def single(self, parts):
+        """A number for a list that no other has, even an equal one: that takes a third of the memory."""
+        number = len(self.nodes)
+        self.nodes.append(PACKING[len(parts)].pack(*parts))
+        self.uses.append(0)
+        self._use(parts)
+        return number
+
+    def _use(self, parts):
+        uses = self.uses
+        for part in parts:
+            if uses[part] < 2:
+                uses[part] += 1
 
     def _number(self, node):
         number = self.numbers.get(node)
@@ -48,11 +88,9 @@ class Terms:
 
     def head(self, term):
         """The text of the first part where that is an atom, else None."""
-        node = self.nodes[term]
-        if isinstance(node, str) or not node:
-            return None
-        first = self.nodes[node[0]]
-        return first if isinstance(first, str) else None
+        first = self.nodes.first(term)
+        text = None if first is None else self.nodes[first]
+        return text if isinstance(text, str) else None
 
     def arguments(self, term):
         """The parts after the first; of an atom none."""
@@ -92,11 +130,13 @@ def tokens(pieces):
 def read(terms, pieces):
     """The terms of a text, one after another. `let` is read as what its names mean.
 
-    Nothing here calls itself: a list is on a stack while it is open, however deep."""
-    bound = {}  # what each name that a `let` binds means, innermost last
+    A proof's steps, and their lists of arguments, are each a term of their own: what is shared of these the
+    text has under names. Nothing here calls itself: a list is on a stack while it is open, however deep."""
+    bound = {}  # what each name that a `let` binds means
     open_lists = []
     current = []
     let = terms.atom("let")
+    conclusion, arguments = terms.atom(":conclusion"), terms.atom(":args")
     for token in tokens(pieces):
         if token == "(":
             open_lists.append(current)
@@ -105,24 +145,28 @@ def read(terms, pieces):
             continue
         if token == ")":
             if len(current) == 3 and current[0] == let and isinstance(current[1], list):
-                for name, _ in current[1]:
-                    bound[name].pop()
+                for name, before in current[1]:
+                    if before is None:
+                        del bound[name]
+                    else:
+                        bound[name] = before
                 item = current[2]
             elif is_bindings(current, open_lists, let):
-                item = [(name, value) for name, value in current]
-                for name, value in item:
-                    bound.setdefault(name, []).append(value)
+                item = [(name, bound.get(name)) for name, _ in current]  # what the names meant before
+                bound.update(current)
             elif is_binding(current, open_lists, let):
                 item = (current[0], current[1])
+            elif len(current) > 1 and current[1] == conclusion or open_lists[-1] and open_lists[-1][-1] == arguments:
+                item = terms.single(current)
             else:
-                item = terms.list(tuple(current))
+                item = terms.list(current)
             current = open_lists.pop()
+        elif is_bound_name(current, open_lists, let):
+            item = token
         else:
-            item = terms.atom(token)
-            if not is_bound_name(current, open_lists, let):
-                values = bound.get(item)
-                if values:
-                    item = values[-1]
+            item = bound.get(token)
+            if item is None:
+                item = terms.atom(token)
         if not open_lists:
             yield item
         else:
