@@ -42,6 +42,14 @@ class Arithmetic:
             return reduce(multiply, map(self.polynomial, parts), {(): Fraction(1)})
         return {(term,): Fraction(1)}
 
+    def sum(self, polynomial):
+        """The term of a polynomial."""
+        app, items = self.terms.app, []
+        for monomial, value in sorted(polynomial.items()):
+            numeral = self.terms.atom(str(int(value)))
+            items.append(app("*", numeral, *monomial) if monomial else numeral)
+        return items[0] if len(items) == 1 else app("+", *items) if items else self.terms.atom("0")
+
     def same_polynomial(self, left, right):
         return self.polynomial(left) == self.polynomial(right)
 

@@ -116,6 +116,7 @@ class Converter:
                 for name, meaning in permutations(self.terms.arguments(conclusion), 2):
                     if self.is_unknown(name):
                         self.constants.setdefault(name, meaning)
+                self.find_quotient(*self.terms.arguments(conclusion))
             elif rule == "SKOLEMIZE":
                 self.find_witnesses(self.parts(premises[0])[1], conclusion)
             elif rule == "ARRAYS_EXT":
@@ -124,6 +125,17 @@ class Converter:
                 index = self.terms.arguments(read)[1]
                 if self.terms.is_atom(index):
                     self.constants[index] = self.terms.app("@array_deq_diff", *self.terms.arguments(unequal))
+
+    def find_quotient(self, remainder, difference):
+        """The name in `(= (mod x n) (- x (* n name)))` of `(div x n)`."""
+        terms = self.terms
+        if terms.head(remainder) == "mod" and terms.head(difference) == "-":
+            dividend, divisor = terms.arguments(remainder)
+            product = terms.arguments(difference)[-1]
+            if difference == terms.app("-", dividend, product) and terms.head(product) == "*":
+                name = terms.arguments(product)[-1]
+                if product == terms.app("*", divisor, name) and self.is_unknown(name):
+                    self.constants.setdefault(name, terms.app("div", dividend, divisor))
 
     def find_witnesses(self, premise, conclusion):
         """The names in `(not F')` that are where `(not (forall xs F))` has its variables."""
@@ -215,8 +227,10 @@ class Converter:
         return found
 
     def open(self, scope):
+        self.open_scope(list(map(self.normal, self.parts(scope)[3])))
+
+    def open_scope(self, formulas):
         """Opens one scope for all assumptions of a proof: several are one `and`, and its parts."""
-        formulas = list(map(self.normal, self.parts(scope)[3]))
         self.levels.append([])
         together = self.together(formulas)
         name = self.add(together, self.writer.push(together))
@@ -230,10 +244,12 @@ class Converter:
 
     def close(self, scope):
         _, conclusion, premises, arguments = self.parts(scope)
-        conclusion = self.normal(conclusion)
-        inner = self.conclusion(premises[0])
-        implied = self.terms.app("=>", self.together(list(map(self.normal, arguments))), inner)
-        name = self.writer.pop("scope", implied, (self.fact(premises[0]),))
+        self.close_scope(list(map(self.normal, arguments)), self.conclusion(premises[0]), self.normal(conclusion))
+
+    def close_scope(self, formulas, inner, conclusion):
+        """Closes the last scope, in which `inner` is a fact, with what it says outside."""
+        implied = self.terms.app("=>", self.together(formulas), inner)
+        name = self.writer.pop("scope", implied, (self.known(inner),))
         for term, before in reversed(self.levels.pop()):
             if before is None:
                 del self.facts[term]

@@ -16,7 +16,7 @@ def normalizer(terms, constants):
     """A function from a term as it is read to the term as it is written.
 
     `constants` gives what a name means, such as a skolem. Numbers are integers: `1.0` is 1,
-    `(- 1)` is -1, and `(to_real t)` is t."""
+    `(- 1)` is -1, `(- t)` is `(- 0 t)`, and `(to_real t)` is t."""
     nodes = terms.nodes
     known = []  # of each term: what is written for it, None where that is not known yet
 
@@ -35,6 +35,7 @@ def normalizer(terms, constants):
                 text = nodes[parts[1]]
                 if isinstance(text, str) and NUMERAL.match(text):
                     return terms.atom(negative(text))
+                return terms.app("-", "0", parts[1])  # ethos reads no minus of one argument
         return terms.list(parts)
 
     def normal(term):

@@ -3,6 +3,7 @@ from math import gcd
 
 from .arithmetic import Arithmetic
 from .booleans import Booleans
+from .bounds import refute
 from .clauses import Clauses
 from .rewrites import BINDERS, LISTS, Rewrites
 
@@ -45,6 +46,8 @@ class Rules:
             "ARITH_TRICHOTOMY": self.same,
             "ARRAYS_EXT": self.same,
             "EQ_RESOLVE": self.eq_resolve,
+            "ARITH_MULT_SIGN": self.sign,
+            "THEORY_LEMMA": self.lemma,
         }
 
     def needed(self, proof):
@@ -146,6 +149,61 @@ class Rules:
             count = len(self.terms.nodes[self.terms.arguments(premise)[0]])
             values = list(self.arguments(proof)[:count])
             converter.step("instantiate", converter.conclusion(proof), self.premises(proof), (values,))
+
+    def sign(self, proof):
+        """The sign of a product. cvc5 writes the sign of one factor as it is, the rule as a list of one."""
+        step, terms = self.converter.step, self.terms
+        conclusion = self.converter.conclusion(proof)
+        if terms.head(conclusion) != "=>":
+            return
+        signs, outcome = terms.arguments(conclusion)
+        product = terms.arguments(outcome)[0]
+        if terms.head(product) != "*":
+            return
+        together = signs if terms.head(signs) == "and" else terms.app("and", signs)
+        listed = terms.app("=>", together, outcome)
+        name = step("arith_mult_sign", listed, (), (together, product))
+        if listed != conclusion:
+            same = terms.app("=>", listed, conclusion)
+            step("modus_ponens", conclusion, (name, step("bool_taut", same, (), (same,))))
+
+    # ---- lemmas of integers
+
+    def lemma(self, proof):
+        """That some bounds of integers have no solution together, which cvc5 says without a reason."""
+        terms, converter = self.terms, self.converter
+        conclusion = converter.conclusion(proof)
+        if terms.head(conclusion) != "not":
+            return
+        together = terms.arguments(conclusion)[0]
+        literals = list(terms.arguments(together)) if terms.head(together) == "and" else [together]
+        never = refute(self.arithmetic, literals)
+        if never is not None:
+            converter.open_scope(literals)
+            for bound in never.below():
+                self.bound(bound)
+            converter.close_scope(literals, terms.atom("false"), conclusion)
+
+    def bound(self, bound):
+        """Writes a bound, whose parts are written, and gives it its fact."""
+        terms, step = self.terms, self.converter.step
+        bound.formula = terms.atom("false")
+        if bound.kind != "false":
+            bound.formula = terms.app(bound.kind, self.arithmetic.sum(bound.polynomial), "0")
+        said = bound.literal
+        if said is None:
+            # an upper bound each: what is at least 0 has a negative factor
+            numerals = [terms.atom(str(-factor)) for _, factor in bound.parts]
+            sides = [[terms.app("*", numeral, side) for numeral, (part, _) in zip(numerals, bound.parts)
+                      for side in terms.arguments(part.formula)[place:place + 1]] for place in (0, 1)]
+            said = terms.app("<=", terms.app("+", *sides[0]), terms.app("+", *sides[1]))
+            names = [part.name for part, _ in bound.parts]
+            bound.name = step("macro_arith_scale_sum_ub", said, names, (numerals,))
+        else:
+            bound.name = self.converter.known(said)
+        if said != bound.formula:
+            equal = terms.app("=", said, bound.formula)
+            bound.name = step("eq_resolve", bound.formula, (bound.name, step("arith_rel_norm", equal, (), (equal,))))
 
     # ---- sums of bounds with factors that are fractions
 
