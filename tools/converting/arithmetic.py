@@ -25,6 +25,18 @@ class Arithmetic:
                     return -values[0]
         return None
 
+    def value(self, term):
+        """The value of a quotient, a remainder or an absolute value of numerals, else None."""
+        head, values = self.terms.head(term), [self.number(part) for part in self.terms.arguments(term)]
+        if head not in ("div", "mod", "abs") or None in values or any(one.denominator != 1 for one in values):
+            return None
+        if head == "abs":
+            return abs(int(values[0]))
+        if len(values) != 2 or values[1] <= 0:
+            return None
+        quotient, remainder = divmod(int(values[0]), int(values[1]))
+        return quotient if head == "div" else remainder
+
     def polynomial(self, term):
         """The monomials of a term and their coefficients: a dictionary from sorted tuples of terms."""
         value = self.number(term)

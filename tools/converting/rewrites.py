@@ -107,14 +107,19 @@ class Rewrites:
             self.converter.step("arith_rel_norm", conclusion, (), (conclusion,))
         elif self.terms.head(left) in ("+", "-", "*") and arithmetic.same_polynomial(left, right):
             self.converter.step("arith_poly_norm", conclusion, (), (conclusion,))
+        elif arithmetic.value(left) is not None and arithmetic.value(left) == arithmetic.number(right):
+            self.converter.step("evaluate", conclusion, (), (left,))
         elif self.terms.head(left) in ("mod", "abs") and conclusion == self.reduction(left):
             self.converter.step("arith_reduction", conclusion, (), (left,))
         elif self.terms.head(left) == "=" and self.terms.head(right) == "and" and mine is not None:
             self.two_bounds(conclusion, left, right)
 
     def reduction(self, term):
-        """What `arith_reduction` concludes of a remainder or an absolute value."""
+        """What `arith_reduction` concludes of a quotient by a positive numeral, a remainder or an absolute value."""
         app, parts = self.terms.app, self.terms.arguments(term)
+        if self.terms.head(term) == "div":
+            below, above = app("*", parts[1], term), app("*", parts[1], app("+", term, "1"))
+            return app("and", app("<=", below, parts[0]), app("<", parts[0], above))
         if self.terms.head(term) == "mod":
             return app("=", term, app("-", parts[0], app("*", parts[1], app("div", *parts))))
         zero = self.terms.atom("0")
@@ -153,10 +158,24 @@ class Rewrites:
                 inner, written, value = self.terms.arguments(array)
                 if written == index and value == right:
                     self.converter.step("arrays_read_over_write_1", conclusion, (), (left,))
+                elif value == right and self.arithmetic.same_polynomial(written, index):
+                    self.read_where_written(conclusion, left, written)
                 elif right == self.terms.app("select", inner, index):
                     apart = self.apart(written, index)
                     if apart is not None:
                         self.converter.step("arrays_read_over_write", conclusion, (apart,), (left,))
+
+    def read_where_written(self, conclusion, left, written):
+        """A value is read with another term of the same index."""
+        app, step = self.terms.app, self.converter.step
+        array, index = self.terms.arguments(left)
+        other = app("select", array, written)
+        same = [self.equation(array, array), self.equation(index, written)]
+        if None not in same:
+            first = step("cong", app("=", left, other), same, (left,))
+            value = self.terms.arguments(conclusion)[1]
+            second = step("arrays_read_over_write_1", app("=", other, value), (), (other,))
+            step("trans", conclusion, (first, second))
 
     def apart(self, left, right):
         """The fact that two terms are not equal, where arithmetic says so."""

@@ -48,6 +48,7 @@ class Rules:
             "EQ_RESOLVE": self.eq_resolve,
             "ARITH_MULT_SIGN": self.sign,
             "THEORY_LEMMA": self.lemma,
+            "THEORY_PREPROCESS_LEMMA": self.quotient,
         }
 
     def needed(self, proof):
@@ -166,6 +167,15 @@ class Rules:
         if listed != conclusion:
             same = terms.app("=>", listed, conclusion)
             step("modus_ponens", conclusion, (name, step("bool_taut", same, (), (same,))))
+
+    def quotient(self, proof):
+        """What a quotient by a numeral is: `(and (<= (* n (div x n)) x) (< x (* n (+ (div x n) 1))))`."""
+        terms, conclusion = self.terms, self.converter.conclusion(proof)
+        if terms.head(conclusion) == "and":
+            product = terms.arguments(terms.arguments(conclusion)[0])[0]
+            last = terms.arguments(product)[-1:]
+            if last and terms.head(last[0]) == "div" and self.rewrites.reduction(last[0]) == conclusion:
+                self.converter.step("arith_reduction", conclusion, (), last)
 
     # ---- lemmas of integers
 

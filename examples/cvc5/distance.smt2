@@ -1,0 +1,7 @@
+(set-logic QF_LIA)
+(declare-const a Int)
+(declare-const b Int)
+(assert (> (abs (- a b)) 5))
+(assert (< (- a b) 3))
+(assert (> a (- b 3)))
+(check-sat)

@@ -1,0 +1,5 @@
+(set-logic QF_LIA)
+(declare-const n Int)
+(assert (= (mod n 4) 3))
+(assert (= (mod n 2) 0))
+(check-sat)
