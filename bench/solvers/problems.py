@@ -166,6 +166,25 @@ def schedules(scale):
         yield "bounds%d" % bound, script("QF_LIA", integers(["x", "y", "z"]), formulas)
 
 
+def remainders(scale):
+    """Equations, remainders and distances that no integers have."""
+    integers = lambda names: ["(declare-const %s Int)" % name for name in names]
+    for one, other in [(2, 3), (3, 5), (4, 7), (5, 7), (5, 8), (7, 9)][: 2 + scale]:
+        formulas = ["(>= x 0)", "(>= y 0)", "(= (+ (* %d x) (* %d y)) %d)" % (one, other, one * other - one - other)]
+        yield "coins%d_%d" % (one, other), script("QF_LIA", integers("xy"), formulas)
+    for number in range(2, 4 + 2 * scale):
+        formulas = ["(= (mod x %d) %d)" % (2 * number, 2 * number - 1), "(= (mod x 2) 0)"]
+        yield "remainder%d" % number, script("QF_LIA", integers("x"), formulas)
+        formulas = ["(= (div x %d) (div y %d))" % (number, number), "(= (mod x %d) (mod y %d))" % (number, number),
+                    "(distinct x y)"]
+        yield "quotient%d" % number, script("QF_LIA", integers("xy"), formulas)
+    for size in range(2, 4 + scale):
+        names = ["x%d" % i for i in range(size)]
+        formulas = ["(<= (abs (- %s %s)) 2)" % pair for pair in zip(names, names[1:])]
+        formulas.append("(> (abs (- %s %s)) %d)" % (names[0], names[-1], 2 * (size - 1)))
+        yield "distance%d" % size, script("QF_LIA", integers(names), formulas)
+
+
 def arrays(scale):
     """Values that are written and read again; swaps that undo each other."""
     sort = ["(declare-sort I 0)", "(declare-sort E 0)", "(declare-const a (Array I E))",
@@ -237,7 +256,7 @@ def large():
 
 
 LARGE = (270, 8, 5.2)  # variables, the seed, clauses for each variable
-FAMILIES = [pigeonholes, parity, adders, equalities, clauses, schedules, arrays]
+FAMILIES = [pigeonholes, parity, adders, equalities, clauses, schedules, remainders, arrays]
 
 
 def main():
