@@ -49,6 +49,7 @@ class Rules:
             "ARITH_MULT_SIGN": self.sign,
             "THEORY_LEMMA": self.lemma,
             "THEORY_PREPROCESS_LEMMA": self.quotient,
+            "TRUST_SUBS_EQ": self.consequence,
         }
 
     def needed(self, proof):
@@ -176,6 +177,16 @@ class Rules:
             last = terms.arguments(product)[-1:]
             if last and terms.head(last[0]) == "div" and self.rewrites.reduction(last[0]) == conclusion:
                 self.converter.step("arith_reduction", conclusion, (), last)
+
+    def consequence(self, proof):
+        """What follows from one premise by truth tables."""
+        converter, conclusion = self.converter, self.converter.conclusion(proof)
+        premises = converter.parts(proof)[2]
+        if len(premises) == 1:
+            implied = self.terms.app("=>", converter.conclusion(premises[0]), conclusion)
+            if self.booleans.is_tautology(implied):
+                name = converter.step("bool_taut", implied, (), (implied,))
+                converter.step("modus_ponens", conclusion, (converter.fact(premises[0]), name))
 
     # ---- lemmas of integers
 
