@@ -244,7 +244,7 @@ def dimacs(scale):
 
 
 def large():
-    """Random clauses whose proof has 40 MB."""
+    """Random clauses whose proof has 120 MB."""
     generator = random.Random(LARGE[1])
     names = ["v%d" % i for i in range(LARGE[0])]
     formulas = []
@@ -255,7 +255,7 @@ def large():
     yield "large", script("QF_UF", booleans(names), formulas)
 
 
-LARGE = (270, 8, 5.2)  # variables, the seed, clauses for each variable
+LARGE = (290, 8, 5.2)  # variables, the seed, clauses for each variable
 FAMILIES = [pigeonholes, parity, adders, equalities, clauses, schedules, remainders, arrays]
 
 
