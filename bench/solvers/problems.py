@@ -201,7 +201,7 @@ def arrays(scale):
             "QF_AX", sort + constants, apart + ["(not (= (select %s i0) e0))" % written])
     swap = lambda array, i, j: "(store (store %s %s (select %s %s)) %s (select %s %s))" % (
         array, i, array, j, j, array, i)
-    for size in range(1, 2 + scale):
+    for size in range(1, min(2 + scale, 5)):  # cvc5 takes minutes and gigabytes for five
         names = ["i%d" % k for k in range(2 * size)]
         constants = ["(declare-const %s I)" % name for name in names + ["k"]]
         swapped = "a"

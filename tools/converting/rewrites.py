@@ -42,6 +42,8 @@ class Rewrites:
             step("eq_refl", conclusion, (), parts[:1])
         elif head == "not" and self.terms.head(parts[0]) == "not" and self.terms.arguments(parts[0]) == (right,):
             step("bool_double_not_elim", conclusion, (), (right,))
+        elif head == "=>" and len(parts) == 2 and nodes[parts[1]] == "false" and right == self.terms.app("not", parts[0]):
+            step("bool_impl_false1", conclusion, (), parts[:1])
         elif head == "distinct" and len(parts) == 2 and self.terms.head(right) == "not":
             if self.terms.arguments(others[0]) == parts:
                 step("distinct_elim", conclusion, (), (left,))
