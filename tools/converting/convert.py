@@ -22,9 +22,10 @@ class Converter:
         self.declared = declared
         self.constants = {}
         self.normal = normalizer(terms, self.constants)
+        self.as_asserted = normalizer(terms, self.constants, keeps_minus=True)
         self.writer = Writer(terms, out, lambda atom: atom)
         self.trusted = Counter()
-        self.asserted = set()
+        self.asserted = {}  # of each assertion in the form of the steps: as the problem has it
         self.conclusion_key = terms.atom(":conclusion")
         self.arguments_key = terms.atom(":args")
         self.free = {}  # the assumptions of open scopes that a proof rests on, where there are any
@@ -98,7 +99,7 @@ class Converter:
     def convert(self, root):
         rule, _, premises, arguments = self.parts(root)
         if rule == "SCOPE":
-            self.asserted = set(map(self.normal, arguments))
+            self.asserted = {self.normal(formula): self.as_asserted(formula) for formula in arguments}
             body = premises[0]
         else:
             body = root
@@ -259,6 +260,13 @@ class Converter:
         if conclusion != implied:
             self.step("process_scope", conclusion, (name,), (inner,))
 
+    def assume(self, asserted, conclusion):
+        """A fact of what is asserted, without a minus of one argument."""
+        name = self.writer.assume(asserted)
+        if asserted == conclusion:
+            return name
+        return self.writer.step("minus_elim", conclusion, (name,))
+
     def emit(self, proof):
         conclusion = self.conclusion(proof)
         if self.known(conclusion) is not None:
@@ -268,7 +276,7 @@ class Converter:
             if conclusion not in self.asserted:
                 raise Refused("an assumption of no scope")
             # an `assume` is outside every scope, and so is a fact after each of these
-            self.facts[conclusion] = self.writer.assume(conclusion)
+            self.facts[conclusion] = self.assume(self.asserted[conclusion], conclusion)
         else:
             self.rules.write(proof)
             if self.known(conclusion) is None:

@@ -12,11 +12,12 @@ def negative(numeral):
     return numeral[1:] if numeral.startswith("-") else "-" + numeral
 
 
-def normalizer(terms, constants):
+def normalizer(terms, constants, keeps_minus=False):
     """A function from a term as it is read to the term as it is written.
 
     `constants` gives what a name means, such as a skolem. Numbers are integers: `1.0` is 1,
-    `(- 1)` is -1, `(- t)` is `(- 0 t)`, and `(to_real t)` is t."""
+    and `(to_real t)` is t. `(- 1)` is -1 and `(- t)` is `(- 0 t)`, unless a minus of one argument
+    stays, as in what the problem asserts."""
     nodes = terms.nodes
     known = []  # of each term: what is written for it, None where that is not known yet
 
@@ -31,11 +32,11 @@ def normalizer(terms, constants):
         if len(parts) == 2:
             if first == "to_real":
                 return parts[1]
-            if first == "-":
+            if first == "-" and not keeps_minus:
                 text = nodes[parts[1]]
                 if isinstance(text, str) and NUMERAL.match(text):
                     return terms.atom(negative(text))
-                return terms.app("-", "0", parts[1])  # ethos reads no minus of one argument
+                return terms.app("-", "0", parts[1])
         return terms.list(parts)
 
     def normal(term):

@@ -12,7 +12,7 @@ ghost use Rattle.eo_sig.specs.Growth.{GrowsUnder};
 ghost use Rattle.eo_sig.specs.declared.records.ProgramDecl.{ProgramDecl};
 ghost use Rattle.eo_sig.specs.Reading.{CaseBelow, IsBelow, ProgramBelow};
 
-use eo_base::{Name, both};
+use eo_base::{Name, ok_with};
 use eo_eval::{Evaluator, Outcome};
 use eo_sig::{Case, Cases, Params, ProgramDecl, Signature};
 use eo_term::{BOOL, Id, Ids, Node, OpCode, OpName, TRUE, Table, TermRefused};
@@ -51,19 +51,19 @@ impl World {
 
     fn first(alloc: Global) -> Result<World, AllocError> {
         let table = Table::new(alloc)?;
-        let (sig, table) = both(Signature::new(alloc), table)?;
+        let (sig, table) = ok_with(Signature::new(alloc), table)?;
         Ok(World { alloc, table, sig })
     }
 
     fn num(&mut self, number: i128) -> Option<Id> {
-        made(&self.sig, &mut self.table, Node::Num(number)).ok()
+        make_term(&self.sig, &mut self.table, Node::Num(number)).ok()
     }
 
     fn par(&mut self, number: u8) -> Option<Id> {
         if number >= 64 {
             return None;
         }
-        made(&self.sig, &mut self.table, Node::Par(number)).ok()
+        make_term(&self.sig, &mut self.table, Node::Par(number)).ok()
     }
 
     fn op(&mut self, op: OpName, args: &[Id]) -> Option<Id> {
@@ -80,7 +80,7 @@ impl World {
         made_op(&self.sig, &mut self.table, OpCode::Prog(program), args).ok()
     }
 
-    /// Adds a program with one case, and answers its number.
+    /// Adds a program with one case, and returns its number.
     fn program(&mut self, name: &[u8], patterns: &[Id], body: Id) -> Option<usize> {
         if !self.sig.is_free(name) {
             return None;
@@ -121,7 +121,7 @@ fn are_live(table: &Table, ids: &[Id]) -> bool
 }
 
 // The term with this root.
-fn made(sig: &Signature, table: &mut Table, node: Node) -> Result<Id, TermRefused>
+fn make_term(sig: &Signature, table: &mut Table, node: Node) -> Result<Id, TermRefused>
     requires plain { IsPlain node }
     requires parts { PartsBelow (length table.old.trees) node }
     requires texts { TextsBelow (length table.old.texts) node }
@@ -233,7 +233,7 @@ fn calls_on_halves(w: &mut World, a: Id, b: Id) -> Option<Id> {
 /// `w` on n, that and a call that was begun in it, and that and one that was not.
 fn terms(w: &mut World, n: usize) -> Option<[Id; 3]> {
     let whole = whole_on(w, n as i128)?;
-    let begun = begun(w)?;
+    let begun = begin_call(w)?;
     let other = whole_on(w, 1)?;
     let again = w.op(OpName::And, &[whole, begun])?;
     let more = w.op(OpName::And, &[whole, other])?;
@@ -247,7 +247,7 @@ fn whole_on(w: &mut World, number: i128) -> Option<Id> {
 }
 
 // `c` on 0 and 1.
-fn begun(w: &mut World) -> Option<Id> {
+fn begin_call(w: &mut World) -> Option<Id> {
     let zero = w.num(0)?;
     let one = w.num(1)?;
     w.call(0, &[zero, one])
@@ -293,7 +293,7 @@ fn time_all(rt: &HostRuntime, w: &mut World, n: usize, timed: bool) -> io::Resul
 }
 
 /// The number that is asked for, if one is.
-fn asked(rt: &HostRuntime) -> io::Result<Option<usize>> {
+fn requested_number(rt: &HostRuntime) -> io::Result<Option<usize>> {
     let mut words = env::args(rt)?;
     let _program = words.next();
     Ok(
@@ -304,7 +304,7 @@ fn asked(rt: &HostRuntime) -> io::Result<Option<usize>> {
 }
 
 fn main(rt: HostRuntime) -> io::Result<()> {
-    let asked = asked(&rt)?;
+    let asked = requested_number(&rt)?;
     let Some(mut w) = World::new(rt.alloc()) else {
         return Ok(());
     };

@@ -44,7 +44,7 @@ fn make_leaves(table: &mut Table) -> Result<[Id; LEAVES], TermRefused>
     Ok(leaves)
 }
 
-/// Makes `count` terms over the leaves, no two of them the same, and answers how many are new.
+/// Makes `count` terms over the leaves, no two of them the same, and returns how many are new.
 fn pass(table: &mut Table, leaves: &[Id], count: usize) -> Result<usize, TermRefused>
     requires long { length leaves.now ≡ LEAVES }
     requires live { All (λ j. j < length table.old.trees) leaves.now }
@@ -135,7 +135,7 @@ fn time_all(rt: &HostRuntime, table: &mut Table, asked: Option<usize>) -> io::Re
 }
 
 /// How many terms the command line asks for.
-fn asked(rt: &HostRuntime) -> io::Result<Option<usize>> {
+fn requested_number(rt: &HostRuntime) -> io::Result<Option<usize>> {
     let mut words = env::args(rt)?;
     drop(words.next());
     let count = number_of(words.next());
@@ -151,7 +151,7 @@ fn number_of(word: Option<String>) -> Option<usize> {
 }
 
 fn main(rt: HostRuntime) -> io::Result<()> {
-    let asked = asked(&rt)?;
+    let asked = requested_number(&rt)?;
     let Ok(mut table) = Table::new(rt.alloc()) else {
         return Ok(());
     };

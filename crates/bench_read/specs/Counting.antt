@@ -13,7 +13,7 @@ count (Then first others) = 1 + count others
 count (Ends at) = 0
 count (Fails name at) = 0
 
--- a text of commands that stand in no wrappings of a proof
+-- a text of commands without the wrappings of a proof
 abbrev pub commands_of : List ℕ → ℕ
 commands_of text = count (reads limits false text)
 
@@ -21,7 +21,7 @@ commands_of text = count (reads limits false text)
 abbrev pub commands_behind : Collecting → List ℕ → ℕ
 commands_behind c rest = count (rest_of limits true c rest)
 
--- The collector goes on where so many bytes of `rest` are left behind, and so many commands were whole.
+-- The collector goes on after so many bytes of `rest` were taken, and so many commands were whole.
 pub record GoesOn (old new : Collecting) (rest : List ℕ) (taken commands : ℕ) : Type 0 where
   pub within : taken ≤ length rest
   pub counts : commands_behind old rest ≡ commands + commands_behind new (drop taken rest)

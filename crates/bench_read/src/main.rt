@@ -11,7 +11,7 @@ ghost use Rattle.eo_sexp.specs.Collecting.{IsLive, HasRoom};
 ghost use Rattle.eo_sexp.specs.Cutting.{IsWaiting};
 ghost use Rattle.bench_read.specs.Counting.{commands_of, commands_behind, Gives};
 
-use eo_base::both;
+use eo_base::ok_with;
 use eo_sexp::{Collector, Fed, Finished, answers_law, pieces_law};
 use std::alloc::{AllocError, Global};
 use std::time::Instant;
@@ -24,7 +24,7 @@ const PIECE: usize = 65_536;
 const LONGEST: usize = 1_000_000_000;
 
 /// A text that repeats `part` between `head` and `tail`, of about `size` bytes.
-fn repeated(
+fn repeat_part(
     alloc: Global,
     head: &[u8],
     part: &[u8],
@@ -34,7 +34,7 @@ fn repeated(
     requires { 0 < length part.now }
 {
     let mut text = Vec::new(alloc);
-    let ((), text) = both(write_to(&mut text, head, part, tail, size), text)?;
+    let ((), text) = ok_with(write_to(&mut text, head, part, tail, size), text)?;
     Ok(text)
 }
 
@@ -89,7 +89,7 @@ fn feed_piece(collector: &mut Collector, rest: &[u8]) -> Result<Given, AllocErro
     }
 }
 
-/// Ends a text, and answers how many commands the end makes whole.
+/// Ends a text, and returns how many commands the end makes whole.
 fn count_last(collector: &mut Collector) -> u64
     requires live { IsLive collector.old }
     requires waiting { IsWaiting limits collector.old }
@@ -108,7 +108,7 @@ fn count_last(collector: &mut Collector) -> u64
     }
 }
 
-/// How many commands the text has behind what the collector was fed, before its end or its first
+/// How many commands the text has after what the collector was fed, before its end or its first
 /// fault.
 fn count(collector: &mut Collector, text: &[u8]) -> Result<u64, AllocError>
     requires live { IsLive collector.old }
@@ -146,7 +146,7 @@ fn read(alloc: Global, text: &[u8]) -> Result<u64, AllocError>
 /// A text of `size` bytes of this kind.
 fn text_of(alloc: Global, kind: usize, size: usize) -> Result<Vec<u8>, AllocError> {
     match kind {
-        0 => repeated(
+        0 => repeat_part(
             alloc,
             b"(assume @p1 (",
             b"(a true |b c| a true |b c| a true |b c| a true |b c| a true |b c| \
@@ -156,8 +156,8 @@ fn text_of(alloc: Global, kind: usize, size: usize) -> Result<Vec<u8>, AllocErro
             b"))\n",
             if size < 16_000_000 { size } else { 16_000_000 },
         ),
-        1 => repeated(alloc, b"", b"(assume @p000012345 true)\n", b"", size),
-        2 => repeated(
+        1 => repeat_part(alloc, b"", b"(assume @p000012345 true)\n", b"", size),
+        2 => repeat_part(
             alloc,
             b"",
             b"(step @p12345 :rule chain_m_resolution :premises (@p123 @p456 @p789) \
@@ -165,14 +165,14 @@ fn text_of(alloc: Global, kind: usize, size: usize) -> Result<Vec<u8>, AllocErro
             b"",
             size,
         ),
-        3 => repeated(
+        3 => repeat_part(
             alloc,
             b"",
             b"(define\n  f\n  (\n    (x Int)\n    (y Int)\n  )\n  (\n    and\n    (> x 0)\n    (= x\n      y\n    )\n  )\n)\n",
             b"",
             size,
         ),
-        _ => repeated(
+        _ => repeat_part(
             alloc,
             b"",
             b"; a comment on the next command, of some length, as they stand in files that people write\n\
@@ -245,7 +245,7 @@ fn time_all(rt: &HostRuntime, asked: Option<usize>, only: Option<&str>) -> io::R
 }
 
 /// What the command line asks for: how many MiB of each kind, and the only kind.
-fn asked(rt: &HostRuntime) -> io::Result<(Option<usize>, Option<String>)> {
+fn requested_sizes(rt: &HostRuntime) -> io::Result<(Option<usize>, Option<String>)> {
     let mut words = env::args(rt)?;
     let asked = read_words(&mut words);
     drop(words);
@@ -266,7 +266,7 @@ fn number_of(word: Option<String>) -> Option<usize> {
 }
 
 fn main(rt: HostRuntime) -> io::Result<()> {
-    let (size, only) = asked(&rt)?;
+    let (size, only) = requested_sizes(&rt)?;
     let timed = time_all(&rt, size, only.as_deref());
     drop(only);
     timed

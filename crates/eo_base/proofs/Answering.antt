@@ -1,4 +1,4 @@
--- What calls answer at the exits of a `?`, and what a refusal tells of a whole where it tells it of a part.
+-- What calls return at the exits of a `?`, and what a refusal says of a whole where it says it of a part.
 use Rattle.std.proofs.Common.{◌≡◌, Option, None, Some, sym, subst, ap, ◌∙◌}
 use Rattle.std.specs.Prelude.{Result, Ok, Err, IfOk, IfSome}
 use Rattle.std.specs.Result.{IsErrAnd}
@@ -14,7 +14,7 @@ tells_on told e o p step h = by (told e) h
     by None h = h
     by (Some f) h = step f h
 
--- the exit of a `?` tells the same fault
+-- the exit of a `?` has the same fault
 pub gives_fault : {A B E : Type 0} (told : E → Option FaultName) (There : A → Type 0) (read : A → B) (r : Result A E) (o : Checked B) (e : E) → IsErrAnd r (λ x. x ≡ e) → Tells told e o → Gives told There read r o
 gives_fault told There read (Ok a) o e q h = absurd q
 gives_fault told There read (Err x) o e q h = subst (λ y. Tells told y o) (sym q) h
@@ -22,7 +22,7 @@ gives_fault told There read (Err x) o e q h = subst (λ y. Tells told y o) (sym 
 pub fails : {A B C E : Type 0} (told : E → Option FaultName) (There : A → Type 0) (read : A → B) (r : Result A E) (o : Checked B) (e : E) (p : Checked C) → IsErrAnd r (λ x. x ≡ e) → ((f : FaultName) → p ≡ Err f → o ≡ Err f) → Tells told e p → Gives told There read r o
 fails told There read r o e p q step h = gives_fault told There read r o e q (tells_on told e o p step h)
 
--- what keeps every fault keeps what a refusal tells
+-- what keeps every fault keeps what a refusal says
 pub tells_through : {A B E : Type 0} (told : E → Option FaultName) (f : Checked A → Checked B) → ((x : FaultName) → f (Err x) ≡ Err x) → (e : E) (o : Checked A) → Tells told e o → Tells told e (f o)
 tells_through told f h e o = by (told e)
   where

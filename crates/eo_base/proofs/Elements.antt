@@ -5,7 +5,7 @@ use Rattle.std.proofs.lemmas.Option.{none-some, same_Some}
 use Rattle.std.proofs.lemmas.List.{map-append}
 use Rattle.std.proofs.lemmas.List.Elements.{All-nil, All-cons, All-head, All-tail, All-push, All-weaker, Contains-append_right, Contains-append_cases}
 
--- what stands at a place stands there still when more comes at the end
+-- what is at a place is there still when more comes at the end
 pub slice_get_left : {X : Type 0} (xs ys : List X) (i : ℕ) (x : X) → slice_get xs i ≡ Some x → slice_get (xs ++ ys) i ≡ Some x
 slice_get_left [] ys i x p = absurd (none-some x p)
 slice_get_left (z ∷ zs) ys zero x p = p

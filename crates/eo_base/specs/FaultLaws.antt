@@ -1,4 +1,4 @@
--- What tells faults apart.
+-- What makes faults different.
 use Rattle.std.specs.Prelude.{◌≡◌}
 use Rattle.eo_base.specs.declared.FaultName.{FaultName}
 use Rattle.eo_base.specs.Faults.{number}

@@ -1,5 +1,5 @@
-//! What every layer speaks of: faults with their places, the program's status, limits, and the
-//! lists of bytes and characters that one layer hands to the next.
+//! What every layer uses: faults with their places, the program's status, limits, and the lists of
+//! bytes and characters that one layer passes to the next.
 #![tactic(auto)]
 
 ghost use Rattle.std.specs.Prelude.{◌≡◌};
@@ -15,7 +15,7 @@ mod results;
 
 pub use lists::{Chars, List, Text};
 pub use names::{Name, NameRef};
-pub use results::both;
+pub use results::ok_with;
 
 /// Each fault that a file can have, in the order of their numbers from 1.
 #[derive(Clone, Copy, Debug, PartialEq, Eq)]
@@ -38,7 +38,7 @@ pub enum FaultName {
     Width,
     /// A path that is no UTF-8, that has no part left, or that is too long.
     BadPath,
-    /// A command that is not known where it stands.
+    /// A command that is unknown in this kind of file.
     UnknownCommand,
     /// A command of a wrong shape.
     BadCommand,
@@ -62,7 +62,7 @@ pub enum FaultName {
     EvalCalls,
     /// A parameter that no match can give a value.
     UnboundParam,
-    /// A pattern, a declared type or a terminator that holds what it may not.
+    /// A pattern, a declared type or a terminator with a part that is not allowed there.
     BadPattern,
     /// A rule that nothing declares.
     UnknownRule,
@@ -80,7 +80,7 @@ pub enum FaultName {
     NoReference,
     /// A second reference file.
     SecondReference,
-    /// A command that may not stand in a scope.
+    /// A command that is not allowed in a scope.
     InScope,
     /// The end of a scope where none is open.
     NoScope,
@@ -110,7 +110,7 @@ pub enum FaultName {
     BadCertificate,
     /// A certificate that does not reach `false`.
     NoFalse,
-    /// A step by a rule that is not known to keep truth.
+    /// A step by a rule that is not known to preserve truth.
     NotSemantic,
 }
 
@@ -185,7 +185,7 @@ pub fn faults_law()
     ensures texts { HaveOwnTexts }
 {}
 
-/// Where a fault stands.
+/// Where a fault is.
 #[derive(Clone, Copy, Debug, PartialEq, Eq)]
 pub struct Place {
     /// The file's number in the table of paths.

@@ -1,4 +1,4 @@
-//! The greatest sizes that are accepted. The greatest height of a term stands with the terms.
+//! The greatest sizes that are accepted. The greatest height of a term is with the terms.
 
 /// Lists that are open at one place, a proof's outer pair not counted.
 pub const NESTING: usize = 100_000;

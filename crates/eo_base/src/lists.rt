@@ -1,4 +1,4 @@
-//! Lists of bytes, of characters and of anything.
+//! Lists of bytes, of characters and of any items.
 ghost use Rattle.std.specs.Prelude.{◌≡◌, [], ◌∷◌, ◌++◌, IfOk, OnOk, OnErr};
 ghost use Rattle.std.specs.Str.{IsUtf8};
 ghost use Rattle.eo_base.specs.Characters.{AreCharacters};
@@ -81,7 +81,7 @@ impl Chars {
     }
 }
 
-/// A list of any things.
+/// A list of any items.
 #[derive(Debug, Drop)]
 pub struct List<T> {
     items: Vec<T>,

@@ -10,7 +10,7 @@ use std::marker::Model;
 /// The bytes of a name that are kept without an allocation.
 const INLINE: usize = 16;
 
-/// A list of any bytes. As a key it is hashed by one write of its bytes. Up to 16 bytes stand in the
+/// A list of any bytes. As a key it is hashed by one write of its bytes. Up to 16 bytes are in the
 /// value itself.
 #[derive(Debug, Drop)]
 pub struct Name {
@@ -76,7 +76,7 @@ impl Hash for Name {
     }
 }
 
-/// The bytes of a name, lent: what a table with names as keys is asked by.
+/// The bytes of a name, lent: the key by which a table of names is asked.
 #[derive(Clone, Copy, Debug)]
 pub struct NameRef<'a>(pub &'a [u8]);
 

@@ -13,13 +13,13 @@ use Rattle.eo_term.proofs.Equality.{tree_decides}
 use Rattle.eo_sig.specs.Signature.{Program, Case, program_at}
 use Rattle.eo_pattern.specs.Matching.{Assignment, empty, put, matching}
 use Rattle.eo_stack.specs.Evaluation.{Call, first_match}
-use Rattle.eo_cert.specs.Lines.{EvaluationLine, CallLine, Pairs}
+use Rattle.eo_lines.specs.Lines.{EvaluationLine, CallLine, Pairs}
 use Rattle.eo_cert.specs.Stated.{Evaluated, Stated, signature, each, if_there, when, term_at, evaluated_at, with_evaluated}
 use Rattle.eo_cert.specs.Rules.{By, rule, parts, deepest}
 use Rattle.eo_cert.specs.Assignments.{Given, assigned, given, matches_by}
 use Rattle.eo_cert.specs.Blocks.{same_outcome, by_all, said, evaluation_line, called, begun_call, ended, call_ends, with_new, with_call, call_line}
 use Rattle.eo_cert.specs.Traces.{evaluated}
-use Rattle.eo_cert.specs.Accepting.{NamesEvaluation, AcceptsEvaluation, IsCall, AcceptsCall, EndsUntaken, Taken, EndsTaken}
+use Rattle.eo_cert.specs.Accepting.{AcceptsEvaluation, AcceptsCall, EndsUntaken, Taken, EndsTaken}
 use Rattle.eo_cert.proofs.InstanceFits.{outcome_same}
 use Rattle.eo_cert.proofs.Pairs.{pairs_match}
 

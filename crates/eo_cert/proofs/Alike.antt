@@ -11,11 +11,11 @@ use Rattle.eo_type.specs.Types.{chosen}
 use Rattle.eo_stack.specs.Evaluation.{Outcome, Value, Stuck, Deep, Calls, Range, Tall, are_equal, operator_value}
 use Rattle.eo_cert.specs.Stated.{Evaluated}
 use Rattle.eo_cert.specs.Rules.{By, gives, is_stuck, no_rule, on_value, or_none, node, outcome, next, part, parts, rule}
-use Rattle.eo_cert.specs.Traces.{IsIn, AreIn, IsOne}
+use Rattle.eo_cert.specs.Traces.{AreIn, IsOne}
 
 -- one evaluation of a tree
 
--- the same is given by the same evaluations, which stand at the front of both lists
+-- the same is given by the same evaluations, which are at the front of both lists
 pub record Same {A : Type 0} (o u : Option A) (l m r s : List Evaluated) : Type 0 where
   pub outcome : o ≡ u
   pub used : List Evaluated

@@ -11,11 +11,11 @@ use Rattle.eo_lit.specs.declared.LiteralClass.{LiteralClass}
 use Rattle.eo_names.specs.Contexts.{InReference, InAssert}
 use Rattle.eo_session.specs.Origin.{Origin}
 use Rattle.eo_session.specs.State.{State, context, context_in, with_entry, with_macro, with_assertion, is_asserted}
-use Rattle.eo_session.specs.Step.{setting_of, is_in_proof, evaluated, formula_of, type_value, repeats_constant, added_constant, typed_constant, checked_constant, checked_literals, repeats_macro, added_macro, define, define_fun, define_sort, may_declare, define_program, declare_rule, with_labels, assert}
+use Rattle.eo_session.specs.Step.{file_kind_of, is_in_proof, evaluated, formula_of, type_value, repeats_constant, named_apart, apart_constant, added_constant, typed_constant, checked_constant, checked_literals, repeats_macro, added_macro, define, define_fun, define_sort, may_declare, define_program, declare_rule, with_named_terms, assert}
 use Rattle.eo_session.specs.Commands.{by_command}
 use Rattle.eo_sexp.specs.Sexp.{Sexp}
 use Rattle.eo_shape.specs.Shapes.{ParameterShape, ProgramShape, RuleShape, Command, DeclareConst, DeclareFun, DeclareSort, DeclareParameterized, DeclareLiterals, Define, DefineProgram, DeclareRule, Assume, AssumePush, Step, StepPop, Include, Refer, DefineFun, DefineSort, Assert, Exit, Skip}
-use Rattle.eo_sig.specs.Signature.{IsConstant, IsProgram, IsRule, IsLiteralType, Constant, Macro, lookup, constant_fault, literal_type_fault, program_fault, rule_fault}
+use Rattle.eo_sig.specs.Signature.{IsConstant, IsProgram, IsRule, IsLiteralType, Constant, Macro, lookup, counts_of, constant_fault, literal_type_fault, program_fault, rule_fault}
 use Rattle.eo_term.specs.Tree.{Tree}
 use Rattle.eo_cert.specs.Written.{is_written, declared_in}
 
@@ -44,19 +44,19 @@ module _ (other : State) where
     chosen true x y v w f g e = f e
     chosen false x y v w f g e = g e
 
+    entry_again : (d : Constant) → apart_constant st d ≡ Ok new → apart_constant (apart st) d ≡ Ok (apart new)
+    entry_again d e = bound (named_apart st.naming st.signature d) _ _ (λ u. after (with_entry st (IsConstant d (counts_of d)))) e
+
     constant_again : (d : Constant) → added_constant st d ≡ Ok new → added_constant (apart st) d ≡ Ok (apart new)
     unfolding added_constant
-    constant_again d e =
-        chosen (is_reference_name (context st) d.name) _ _ _ _
-        (required (repeats_constant st d (lookup st.signature st.macros d.name)) Redeclared _ _ (after st))
-        (after (with_entry st (IsConstant d))) e
+    constant_again d e = chosen (repeats_constant st d) _ _ _ _ (after st) (entry_again d) e
 
     typed_again : (m : Checked Constant) → (m >>= typed_constant st) ≡ Ok new → (m >>= typed_constant (apart st)) ≡ Ok (apart new)
     unfolding typed_constant type_value evaluated
     typed_again m e = bound m (typed_constant st) (typed_constant (apart st)) (λ d. bound (type_value st d.type) _ _ (λ v. constant_again (record d { type = v }))) e
 
     checked_again : (m : Checked Constant) → (m >>= checked_constant st) ≡ Ok new → (m >>= checked_constant (apart st)) ≡ Ok (apart new)
-    checked_again m e = bound m _ _ (λ d. unfaulted (constant_fault d) _ _ (after (with_entry st (IsConstant d)))) e
+    checked_again m e = bound m _ _ (λ d. unfaulted (constant_fault d) _ _ (entry_again d)) e
 
     literals_again : (class : LiteralClass) (m : Checked Tree) → (m >>= checked_literals st class) ≡ Ok new → (m >>= checked_literals (apart st) class) ≡ Ok (apart new)
     literals_again class m e = bound m _ _ (λ t. unfaulted (literal_type_fault st.signature class t) _ _ (after (with_entry st (IsLiteralType class t)))) e
@@ -100,16 +100,16 @@ module _ (other : State) where
     unfolding assert formula_of evaluated
     assert_again s e =
         bound (means (context_in st InAssert) [] s []) _ _ (λ r. bound (formula_of st r.0) _ _
-        (λ v q. ap (λ (x : State). Ok (with_labels x r.1)) (sym (asserted_apart v (is_asserted st v))) ∙ after (with_labels (with_assertion st v) r.1) q)) e
+        (λ v q. ap (λ (x : State). Ok (with_named_terms x r.1)) (sym (asserted_apart v (is_asserted st v))) ∙ after (with_named_terms (with_assertion st v) r.1) q)) e
 
-  -- it is accepted again, in a file of which as much may stand
-  pub written_again : (st new : State) (from to : Origin) (command : Command) → setting_of from ≡ setting_of to → is_written command ≡ true → by_command st from command ≡ Ok new → by_command (apart st) to command ≡ Ok (apart new)
+  -- it is accepted again, in a file of which as much may be
+  pub written_again : (st new : State) (from to : Origin) (command : Command) → file_kind_of from ≡ file_kind_of to → is_written command ≡ true → by_command st from command ≡ Ok new → by_command (apart st) to command ≡ Ok (apart new)
   written_again st new from to (DeclareConst name type shape) s w e =
-      typed_again st new (declared_const (context_in st (setting_of to)) name type shape) (ap (λ x. declared_const (context_in st x) name type shape >>= typed_constant st) (sym s) ∙ e)
+      typed_again st new (declared_const (context_in st (file_kind_of to)) name type shape) (ap (λ x. declared_const (context_in st x) name type shape >>= typed_constant st) (sym s) ∙ e)
   written_again st new from to (DeclareFun name inputs output) s w e =
-      typed_again st new (declared_fun (context_in st (setting_of to)) name inputs output) (ap (λ x. declared_fun (context_in st x) name inputs output >>= typed_constant st) (sym s) ∙ e)
+      typed_again st new (declared_fun (context_in st (file_kind_of to)) name inputs output) (ap (λ x. declared_fun (context_in st x) name inputs output >>= typed_constant st) (sym s) ∙ e)
   written_again st new from to (DeclareSort name arity) s w e =
-      typed_again st new (declared_sort (context_in st (setting_of to)) name arity) (ap (λ x. declared_sort (context_in st x) name arity >>= typed_constant st) (sym s) ∙ e)
+      typed_again st new (declared_sort (context_in st (file_kind_of to)) name arity) (ap (λ x. declared_sort (context_in st x) name arity >>= typed_constant st) (sym s) ∙ e)
   written_again st new from to (DeclareParameterized name params type shape) s w e = checked_again st new (declared_parameterized (context st) name params type shape) e
   written_again st new from to (DeclareLiterals class type) s w e = literals_again st new class (declared_literals (context st) class type) e
   written_again st new from to (Define name params body) s w e = define_again st new name params body e

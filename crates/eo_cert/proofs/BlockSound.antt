@@ -12,7 +12,7 @@ use Rattle.eo_pattern.specs.Matching.{put}
 use Rattle.eo_stack.specs.Evaluation.{Stuck, Tall, Call, call_eq, ends, first_match, body_of, begin, on_body, call_within, eval}
 use Rattle.eo_cert.specs.Traces.{Covers, of_option}
 use Rattle.eo_eval.proofs.Itself.{value_itself}
-use Rattle.eo_cert.specs.Lines.{Pairs}
+use Rattle.eo_lines.specs.Lines.{Pairs}
 use Rattle.eo_cert.specs.Stated.{Evaluated, Stated, evaluated_at}
 use Rattle.eo_cert.specs.Rules.{By, rule, deepest}
 use Rattle.eo_cert.specs.Assignments.{Given, assigned, given, matches_by}

@@ -24,7 +24,7 @@ use Rattle.eo_session.specs.Commands.{step}
 use Rattle.eo_base.specs.declared.FaultName.{FaultName}
 use Rattle.eo_base.specs.declared.FaultName.TheVariants.{FileLong}
 use Rattle.eo_base.specs.declared.FaultName.TheVariants.{BadCertificate, NoFalse}
-use Rattle.eo_cert.specs.Lines.{Line, Declares, Refers, States, Evaluates, Calls, Assumes, Cites, Steps}
+use Rattle.eo_lines.specs.Lines.{Line, Declares, Refers, States, Evaluates, Calls, Assumes, Cites, Steps}
 use Rattle.eo_cert.specs.Stated.{Context, Derivation, Evaluated, Stated, outermost, nothing_stated, signature, assertions, context_at, in_force}
 use Rattle.eo_cert.specs.Terms.{term_line}
 use Rattle.eo_cert.specs.Blocks.{evaluation_line, call_line}

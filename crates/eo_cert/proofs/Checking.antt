@@ -5,7 +5,7 @@ use Rattle.std.proofs.lemmas.List.{append-nil}
 use Rattle.std.proofs.lemmas.List.Elements.{filter_map-append}
 use Rattle.std.proofs.lemmas.Option.{none-some}
 use Rattle.eo_sexp.specs.Sexp.{Sexp}
-use Rattle.eo_sig.specs.Signature.{Signature, SignatureEntry, IsConstant, IsProgram, IsRule, IsLiteralType, Program, program_of, programs, program_at, program_fault}
+use Rattle.eo_sig.specs.Signature.{Signature, SignatureEntry, IsConstant, IsProgram, IsRule, IsLiteralType, Program, program_of, programs, program_fault}
 use Rattle.eo_session.proofs.Fitting.{slice_get_more}
 use Rattle.eo_session.specs.Commands.{step}
 use Rattle.eo_session.specs.declared.Next.{Next}
@@ -20,7 +20,7 @@ module _ (S : Signature) (old : AreChecked S) (k : ℕ) (p : Program) where
 
   one_more : (e : SignatureEntry) → IsChecked e → slice_get (programs S ++ programs (e ∷ [])) k ≡ Some p → program_fault p ≡ None
   one_more (IsProgram x) fits is = slice_get_more (λ (p : Program). program_fault p ≡ None) (programs S) x k p old fits is
-  one_more (IsConstant d) fits is = none_more is
+  one_more (IsConstant d n) fits is = none_more is
   one_more (IsRule r) fits is = none_more is
   one_more (IsLiteralType class t) fits is = none_more is
 

@@ -17,7 +17,7 @@ use Rattle.eo_rule.specs.Uses as RuleUses
 use Rattle.eo_session.specs.State as SessionState
 use Rattle.eo_session.specs.Step as SessionStep
 use Rattle.eo_session.specs.Commands as SessionCommands
-use Rattle.eo_cert.specs.Forms as CertForms
+use Rattle.eo_lines.specs.Forms as CertForms
 use Rattle.eo_cert.specs.Stated as CertStated
 use Rattle.eo_cert.specs.Terms as CertTerms
 use Rattle.eo_cert.specs.Blocks as CertBlocks

@@ -1,4 +1,4 @@
--- Contexts, and what stands in them.
+-- Contexts, and what is in them.
 use Rattle.std.specs.Prelude.{◌≡◌, ℕ, Bool, true, false, ◌||◌, nat_eq, List, [], ◌∷◌, ◌++◌, Some, Contains, refl}
 use Rattle.std.specs.List.{list_any}
 use Rattle.std.proofs.Common.{sym, ◌∙◌, subst, arith, inl, inr}
@@ -98,7 +98,7 @@ outer_found st all (c ∷ cs) (t ∷ ts) h d is = by (nat_eq d c) refl is (outer
     by true p q rest = (here, subst (λ (k : ℕ). context_at st k ≡ Some here) (sym ((Decides-eqb d c).0 p)) h.0, λ x m. contains_next t ts x m)
     by false p q rest = let r = rest q in (r.0, r.1, λ x m. contains_next t ts x (r.2 x m))
 
--- a derivation that reaches a context is one from what stands there
+-- a derivation that reaches a context is one from what is there
 pub reached : (st : Stated) (c : ℕ) (context : Context) (d : Derivation) → IsRight st → context_at st c ≡ Some context → reaches c context d.context ≡ true → IsDerived st d → Derives (signature st) (in_force st context) d.formula
 reached st c context d h at is own =
     from_either (nat_eq d.context c) (list_any (nat_eq d.context) context.outer) same outer is

@@ -10,7 +10,7 @@ use Rattle.eo_sig.specs.Signature.{Signature}
 use Rattle.eo_stack.specs.Evaluation.{Value, Call, call_eq, Begun, eval, eval0, body_of}
 use Rattle.eo_cert.specs.Stated.{Evaluated}
 use Rattle.eo_cert.specs.Blocks.{with_new}
-use Rattle.eo_cert.specs.Traces.{IsIn, Block, nothing, by_rule, by_none, by_body, AllClosed, Covers, HasBlock}
+use Rattle.eo_cert.specs.Traces.{Block, nothing, by_rule, by_none, by_body, Covers, HasBlock}
 use Rattle.eo_cert.proofs.Runs.{HasRoom, one_less, all_fresh, call_itself}
 use Rattle.eo_cert.proofs.FoundLines.{has_line}
 

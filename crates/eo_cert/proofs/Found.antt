@@ -6,7 +6,7 @@ use Rattle.eo_term.proofs.Equality.{tree_decides}
 use Rattle.eo_sig.specs.Signature.{Signature}
 use Rattle.eo_stack.specs.Evaluation.{Outcome, Value, Stuck, Deep, Calls, Range, Tall, Call, Begun, Ended, Eval, ends, on_outcome, on_value, value_or_none, or_none, node, call_within, eval}
 use Rattle.eo_cert.specs.Stated.{Evaluated}
-use Rattle.eo_cert.specs.Rules.{By, gives, is_stuck, no_rule, next, part, parts, rule, deepest}
+use Rattle.eo_cert.specs.Rules.{By, gives, is_stuck, no_rule, next, part, rule, deepest}
 use Rattle.eo_cert.specs.Rules as by_lines
 use Rattle.eo_cert.specs.Traces.{IsIn, AreIn, evaluated, Block, by_rule, AllClosed, Covers, of_option}
 use Rattle.eo_eval.proofs.Itself.{value_itself}

@@ -13,7 +13,7 @@ use Rattle.eo_sig.specs.Signature.{Signature}
 use Rattle.eo_type.specs.Types.{chosen}
 use Rattle.eo_stack.specs.Evaluation.{Value, Stuck, Deep, Calls, Range, Tall, Call, call_eq, Begun, Ended, Eval, ends, on_outcome, on_value, or_none, node, are_equal, operator_value, eval_all_with, on_body, body_of, call_within, eval}
 use Rattle.eo_cert.specs.Stated.{Evaluated}
-use Rattle.eo_cert.specs.Rules.{By, gives, is_stuck, no_rule, part, parts, rule, deepest}
+use Rattle.eo_cert.specs.Rules.{is_stuck, no_rule, part, parts, deepest}
 use Rattle.eo_cert.specs.Rules as by_lines
 use Rattle.eo_cert.specs.Blocks.{with_new}
 use Rattle.eo_cert.specs.Traces.{evaluated, by_none, by_body, Covers, of_option}

@@ -8,17 +8,17 @@ use Rattle.eo_lit.specs.declared.LiteralClass.{LiteralClass}
 use Rattle.eo_names.specs.Contexts.{InReference}
 use Rattle.eo_session.specs.Origin.{Origin}
 use Rattle.eo_session.specs.State.{State, context, context_in, with_entry, with_macro, with_assertion, with_fact, with_scope, without_scope, with_command, is_asserted}
-use Rattle.eo_session.specs.Step.{setting_of, added_constant, type_value, typed_constant, checked_constant, checked_literals, added_macro, define, define_fun, define_sort, define_program, declare_rule, formula_of, formula, with_labels, assume, assume_push, assert, concluded, with_conclusion, step_plain, step_pop}
+use Rattle.eo_session.specs.Step.{file_kind_of, repeats_constant, named_apart, apart_constant, added_constant, type_value, typed_constant, checked_constant, checked_literals, added_macro, define, define_fun, define_sort, define_program, declare_rule, formula_of, formula, with_named_terms, assume, assume_push, assert, concluded, with_conclusion, step_plain, step_pop}
 use Rattle.eo_session.specs.Commands.{by_command, scoped_command, placed_command, uncounted, step}
 use Rattle.eo_session.specs.declared.Next.{Next}
 use Rattle.eo_sexp.specs.Sexp.{Sexp}
 use Rattle.eo_shape.specs.Shapes.{ParameterShape, ProgramShape, RuleShape, StepShape, Command, DeclareConst, DeclareFun, DeclareSort, DeclareParameterized, DeclareLiterals, Define, DefineProgram, DeclareRule, Assume, AssumePush, Step, StepPop, Include, Refer, DefineFun, DefineSort, Assert, Exit, Skip}
-use Rattle.eo_sig.specs.Signature.{Signature, SignatureEntry, IsConstant, IsProgram, IsRule, IsLiteralType, Constant, Macro, constant_fault, literal_type_fault, program_fault, rule_fault}
+use Rattle.eo_sig.specs.Signature.{Signature, SignatureEntry, IsConstant, IsProgram, IsRule, IsLiteralType, Constant, Macro, counts_of, constant_fault, literal_type_fault, program_fault, rule_fault}
 use Rattle.eo_term.specs.Tree.{Tree}
 
 -- a program is not declared with a fault
 abbrev pub IsChecked : SignatureEntry → Type 0
-IsChecked (IsConstant d) = Unit {0}
+IsChecked (IsConstant d n) = Unit {0}
 IsChecked (IsProgram p) = program_fault p ≡ None
 IsChecked (IsRule r) = Unit {0}
 IsChecked (IsLiteralType class t) = Unit {0}
@@ -59,12 +59,13 @@ module _ (st new : State) where
   entry_adds e h k =
       adds_then st (with_entry st e) new (record { later = e ∷ []; checked = (h, tt); signature = refl; more = []; assertions = sym (append-nil st.assertions) }) k
 
+  apart_adds : (d : Constant) → apart_constant st d ≡ Ok new → Adds st new
+  apart_adds d e =
+      entry_adds (IsConstant d (counts_of d)) tt (bind_ok (named_apart st.naming st.signature d) (λ _. Ok (with_entry st (IsConstant d (counts_of d)))) new e).2
+
   constant_adds : (d : Constant) → added_constant st d ≡ Ok new → Adds st new
   unfolding added_constant
-  constant_adds d e =
-      by_test st new (is_reference_name (context st) d.name) _ _
-      (λ k. same st refl refl (require_then _ _ _ new k).1)
-      (λ k. entry_adds (IsConstant d) tt k) e
+  constant_adds d e = by_test st new (repeats_constant st d) _ _ (λ k. same st refl refl k) (apart_adds d) e
 
   typed_adds : (m : Checked Constant) → (m >>= typed_constant st) ≡ Ok new → Adds st new
   unfolding typed_constant
@@ -74,7 +75,7 @@ module _ (st new : State) where
       constant_adds (record d.0 { type = v.0 }) v.2
 
   checked_adds : (m : Checked Constant) → (m >>= checked_constant st) ≡ Ok new → Adds st new
-  checked_adds m e = let d = bind_ok m _ new e in entry_adds (IsConstant d.0) tt (no_fault_then (constant_fault d.0) _ new d.2).1
+  checked_adds m e = let d = bind_ok m _ new e in apart_adds d.0 (no_fault_then (constant_fault d.0) _ new d.2).1
 
   literals_adds : (class : LiteralClass) (m : Checked Tree) → (m >>= checked_literals st class) ≡ Ok new → Adds st new
   literals_adds class m e =
@@ -154,12 +155,12 @@ module _ (st new : State) where
       let r = bind_ok _ _ new e in
       let v = bind_ok (formula_of st r.0.0) _ new r.2 in
       let q = assertion_adds v.0 (is_asserted st v.0) in
-      adds_then st (with_labels (with_assertion st v.0) r.0.1) new (record { later = q.later; checked = q.checked; signature = q.signature; more = q.more; assertions = q.assertions }) v.2
+      adds_then st (with_named_terms (with_assertion st v.0) r.0.1) new (record { later = q.later; checked = q.checked; signature = q.signature; more = q.more; assertions = q.assertions }) v.2
 
   command_adds : (from : Origin) (command : Command) → by_command st from command ≡ Ok new → Adds st new
-  command_adds from (DeclareConst name type shape) e = typed_adds (declared_const (context_in st (setting_of from)) name type shape) e
-  command_adds from (DeclareFun name inputs output) e = typed_adds (declared_fun (context_in st (setting_of from)) name inputs output) e
-  command_adds from (DeclareSort name arity) e = typed_adds (declared_sort (context_in st (setting_of from)) name arity) e
+  command_adds from (DeclareConst name type shape) e = typed_adds (declared_const (context_in st (file_kind_of from)) name type shape) e
+  command_adds from (DeclareFun name inputs output) e = typed_adds (declared_fun (context_in st (file_kind_of from)) name inputs output) e
+  command_adds from (DeclareSort name arity) e = typed_adds (declared_sort (context_in st (file_kind_of from)) name arity) e
   command_adds from (DeclareParameterized name params type shape) e = checked_adds (declared_parameterized (context st) name params type shape) e
   command_adds from (DeclareLiterals class type) e = literals_adds class (declared_literals (context st) class type) e
   command_adds from (Define name params body) e = define_adds name params body e

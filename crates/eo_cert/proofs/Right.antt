@@ -14,7 +14,7 @@ use Rattle.eo_type.specs.Types.{Typed, type_of}
 use Rattle.eo_stack.specs.Evaluation.{Call, call_eq, eval, eval_all_with, call_within}
 use Rattle.eo_rule.specs.Derivability.{Derives}
 use Rattle.eo_cert.specs.Traces.{Covers, of_option}
-use Rattle.eo_cert.specs.Lines.{TermLine, EvaluationLine, CallLine}
+use Rattle.eo_lines.specs.Lines.{TermLine, EvaluationLine, CallLine}
 use Rattle.eo_cert.specs.Stated.{Context, Derivation, Evaluated, Stated, signature, term_at, context_at, evaluated_at, each, if_there, outermost, in_force, with_term, with_evaluated}
 use Rattle.eo_cert.specs.Declared.{AreChecked}
 use Rattle.eo_cert.specs.Terms.{by_parts, term_line}

@@ -13,7 +13,7 @@ use Rattle.eo_pattern.specs.Matching.{Assignment, put}
 use Rattle.eo_type.specs.Types.{type_of}
 use Rattle.eo_stack.specs.Evaluation.{Value, eval0}
 use Rattle.eo_rule.specs.Instance.{guarded_conclusion}
-use Rattle.eo_cert.specs.Lines.{StepLine}
+use Rattle.eo_lines.specs.Lines.{StepLine}
 use Rattle.eo_cert.specs.Stated.{Stated, signature, each, term_at, terms_at, with_derivation, without_block}
 use Rattle.eo_cert.specs.Assignments.{Given, assigned, given}
 use Rattle.eo_cert.specs.Blocks.{same_outcome, ended}

@@ -14,7 +14,7 @@ use Rattle.eo_stack.specs.Evaluation.{Value, Ended, eval0}
 use Rattle.eo_rule.specs.Instance.{guarded_conclusion, Instance}
 use Rattle.eo_rule.specs.Derivability.{IsRuleOf, Derives, by_rule, by_discharge}
 use Rattle.eo_cert.specs.Traces.{of_option}
-use Rattle.eo_cert.specs.Lines.{StepLine}
+use Rattle.eo_lines.specs.Lines.{StepLine}
 use Rattle.eo_cert.specs.Stated.{Context, Stated, signature, assertions, each, term_at, terms_at, context_at, derivation_at, reaches, in_force, with_derivation, without_block}
 use Rattle.eo_cert.specs.Assignments.{assigned, given}
 use Rattle.eo_cert.specs.Blocks.{same_outcome, ended}
@@ -28,7 +28,7 @@ use Rattle.eo_cert.proofs.Right.{IsFormula, IsInside, IsRight}
 
 -- ---- the place of the premises
 
--- the premises stand in the context of the conclusion, or in one inside it whose assumption is discharged
+-- the premises are in the context of the conclusion, or in one inside it whose assumption is discharged
 abbrev Serves : Signature → (outer inner : Context) → Option Tree → Type 0
 Serves S outer inner None = inner ≡ outer
 Serves S outer inner (Some t) = (inner.assumed ≡ t ∷ outer.assumed) × IsFormula S t

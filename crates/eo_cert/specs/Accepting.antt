@@ -9,7 +9,7 @@ use Rattle.eo_sig.specs.Usable.{IsUsable}
 use Rattle.eo_pattern.specs.Matching.{Assignment, empty, matching, put}
 use Rattle.eo_rule.specs.Instance.{IsInstance, guarded_conclusion}
 use Rattle.eo_stack.specs.Evaluation.{Call, first_match}
-use Rattle.eo_cert.specs.Lines.{EvaluationLine, CallLine, Pairs, StepLine}
+use Rattle.eo_lines.specs.Lines.{EvaluationLine, CallLine, Pairs, StepLine}
 use Rattle.eo_cert.specs.Stated.{Evaluated, Stated, signature, each, if_there, term_at, terms_at, evaluated_at, with_evaluated, with_derivation, without_block}
 use Rattle.eo_cert.specs.Rules.{rule, parts, deepest}
 use Rattle.eo_cert.specs.Assignments.{Given, assigned, given}

@@ -4,7 +4,7 @@ use Rattle.std.specs.List.{list_all, list_any}
 use Rattle.std.specs.Cmp.Lexicographic.{pointwise}
 use Rattle.eo_term.specs.Tree.{Tree, occurs_in, uses_only, tree_eq}
 use Rattle.eo_pattern.specs.Matching.{Assignment, empty, assign, put}
-use Rattle.eo_cert.specs.Lines.{Pairs}
+use Rattle.eo_lines.specs.Lines.{Pairs}
 use Rattle.eo_cert.specs.Stated.{Stated, term_at, ◌>>=◌, when, each}
 
 -- parameters, and the trees that they become

@@ -1,5 +1,3 @@
-pub mod Lines
-pub mod Forms
 pub mod Stated
 pub mod Terms
 pub mod Rules

@@ -14,8 +14,8 @@ use Rattle.eo_session.specs.Origin.{Origin}
 use Rattle.eo_session.specs.Origin as origin
 use Rattle.eo_session.specs.Commands.{step}
 use Rattle.eo_base.specs.declared.FaultName.TheVariants.{BadCertificate, NoFalse}
-use Rattle.eo_cert.specs.Lines.{Line, Declares, Refers, States, Evaluates, Calls, Assumes, Cites, Steps}
-use Rattle.eo_cert.specs.Forms.{line_of}
+use Rattle.eo_lines.specs.Lines.{Line, Declares, Refers, States, Evaluates, Calls, Assumes, Cites, Steps}
+use Rattle.eo_lines.specs.Forms.{line_of}
 use Rattle.eo_cert.specs.Stated.{Stated, nothing_stated}
 use Rattle.eo_cert.specs.Terms.{term_line}
 use Rattle.eo_cert.specs.Blocks.{evaluation_line, call_line}

@@ -9,7 +9,7 @@ use Rattle.eo_pattern.specs.Matching.{put}
 use Rattle.eo_lists.specs.Lists.{spell}
 use Rattle.eo_type.specs.Types.{TypeOutcome, Typed, settled, type_of, value_type}
 use Rattle.eo_rule.specs.Instance.{guarded_conclusion, restricted}
-use Rattle.eo_cert.specs.Lines.{StepLine}
+use Rattle.eo_lines.specs.Lines.{StepLine}
 use Rattle.eo_cert.specs.Stated.{Context, Stated, signature, ◌>>=◌, when, each, term_at, terms_at, context_at, derivation_at, reaches, is_in_force, with_context, with_derivation, without_block}
 use Rattle.eo_cert.specs.Assignments.{Given, assigned, names, given}
 use Rattle.eo_cert.specs.Blocks.{same_outcome, ended}
@@ -78,7 +78,7 @@ abbrev pub premises_fit : Signature → PremiseShape → List Tree → Given →
 premises_fit S (Each ps) premises qs = pointwise tree_eq (map (put (assigned qs)) ps) premises
 premises_fit S (Joined p f) premises qs = are_spelled p qs f premises (terminator S f)
 
--- the value of parameter i has the declared type, with the values put in
+-- the value of parameter i has the declared type, with the values substituted
 abbrev pub value_fits : Signature → Rule → Given → ℕ → Tree → Option Tree → Bool
 value_fits S r qs i declared None = true
 value_fits S r qs i declared (Some value) =

@@ -1,4 +1,4 @@
-//! Laws of certificates. A call costs nothing: it tells a proof what its clauses say.
+//! Laws of certificates. A call costs nothing: it gives a proof what its clauses say.
 ghost use Rattle.std.specs.Prelude.{◌≡◌, ℕ, Bool, List, Option, Ok, Some, true, false};
 ghost use Rattle.eo_term.specs.Tree.{Tree, truth, is_closed, is_tall};
 ghost use Rattle.eo_sig.specs.Signature.{Signature, Rule};
@@ -12,7 +12,7 @@ ghost use Rattle.eo_shape.specs.Shapes.{Command};
 ghost use Rattle.eo_session.specs.Commands.{by_command, step};
 ghost use Rattle.eo_session.specs.Origin.{Origin};
 ghost use Rattle.eo_session.specs.State.{State, first_state};
-ghost use Rattle.eo_session.specs.Step.{setting_of};
+ghost use Rattle.eo_session.specs.Step.{file_kind_of};
 ghost use Rattle.eo_session.specs.declared.Next.{Next};
 ghost use Rattle.eo_cert.specs.Stated.{Stated, Evaluated, signature, assertions};
 ghost use Rattle.eo_cert.specs.Assignments.{Given, HasPairs, assigned, matches_by};
@@ -92,7 +92,7 @@ pub fn lines_law()
 /// that has the same declarations, macros and assertions and differs in all else, in a file that
 /// may hold the same commands.
 pub fn written_law()
-    ensures { (st new other : State) (from to : Origin) (command : Command) → setting_of from ≡ setting_of to →
+    ensures { (st new other : State) (from to : Origin) (command : Command) → file_kind_of from ≡ file_kind_of to →
         is_written command ≡ true → by_command st from command ≡ Ok new →
         by_command (declared_in st other) to command ≡ Ok (declared_in new other) }
 {}

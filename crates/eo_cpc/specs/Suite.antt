@@ -71,6 +71,8 @@ suite_lines =
     ∷ codes "(declare-rule resolution ((C Bool) (D Bool) (p Bool) (L Bool)) :premises (C D) :args (p L) :conclusion ($uncl ($rl ($cl C) ($cl D) p L)))"
     ∷ codes "(declare-rule chain_resolution ((C Bool) (Ds Bool :list) (ps @List) (Ls @List)) :premise-list (and C Ds) and :args (ps Ls) :conclusion ($uncl ($chain ($cl C) Ds ps Ls)))"
     ∷ codes "(declare-rule scope ((F Bool) (G Bool)) :assumption F :premises (G) :conclusion (=> F G))"
+    ∷ codes "(declare-const - (-> Int Int Int) :left-assoc)"
+    ∷ codes "(declare-const - (-> Int Int))"
     ∷ []
 
 -- each line with its line feed

@@ -89,7 +89,9 @@ pub fn suite() -> &'static [u8]
   ($cl C) ($cl D) p L)))\n\
 (declare-rule chain_resolution ((C Bool) (Ds Bool :list) (ps @List) (Ls @List)) :premise-list (and C Ds) and :args \
   (ps Ls) :conclusion ($uncl ($chain ($cl C) Ds ps Ls)))\n\
-(declare-rule scope ((F Bool) (G Bool)) :assumption F :premises (G) :conclusion (=> F G))\n"
+(declare-rule scope ((F Bool) (G Bool)) :assumption F :premises (G) :conclusion (=> F G))\n\
+(declare-const - (-> Int Int Int) :left-assoc)\n\
+(declare-const - (-> Int Int))\n"
 }
 
 /// Whether these bytes are the suite.

@@ -18,7 +18,7 @@ use Rattle.eo_base.specs.Answers.{Tells}
 use Rattle.eo_base.proofs.Answering.{tells_on}
 use Rattle.eo_names.specs.declared.refused.ElabRefused.{ElabRefused}
 use Rattle.eo_declare.specs.Gives.{ReadsParameter}
-use Rattle.eo_names.specs.declared.scope.Setting.{Setting}
+use Rattle.eo_names.specs.declared.scope.FileKind.{FileKind}
 use Rattle.eo_names.specs.Refused.{told}
 use Rattle.eo_elab.specs.Worlds.{context_at}
 use Rattle.eo_declare.specs.Declarations.{Bound, bind, bind_types, is_bound, with_parameter}
@@ -81,7 +81,7 @@ bound-grown b old new below ls g =
     let ps = parameters-grown (length old.trees) old.trees new.trees b.params g.tree below in
     λ i. record { parameters = ps i; locals = ls i }
 
--- with a parameter more, whose name stands for the parameter of the next number
+-- with a parameter more, whose name means the parameter of the next number
 pub bound-more : (b : code.Bound) (ts : List Tree) (p : Param) (id : ℕ) (t : Tree) → tree_at ts p.ty ≡ t → tree_at ts id ≡ Par (length b.params)
     → read_bound ts (record { params = b.params ++ p ∷ []; locals = local p.name id p.list ∷ b.locals }) ≡ with_parameter (read_bound ts b) (record { name = p.name; type = t; implicit = p.implicit; list = p.list })
 bound-more b ts p id t e n =
@@ -94,13 +94,13 @@ bound-more b ts p id t e n =
 
 -- ---- one more, or a fault
 
-pub reads_fault : (k : Kept) (x : Setting) (old new : Terms) (p : ParameterShape) (before after : code.Bound) (r : Result (Unit {0}) ElabRefused) (e : ElabRefused) (m : Checked Tree) → IsErrAnd r (λ y. y ≡ e)
+pub reads_fault : (k : Kept) (x : FileKind) (old new : Terms) (p : ParameterShape) (before after : code.Bound) (r : Result (Unit {0}) ElabRefused) (e : ElabRefused) (m : Checked Tree) → IsErrAnd r (λ y. y ≡ e)
     → ((rest : List ParameterShape) (f : FaultName) → m ≡ Err f → bind (context_at old k x) (read_bound old.trees before) (p ∷ rest) ≡ Err f) → Tells told e m → ReadsParameter k x old new p before after r
 reads_fault k x old new p before after (Ok u) e m q step h = absurd q
 reads_fault k x old new p before after (Err r) e m q step h =
     subst (λ y. (rest : List ParameterShape) → Tells told y (bind (context_at old k x) (read_bound old.trees before) (p ∷ rest))) (sym q) (λ rest. tells_on told e (bind (context_at old k x) (read_bound old.trees before) (p ∷ rest)) m (step rest) h)
 
--- ---- parameters that stand for types
+-- ---- parameters that are types
 
 pub type-is-first : (ts : List Tree) → take 4 ts ≡ first_trees → (0 < length ts) × (tree_at ts 0 ≡ type_tree)
 type-is-first [] e = absurd cc

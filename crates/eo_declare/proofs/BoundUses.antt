@@ -40,7 +40,7 @@ length_last : (ps : List Parameter) (p : Parameter) → length (ps ++ p ∷ []) 
 length_last [] p = refl
 length_last (q ∷ ps) p = ap suc (length_last ps p)
 
--- The parameters that were read are in order, and their names stand for them alone.
+-- The parameters that were read are in order, and their names mean them alone.
 record BoundFits (b : Bound) : Type 0 where
   ordered : are_ordered 0 b.parameters ≡ true
   locals : LocalsWithin (below (length b.parameters)) b.locals

@@ -16,7 +16,7 @@ use Rattle.eo_shape.specs.Reading.{read_command}
 use Rattle.eo_shape.specs.Shapes.{ParameterShape, AttributeShape}
 use Rattle.eo_sig.specs.Signature.{Attribute, Plain, Constant, Macro}
 use Rattle.eo_term.specs.Tree.{Tree, Arr, is_tall}
-use Rattle.eo_declare.specs.Declarations.{Bound, bind, unbound, is_free_name, is_free_or_reference, not_tall, meanings, attribute, constant, macro, plain_constant, function_type, bound_type, declared_const, declared_fun, declared_parameterized, defined, declaration}
+use Rattle.eo_declare.specs.Declarations.{Bound, bind, unbound, may_be_constant, is_free_or_reference, not_tall, meanings, attribute, constant, macro, plain_constant, function_type, bound_type, declared_const, declared_fun, declared_parameterized, defined, declaration}
 use Rattle.eo_declare.specs.Declaring.{typed, typed_over, type_of_function, function_to, declared_constant, or_bad}
 use Rattle.eo_names.specs.Contexts.{Context, Local}
 use Rattle.eo_names.specs.Folding.{arrow}
@@ -107,14 +107,14 @@ module _ (c : Context) (name : List ℕ) where
     const-typed (Ok t) (Err fault) = refl
     const-typed (Err fault) n = refl
 
-    const-parts : is_free_or_reference c name ≡ true → declared_const c name type shape ≡ (typed c [] type shape >>= λ r. plain_constant c name r.0 r.1)
+    const-parts : may_be_constant c name ≡ true → declared_const c name type shape ≡ (typed c [] type shape >>= λ r. plain_constant c name r.0 r.1)
     unfolding declared_const
-    const-parts e = require-yes (is_free_or_reference c name) Redeclared _ e ∙ const-typed (meaning c [] type) (attribute c [] shape)
+    const-parts e = require-yes (may_be_constant c name) Redeclared _ e ∙ const-typed (meaning c [] type) (attribute c [] shape)
 
-    pub const-link : (r : Tree × Attribute) → is_free_or_reference c name ≡ true → typed c [] type shape ≡ Ok r → declared_const c name type shape ≡ plain_constant c name r.0 r.1
+    pub const-link : (r : Tree × Attribute) → may_be_constant c name ≡ true → typed c [] type shape ≡ Ok r → declared_const c name type shape ≡ plain_constant c name r.0 r.1
     const-link r e h = const-parts e ∙ then-ok (λ r. plain_constant c name r.0 r.1) _ _ h
 
-    pub const-fault : (fault : FaultName) → is_free_or_reference c name ≡ true → typed c [] type shape ≡ Err fault → declared_const c name type shape ≡ Err fault
+    pub const-fault : (fault : FaultName) → may_be_constant c name ≡ true → typed c [] type shape ≡ Err fault → declared_const c name type shape ≡ Err fault
     const-fault fault e h = const-parts e ∙ then-err (λ r. plain_constant c name r.0 r.1) _ _ h
 
     -- over parameters
@@ -135,14 +135,14 @@ module _ (c : Context) (name : List ℕ) where
     fun-typed (Ok ts) (Err fault) = refl
     fun-typed (Err fault) n = refl
 
-    fun-parts : is_free_or_reference c name ≡ true → declared_fun c name inputs output ≡ (type_of_function c inputs output >>= λ w. plain_constant c name w Plain)
+    fun-parts : may_be_constant c name ≡ true → declared_fun c name inputs output ≡ (type_of_function c inputs output >>= λ w. plain_constant c name w Plain)
     unfolding declared_fun
-    fun-parts e = require-yes (is_free_or_reference c name) Redeclared _ e ∙ fun-typed (meanings c [] inputs) (meaning c [] output)
+    fun-parts e = require-yes (may_be_constant c name) Redeclared _ e ∙ fun-typed (meanings c [] inputs) (meaning c [] output)
 
-    pub fun-link : (t : Tree) → is_free_or_reference c name ≡ true → type_of_function c inputs output ≡ Ok t → declared_fun c name inputs output ≡ plain_constant c name t Plain
+    pub fun-link : (t : Tree) → may_be_constant c name ≡ true → type_of_function c inputs output ≡ Ok t → declared_fun c name inputs output ≡ plain_constant c name t Plain
     fun-link t e h = fun-parts e ∙ then-ok (λ w. plain_constant c name w Plain) _ _ h
 
-    pub fun-fault : (fault : FaultName) → is_free_or_reference c name ≡ true → type_of_function c inputs output ≡ Err fault → declared_fun c name inputs output ≡ Err fault
+    pub fun-fault : (fault : FaultName) → may_be_constant c name ≡ true → type_of_function c inputs output ≡ Err fault → declared_fun c name inputs output ≡ Err fault
     fun-fault fault e h = fun-parts e ∙ then-err (λ w. plain_constant c name w Plain) _ _ h
 
 -- ---- with parameters
@@ -171,18 +171,18 @@ module _ (c : Context) (name : List ℕ) (shapes : List ParameterShape) where
     type_read b =
         meaning c b.locals type >>= λ t. not_tall (bound_type 0 b.parameters t) >>= λ w. attribute c b.locals shape >>= λ a. Ok (constant c name b.parameters w a)
 
-    pub parameterized-many : is_free_name c name ≡ true → parameters_limit < length shapes → declared_parameterized c name shapes type shape ≡ Err Parameters
+    pub parameterized-many : may_be_constant c name ≡ true → parameters_limit < length shapes → declared_parameterized c name shapes type shape ≡ Err Parameters
     unfolding declared_parameterized
     parameterized-many e h = require-yes _ Redeclared _ e ∙ require-no _ Parameters _ (few-no (length shapes) h)
 
-    parameterized-parts : is_free_name c name ≡ true → length shapes ≤ parameters_limit → declared_parameterized c name shapes type shape ≡ (bind c unbound shapes >>= type_read)
+    parameterized-parts : may_be_constant c name ≡ true → length shapes ≤ parameters_limit → declared_parameterized c name shapes type shape ≡ (bind c unbound shapes >>= type_read)
     unfolding declared_parameterized
     parameterized-parts e h = require-yes _ Redeclared _ e ∙ require-yes _ Parameters _ (few-yes (length shapes) h)
 
-    pub parameterized-unbound : (fault : FaultName) → is_free_name c name ≡ true → length shapes ≤ parameters_limit → bind c unbound shapes ≡ Err fault → declared_parameterized c name shapes type shape ≡ Err fault
+    pub parameterized-unbound : (fault : FaultName) → may_be_constant c name ≡ true → length shapes ≤ parameters_limit → bind c unbound shapes ≡ Err fault → declared_parameterized c name shapes type shape ≡ Err fault
     parameterized-unbound fault e h n = parameterized-parts e h ∙ then-err type_read (bind c unbound shapes) fault n
 
-    pub parameterized-over : (b : Bound) → is_free_name c name ≡ true → length shapes ≤ parameters_limit → bind c unbound shapes ≡ Ok b → declared_parameterized c name shapes type shape ≡ (typed_over c b type shape >>= λ r. Ok (constant c name b.parameters r.0 r.1))
+    pub parameterized-over : (b : Bound) → may_be_constant c name ≡ true → length shapes ≤ parameters_limit → bind c unbound shapes ≡ Ok b → declared_parameterized c name shapes type shape ≡ (typed_over c b type shape >>= λ r. Ok (constant c name b.parameters r.0 r.1))
     parameterized-over b e h n = parameterized-parts e h ∙ then-ok type_read (bind c unbound shapes) b n ∙ over-typed c name type shape b (meaning c b.locals type) (attribute c b.locals shape)
 
 -- ---- commands that declare a constant, or nothing

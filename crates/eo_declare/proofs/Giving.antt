@@ -17,15 +17,15 @@ use Rattle.eo_term.specs.Growth.{Grows}
 use Rattle.eo_names.specs.declared.locals.LocalName.{LocalName}
 use Rattle.eo_names.specs.declared.refused.ElabRefused.{ElabRefused}
 use Rattle.eo_term.specs.Builds.{TallWhere}
-use Rattle.eo_names.specs.Contexts.{Context, InProof}
+use Rattle.eo_names.specs.Contexts.{Context, InProof, Several}
 use Rattle.eo_sig.specs.Signature.{constant_fault}
-use Rattle.eo_declare.specs.Declarations.{is_free_or_reference}
+use Rattle.eo_declare.specs.Declarations.{may_be_constant}
 use Rattle.eo_declare.specs.Declaring.{MayRepeat}
 use Rattle.eo_names.specs.Names.{AreBelow}
 use Rattle.eo_names.specs.Refused.{told, of_term}
 use Rattle.eo_names.specs.Ready.{IsReady}
-use Rattle.eo_names.specs.Scopes.{read_setting}
-use Rattle.eo_names.specs.declared.scope.Setting as code
+use Rattle.eo_names.specs.Scopes.{read_file_kind}
+use Rattle.eo_names.specs.declared.scope.FileKind as code
 use Rattle.eo_elab.specs.Worlds.{context_in, context_at}
 
 -- no name is local
@@ -34,10 +34,10 @@ none_ready k n ls e h = record { below = h; names = subst (AreBelow n) (sym e) (
 
 -- a table that grows keeps what is read
 pub same_context : (k : Kept) (old new : Terms) → StaysUnder k → IsBelow (length old.trees) k → Grows old new → context_in new k ≡ context_in old k
-same_context k old new law h g = let s = (law old new h g).stays in λ i. record { signature = s.signature i; macros = s.macros i; setting = InProof }
+same_context k old new law h g = let s = (law old new h g).stays in λ i. record { signature = s.signature i; macros = s.macros i; file_kind = InProof; naming = Several }
 
-pub same_context_at : (x : code.Setting) (k : Kept) (old new : Terms) → StaysUnder k → IsBelow (length old.trees) k → Grows old new → context_at new k x ≡ context_at old k x
-same_context_at x k old new law h g = let s = (law old new h g).stays in λ i. record { signature = s.signature i; macros = s.macros i; setting = read_setting x }
+pub same_context_at : (x : code.FileKind) (k : Kept) (old new : Terms) → StaysUnder k → IsBelow (length old.trees) k → Grows old new → context_at new k x ≡ context_at old k x
+same_context_at x k old new law h g = let s = (law old new h g).stays in λ i. record { signature = s.signature i; macros = s.macros i; file_kind = read_file_kind x; naming = Several }
 
 -- a term that was not made is refused for its height
 pub refused_as : {A : Type 0} (X : Type 0) (r : TermRefused) (whole : Checked A) → (IsTall {X = X} (Err r) → whole ≡ Err TermHeight) → Tells told (of_term r) whole
@@ -49,7 +49,7 @@ tall_told term.Tall b whole f h = f h
 tall_told (term.Memory e) b whole f h = tt
 
 -- a sound constant of a name that may be declared
-pub may_repeat : (c : Context) (ts : List Tree) (name : List ℕ) (r : Result ConstDecl ElabRefused) → is_free_or_reference c name ≡ true → IfOk r (λ d. constant_fault (read_constant ts d) ≡ None) → IfOk r (λ d. d.name ≡ name)
+pub may_repeat : (c : Context) (ts : List Tree) (name : List ℕ) (r : Result ConstDecl ElabRefused) → may_be_constant c name ≡ true → IfOk r (λ d. constant_fault (read_constant ts d) ≡ None) → IfOk r (λ d. d.name ≡ name)
     → IfOk r (λ d. MayRepeat c (read_constant ts d))
-may_repeat c ts name (Ok d) free sound named = record { sound = sound; name = ap (is_free_or_reference c) named ∙ free }
+may_repeat c ts name (Ok d) free sound named = record { sound = sound; name = ap (may_be_constant c) named ∙ free }
 may_repeat c ts name (Err e) free sound named = tt

@@ -8,3 +8,5 @@ mod ProgramVectors
 pub mod BoundUses
 pub mod RuleLemmas
 pub mod ReferenceLemmas
+pub mod SingleNames
+pub mod Referenced

@@ -9,7 +9,7 @@ use Rattle.eo_term.specs.declared.OpCode.{OpCode}
 use Rattle.eo_term.specs.Tree.{Tree, Con, Par, Op, to_trees, bool_tree, truth}
 use Rattle.eo_term.specs.Operators.{operator_named}
 use Rattle.eo_names.specs.Folding.{folded}
-use Rattle.eo_names.specs.Contexts.{Context, InProof}
+use Rattle.eo_names.specs.Contexts.{Context, InProof, Several}
 use Rattle.eo_elab.specs.Meaning.{means, meaning, atom}
 use Rattle.eo_declare.specs.Declarations.{Declaration, AProgram, meanings, declared_case, declared_cases, declared_program, declaration}
 use Rattle.eo_declare.specs.Declaring.{declared}
@@ -20,7 +20,7 @@ abbrev f : Program
 f = record { name = codes "f"; parameters = []; inputs = bool_tree ∷ []; output = bool_tree; cases = [] }
 
 abbrev context : Context
-context = record { signature = first_signature ++ IsProgram f ∷ []; macros = []; setting = InProof }
+context = record { signature = first_signature ++ IsProgram f ∷ []; macros = []; file_kind = InProof; naming = Several }
 
 abbrev from : List ℕ → Checked Declaration
 from text = declared context (sexp_of text)
@@ -37,7 +37,7 @@ x = record { name = codes "x"; type = bool_tree; implicit = false; list = false 
 abbrev call : ℕ → Tree → Tree
 call k t = Op (OpCode.Prog k) (to_trees (t ∷ []))
 
--- in its cases its name stands for it, by the number that it will have
+-- in its cases its name means it, by the number that it will have
 own_name : from (codes "(program g ((x Bool)) :signature (Bool) Bool (((g x) (g x)) ((g true) (f x))))")
     ≡ Ok (AProgram (record {
       name = codes "g";

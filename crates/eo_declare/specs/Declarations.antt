@@ -1,5 +1,5 @@
 -- What a declaring command declares, or its first fault. The checks of a whole declaration (patterns, unbound parameters) and of types follow when it is added.
-use Rattle.std.specs.Prelude.{ℕ, zero, suc, Bool, false, not, ◌||◌, ◌==◌, nat_le, if◌then◌else◌, List, [], ◌∷◌, ◌++◌, length, Option, Some, None, is_none, is_some, slice_get, bytes_eq, codes, Ok, Err}
+use Rattle.std.specs.Prelude.{ℕ, zero, suc, Bool, false, not, ◌&&◌, ◌||◌, ◌==◌, nat_le, if◌then◌else◌, List, [], ◌∷◌, ◌++◌, length, Option, Some, None, is_none, is_some, slice_get, bytes_eq, codes, Ok, Err}
 use Rattle.std.specs.List.{list_any}
 use Rattle.std.specs.Option.{option_map_or}
 use Rattle.eo_base.specs.declared.FaultName.TheVariants.{Redeclared, UnknownSymbol, BadArity, BadPattern, TermHeight, Parameters}
@@ -7,7 +7,7 @@ use Rattle.eo_base.specs.Checks.{Checked, ◌>>=◌, require, no_fault, Passed}
 use Rattle.eo_base.specs.Limits.{parameters_limit}
 use Rattle.eo_sexp.specs.Sexp.{Sexp}
 use Rattle.eo_lit.specs.declared.LiteralClass.{LiteralClass}
-use Rattle.eo_sig.specs.Signature.{Parameter, Attribute, Plain, RightNil, LeftNil, Right, Left, Chain, Pairs, Binder, Constant, Macro, Case, Program, PremiseShape, Each, Joined, Rule, Signature, IsProgram, Named, NamesConstant, NamesMacro, NamesProgram, lookup, constant_at, is_free, is_free_rule, terminator, literal_type, constant_fault}
+use Rattle.eo_sig.specs.Signature.{Parameter, Attribute, Plain, RightNil, LeftNil, Right, Left, Chain, Pairs, Binder, Constant, Macro, Case, Program, PremiseShape, Each, Joined, Rule, Signature, IsProgram, Named, NamesConstant, NamesMacro, NamesProgram, lookup, constants, is_free, may_name_constant, is_free_rule, terminator, literal_type, constant_fault}
 use Rattle.eo_term.specs.Tree.{Tree, Con, Par, Arr, Qar, type_tree, is_tall}
 use Rattle.eo_names.specs.Contexts.{Context, Local, is_reference}
 use Rattle.eo_elab.specs.Meaning.{meaning}
@@ -34,17 +34,24 @@ module _ (c : Context) where
   abbrev pub is_free_name : List ℕ → Bool
   is_free_name name = is_free c.signature c.macros name
 
-  abbrev pub is_named_by_reference : Option Named → Bool
-  is_named_by_reference None = false
-  is_named_by_reference (Some (NamesConstant k)) = option_map_or (λ d. d.from_reference) (constant_at c.signature k) false
-  is_named_by_reference (Some (NamesMacro m)) = option_map_or (λ d. d.from_reference) (slice_get c.macros m) false
-  is_named_by_reference (Some (NamesProgram p)) = false
+  -- a name that a constant may have, as far as other constants do not matter, which are compared at the end
+  abbrev pub may_be_constant : List ℕ → Bool
+  may_be_constant name = may_name_constant c.signature c.macros name
+
+  abbrev pub is_reference_constant : List ℕ → Bool
+  is_reference_constant name = list_any (λ d. bytes_eq name d.name && d.from_reference) (constants c.signature)
+
+  abbrev pub is_named_by_reference : List ℕ → Option Named → Bool
+  is_named_by_reference name None = false
+  is_named_by_reference name (Some (NamesConstant k)) = is_reference_constant name
+  is_named_by_reference name (Some (NamesMacro m)) = option_map_or (λ d. d.from_reference) (slice_get c.macros m) false
+  is_named_by_reference name (Some (NamesProgram p)) = false
 
   -- a name that the reference file declared
   abbrev pub is_reference_name : List ℕ → Bool
-  is_reference_name name = is_named_by_reference (lookup c.signature c.macros name)
+  is_reference_name name = is_named_by_reference name (lookup c.signature c.macros name)
 
-  -- a name that may be declared, or one of the reference file, which is compared at the end
+  -- a name that a macro may have, or one of the reference file, which is compared at the end
   abbrev pub is_free_or_reference : List ℕ → Bool
   is_free_or_reference name = is_free_name name || is_reference_name name
 
@@ -94,7 +101,7 @@ with_parameter b p = record {
 abbrev pub few : ℕ → Checked Passed
 few n = require (nat_le n parameters_limit) Parameters
 
--- parameters of a sort, which stand for types
+-- parameters of a sort, which are types
 abbrev pub bind_types : Bound → List (List ℕ) → Checked Bound
 bind_types b [] = Ok b
 bind_types b (name ∷ names) = do
@@ -137,7 +144,7 @@ module _ (c : Context) where
 
   abbrev pub constant : List ℕ → List Parameter → Tree → Attribute → Constant
   constant name parameters type a =
-      record { name = name; parameters = parameters; type = type; attribute = a; from_reference = is_reference c.setting }
+      record { name = name; parameters = parameters; type = type; attribute = a; from_reference = is_reference c.file_kind }
 
   -- a constant whose terminator is a value and whose type holds what it may
   abbrev pub plain_constant : List ℕ → Tree → Attribute → Checked Constant
@@ -148,7 +155,7 @@ module _ (c : Context) where
   -- (declare-const S T attr)
   unfoldable pub declared_const : List ℕ → Sexp → AttributeShape → Checked Constant
   declared_const name type shape = do
-    _ ← require (is_free_or_reference c name) Redeclared
+    _ ← require (may_be_constant c name) Redeclared
     t ← meaning c [] type
     a ← attribute [] shape
     plain_constant name t a
@@ -156,7 +163,7 @@ module _ (c : Context) where
   -- (declare-fun S (T ..) T)
   unfoldable pub declared_fun : List ℕ → List Sexp → Sexp → Checked Constant
   declared_fun name inputs output = do
-    _ ← require (is_free_or_reference c name) Redeclared
+    _ ← require (may_be_constant c name) Redeclared
     ts ← meanings c [] inputs
     t ← meaning c [] output
     type ← not_tall (function_type ts t)
@@ -165,13 +172,13 @@ module _ (c : Context) where
   -- (declare-sort S n)
   unfoldable pub declared_sort : List ℕ → ℕ → Checked Constant
   declared_sort name arity = do
-    _ ← require (is_free_or_reference c name) Redeclared
+    _ ← require (may_be_constant c name) Redeclared
     plain_constant name (sort_type arity) Plain
 
   -- (declare-parameterized-const S (p ..) T attr)
   unfoldable pub declared_parameterized : List ℕ → List ParameterShape → Sexp → AttributeShape → Checked Constant
   declared_parameterized name shapes type shape = do
-    _ ← require (is_free_name c name) Redeclared
+    _ ← require (may_be_constant c name) Redeclared
     _ ← few (length shapes)
     b ← bind unbound shapes
     t ← meaning c b.locals type
@@ -194,7 +201,7 @@ module _ (c : Context) where
 
   abbrev pub macro : List ℕ → List Parameter → Tree → Macro
   macro name parameters tree =
-      record { name = name; parameters = parameters; tree = tree; from_reference = is_reference c.setting }
+      record { name = name; parameters = parameters; tree = tree; from_reference = is_reference c.file_kind }
 
   -- (define S (p ..) t)
   unfoldable pub defined : List ℕ → List ParameterShape → Sexp → Checked Macro
@@ -250,7 +257,7 @@ abbrev pub program : List ℕ → List Parameter → List Tree → Tree → List
 program name parameters inputs output cases =
     record { name = name; parameters = parameters; inputs = inputs; output = output; cases = cases }
 
--- while its cases are read, the program's name stands for the program
+-- while its cases are read, the program's name means the program
 abbrev pub with_program : Context → Program → Context
 with_program c p = record c { signature = c.signature ++ IsProgram p ∷ [] }
 

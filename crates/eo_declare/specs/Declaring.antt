@@ -19,14 +19,14 @@ use Rattle.eo_shape.specs.Reading.{read_attribute as read_shape}
 use Rattle.eo_term.specs.Tree.{Tree}
 use Rattle.eo_term.specs.Terms.{Terms, tree_at}
 use Rattle.eo_declare.specs.declared.parameters.Bound as code_bound
-use Rattle.eo_declare.specs.Declarations.{Declaration, AConstant, ALiteralType, AMacro, AProgram, ARule, Bound, declaration, meanings, attribute, bound_type, function_type, not_tall, plain_constant, typed_macro, declared_const, declared_fun, declared_sort, declared_parameterized, as_constant, declared_cases, declared_program, program_over, declared_rule, rule_over, with_cases, with_program, is_free_name, is_free_or_reference}
+use Rattle.eo_declare.specs.Declarations.{Declaration, AConstant, ALiteralType, AMacro, AProgram, ARule, Bound, declaration, meanings, attribute, bound_type, function_type, not_tall, plain_constant, typed_macro, declared_const, declared_fun, declared_sort, declared_parameterized, as_constant, declared_cases, declared_program, program_over, declared_rule, rule_over, with_cases, with_program, is_free_name, may_be_constant, is_free_or_reference}
 use Rattle.eo_names.specs.Contexts.{Context, Local}
 use Rattle.eo_elab.specs.Meaning.{meaning}
 use Rattle.eo_names.specs.Names.{read_locals, AreBelow}
 use Rattle.eo_names.specs.Worlds.{World}
 use Rattle.eo_names.specs.declared.locals.LocalName.{LocalName}
 use Rattle.eo_names.specs.Ready.{context, IsReady}
-use Rattle.eo_names.specs.declared.scope.Setting.{Setting}
+use Rattle.eo_names.specs.declared.scope.FileKind.{FileKind}
 use Rattle.eo_elab.specs.Worlds.{context_at, meaning_in}
 use Rattle.eo_declare.specs.Worlds.{reference_context}
 
@@ -48,7 +48,7 @@ DeclarationBelow n (variant.Macro d) = MacroBelow n d
 DeclarationBelow n (variant.Program d) = ProgramBelow n d
 DeclarationBelow n (variant.Rule d) = RuleBelow n d
 
--- the types of parameters are below n, and their names stand for terms below n
+-- the types of parameters are below n, and their names mean terms below n
 pub record BoundBelow (n : ℕ) (k : Kept) (b : code_bound.Bound) : Type 0 where
   pub params : All (λ p. p.ty < n) b.params
   pub ready : IsReady n k b.locals
@@ -168,7 +168,7 @@ abbrev pub bound_type_in : Terms → ℕ → List Param → ℕ → Tree
 bound_type_in t first params type = bound_type first (map (read_parameter t.trees) params) (tree_at t.trees type)
 
 -- a constant without parameters, by the id of its type
-abbrev pub plain_constant_in : Terms → Kept → Setting → List ℕ → Terms → ℕ → code_attribute.Attribute → Checked Constant
+abbrev pub plain_constant_in : Terms → Kept → FileKind → List ℕ → Terms → ℕ → code_attribute.Attribute → Checked Constant
 plain_constant_in old k x name t type a = plain_constant (context_at old k x) name (tree_at t.trees type) (read_attribute t.trees a)
 
 -- ---- whose name may be declared, or is one that the reference file declared
@@ -176,7 +176,7 @@ plain_constant_in old k x name t type a = plain_constant (context_at old k x) na
 -- a constant without parameters, which is sound
 pub record MayRepeat (c : Context) (d : Constant) : Type 0 where
   pub sound : constant_fault d ≡ None
-  pub name : is_free_or_reference c d.name ≡ true
+  pub name : may_be_constant c d.name ≡ true
 
 abbrev pub MayBeMacro : Context → Macro → Type 0
 MayBeMacro c d = is_free_or_reference c d.name ≡ true
@@ -192,7 +192,7 @@ MayBeReferred c (AMacro d) = MayBeMacro c d
 MayBeReferred c d = ⊥
 
 abbrev pub MayBeDeclared : Context → Declaration → Type 0
-MayBeDeclared c (AConstant d) = is_free_or_reference c d.name ≡ true
+MayBeDeclared c (AConstant d) = may_be_constant c d.name ≡ true
 MayBeDeclared c (ALiteralType class type) = MayBeLiterals c class
 MayBeDeclared c (AMacro d) = MayBeMacro c d
 MayBeDeclared c (AProgram d) = is_free_name c d.name ≡ true

@@ -1,4 +1,4 @@
--- What calls that declare answer, against what is read: parts of declarations and declarations, or the fault.
+-- What calls that declare return, by what is read: parts of declarations and declarations, or the fault.
 use Rattle.std.specs.Prelude.{◌≡◌, ℕ, ◌<◌, List, ◌∷◌, length, map, All, Result, Ok, Err}
 use Rattle.eo_base.specs.Answers.{Gives, Tells}
 use Rattle.eo_base.specs.Checks.{Checked}
@@ -15,7 +15,7 @@ use Rattle.eo_term.specs.Tree.{Tree}
 use Rattle.eo_term.specs.Terms.{Terms, tree_at}
 use Rattle.eo_declare.specs.declared.parameters.Bound as code_bound
 use Rattle.eo_names.specs.declared.refused.ElabRefused.{ElabRefused}
-use Rattle.eo_names.specs.declared.scope.Setting as code_setting
+use Rattle.eo_names.specs.declared.scope.FileKind as code_setting
 use Rattle.eo_shape.specs.Shapes.{ParameterShape}
 use Rattle.eo_declare.specs.Declarations.{Bound, Declaration, bind, bind_types}
 use Rattle.eo_declare.specs.Declaring.{read_bound, read_declaration, read_typed, BoundBelow, TypesBelow, DeclarationBelow, TypedBelow}
@@ -66,16 +66,16 @@ GivesRule t r o = Gives told (RuleBelow (length t.trees)) (read_rule t.trees) r 
 abbrev pub GivesDeclaration : Terms → Result code.Declaration ElabRefused → Checked Declaration → Type 0
 GivesDeclaration t r o = Gives told (DeclarationBelow (length t.trees)) (read_declaration t.trees) r o
 
--- one parameter more is read into those before it, and what is left is read behind it
-pub record IsRead (k : Kept) (x : code_setting.Setting) (old new : Terms) (p : ParameterShape) (before after : code_bound.Bound) : Type 0 where
+-- one more parameter is added to those before it, and what is left is read after it
+pub record IsRead (k : Kept) (x : code_setting.FileKind) (old new : Terms) (p : ParameterShape) (before after : code_bound.Bound) : Type 0 where
   pub live : BoundBelow (length new.trees) k after
   pub binds : (rest : List ParameterShape) → bind (context_at old k x) (read_bound old.trees before) (p ∷ rest) ≡ bind (context_at old k x) (read_bound new.trees after) rest
 
-abbrev pub ReadsParameter : Kept → code_setting.Setting → Terms → Terms → ParameterShape → code_bound.Bound → code_bound.Bound → Result (Unit {0}) ElabRefused → Type 0
+abbrev pub ReadsParameter : Kept → code_setting.FileKind → Terms → Terms → ParameterShape → code_bound.Bound → code_bound.Bound → Result (Unit {0}) ElabRefused → Type 0
 ReadsParameter k x old new p before after (Ok u) = IsRead k x old new p before after
 ReadsParameter k x old new p before after (Err e) = (rest : List ParameterShape) → Tells told e (bind (context_at old k x) (read_bound old.trees before) (p ∷ rest))
 
--- the same of one that stands for a type, wherever it is read
+-- the same for one that is a type, wherever it is read
 pub record IsNamed (old new : Terms) (name : List ℕ) (before after : code_bound.Bound) : Type 0 where
   pub live : TypesBelow (length new.trees) after
   pub binds : (rest : List (List ℕ)) → bind_types (read_bound old.trees before) (name ∷ rest) ≡ bind_types (read_bound new.trees after) rest

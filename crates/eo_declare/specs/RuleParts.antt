@@ -73,7 +73,7 @@ pub record PartsBelow (n : ℕ) (r : code_parts.RuleParts) : Type 0 where
   pub requirements : All (λ (q : ℕ × ℕ). (q.0 < n) × (q.1 < n)) r.requirements
   pub conclusion : r.conclusion < n
 
--- ---- what calls answer
+-- ---- what calls return
 
 abbrev pub GivesSome : Terms → Result (Option ℕ) ElabRefused → Checked (Option Tree) → Type 0
 GivesSome t r o = Gives told (SomeBelow (length t.trees)) (option_map (tree_at t.trees)) r o

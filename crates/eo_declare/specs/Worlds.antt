@@ -5,7 +5,7 @@ use Rattle.eo_sexp.specs.Sexp.{Sexp}
 use Rattle.eo_sig.specs.Reading.{Kept, signature, macros}
 use Rattle.eo_term.specs.Terms.{Terms}
 use Rattle.eo_term.specs.Tree.{Tree}
-use Rattle.eo_names.specs.Contexts.{Context, InReference}
+use Rattle.eo_names.specs.Contexts.{Context, InReference, Several}
 use Rattle.eo_names.specs.Worlds.{World}
 use Rattle.eo_declare.specs.Declarations.{meanings, constant_meant, attribute, declared_case, declared_cases}
 use Rattle.eo_shape.specs.declared.AttributeShape.{AttributeShape}
@@ -15,7 +15,7 @@ use Rattle.eo_sig.specs.Signature.{Attribute, Case}
 
 -- in a reference file
 abbrev pub reference_context : Terms → Kept → Context
-reference_context t k = record { signature = signature t.trees k; macros = macros t.trees k; setting = InReference }
+reference_context t k = record { signature = signature t.trees k; macros = macros t.trees k; file_kind = InReference; naming = Several }
 
 module _ (w : World) where
   -- terms in order

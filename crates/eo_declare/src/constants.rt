@@ -1,5 +1,5 @@
 //! The parts of a declared constant.
-ghost use Rattle.std.specs.Prelude.{◌≡◌, ◌<◌, ◌≤◌, ◌+◌, List, None, length, true, All, IfOk};
+ghost use Rattle.std.specs.Prelude.{◌≡◌, ◌<◌, ◌≤◌, ◌+◌, ◌&&◌, bytes_eq, List, None, length, true, All, IfOk};
 ghost use Rattle.eo_base.specs.Limits.{parameters_limit, height_limit};
 ghost use Rattle.eo_term.specs.Growth.{tree_in, Grows, Makes};
 ghost use Rattle.eo_term.specs.Refused.{IsTall};
@@ -15,10 +15,10 @@ ghost use Rattle.eo_names.specs.Worlds.{world_of};
 ghost use Rattle.eo_elab.specs.Worlds.{world_in};
 ghost use Rattle.eo_declare.specs.Worlds.{meanings_in, attribute_in, constant_in};
 ghost use Rattle.eo_names.specs.Contexts.{is_reference};
-ghost use Rattle.eo_names.specs.Scopes.{read_setting};
+ghost use Rattle.eo_names.specs.Scopes.{read_file_kind};
 
 use eo_base::Name;
-use eo_elab::{ElabRefused, Locals, Setting, mean_term, term_at};
+use eo_elab::{ElabRefused, FileKind, Locals, elaborate_in, elaborate_view};
 use eo_names::names_law;
 use eo_sexp::{Children, Sexp};
 use eo_shape::AttributeShape;
@@ -26,7 +26,7 @@ use eo_sig::{Attribute, ConstDecl, Entry, Param, Params, Signature, SignatureVie
 use eo_term::{Id, Ids, Node, TYPE, Table, TermRefused};
 use std::alloc::{AllocError, Global};
 
-/// Whether a name may be declared, or is one that the reference file declared.
+/// Whether a macro may have the name, or the reference file declared it.
 pub(crate) fn may_declare(sig: &Signature, name: &[u8]) -> bool
     ensures { (ts : List Tree) → result ≡ declarations.is_free_or_reference (context ts sig.now) name.now }
 {
@@ -34,36 +34,56 @@ pub(crate) fn may_declare(sig: &Signature, name: &[u8]) -> bool
     free || is_reference_name(sig, name)
 }
 
-// Whether the reference file declared the name.
+// Whether the reference file declared the name, or a constant of it.
 fn is_reference_name(sig: &Signature, name: &[u8]) -> bool
     ensures { (ts : List Tree) → result ≡ declarations.is_reference_name (context ts sig.now) name.now }
 {
     match sig.lookup(name) {
-        Some(Entry::Constant(n)) => sig.constant(n).from_reference,
+        Some(Entry::Constant(_)) => is_reference_constant(sig, name),
         Some(Entry::Macro(n)) => sig.macro_of(n).from_reference,
         Some(Entry::Program(_)) => false,
         None => false,
     }
 }
 
+// Whether the reference file declared a constant of the name. It goes over all constants: a macro by
+// the name of one is refused in any case, and its command is the last that is read.
+fn is_reference_constant(sig: &Signature, name: &[u8]) -> bool
+    ensures { (ts : List Tree) → result ≡ declarations.is_reference_constant (context ts sig.now) name.now }
+{
+    for n in 0..sig.constants() {
+        if is_referenced(sig.constant(n), name) {
+            return true;
+        }
+    }
+    false
+}
+
+// Whether the reference file declared the constant, and it has the name.
+fn is_referenced(d: &ConstDecl, name: &[u8]) -> bool
+    ensures { result ≡ bytes_eq name.now d.now.name && d.now.from_reference }
+{
+    name == d.name.as_bytes() && d.from_reference
+}
+
 /// The meanings of terms in order, in a file of this kind, where this is declared.
-pub(crate) fn mean_terms(
+pub(crate) fn elaborate_terms(
     alloc: Global,
     terms: &Children<'_>,
     locals: &Locals,
-    setting: Setting,
+    file_kind: FileKind,
     sig: &SignatureView<'_>,
     table: &mut Table,
 ) -> Result<Ids, ElabRefused>
     requires ready { IsReady (length table.old.trees) sig.now locals.now }
-    ensures gives { GivesTrees table.new result (meanings_in (world_in table.old sig.now locals.now setting) terms.now) }
+    ensures gives { GivesTrees table.new result (meanings_in (world_in table.old sig.now locals.now file_kind) terms.now) }
     ensures count { IfOk result (λ ids. length ids ≡ length terms.now) }
     ensures grows { Grows table.old table.new }
 {
     names_law();
     let mut ids = Ids::new(alloc);
     for s in terms.again() {
-        let id = mean_term(alloc, &s, locals, setting, sig, table)?;
+        let id = elaborate_view(alloc, &s, locals, file_kind, sig, table)?;
         ids.push(id)?;
     }
     Ok(ids)
@@ -82,7 +102,7 @@ pub(crate) fn meanings(
     ensures count { IfOk result (λ ids. length ids ≡ length terms.now) }
     ensures grows { Grows table.old table.new }
 {
-    meanings_at(alloc, terms, locals, Setting::Proof, sig, table)
+    meanings_at(alloc, terms, locals, FileKind::Proof, sig, table)
 }
 
 /// The same in a file of this kind.
@@ -90,20 +110,20 @@ pub(crate) fn meanings_at(
     alloc: Global,
     terms: &Children<'_>,
     locals: &Locals,
-    setting: Setting,
+    file_kind: FileKind,
     sig: &Signature,
     table: &mut Table,
 ) -> Result<Ids, ElabRefused>
     requires ready { IsReady (length table.old.trees) sig.now locals.now }
-    ensures gives { GivesTrees table.new result (meanings_in (world_in table.old sig.now locals.now setting) terms.now) }
+    ensures gives { GivesTrees table.new result (meanings_in (world_in table.old sig.now locals.now file_kind) terms.now) }
     ensures count { IfOk result (λ ids. length ids ≡ length terms.now) }
     ensures grows { Grows table.old table.new }
 {
-    mean_terms(
+    elaborate_terms(
         alloc,
         terms,
         locals,
-        setting,
+        file_kind,
         &SignatureView::of(sig),
         table,
     )
@@ -114,32 +134,32 @@ pub(crate) fn attribute_meant(
     alloc: Global,
     shape: &AttributeShape<'_>,
     locals: &Locals,
-    setting: Setting,
+    file_kind: FileKind,
     sig: &Signature,
     table: &mut Table,
 ) -> Result<Attribute, ElabRefused>
     requires ready { IsReady (length table.old.trees) sig.now locals.now }
-    ensures gives { GivesAttribute table.new result (attribute_in (world_in table.old sig.now locals.now setting) shape.now) }
+    ensures gives { GivesAttribute table.new result (attribute_in (world_in table.old sig.now locals.now file_kind) shape.now) }
     ensures grows { Grows table.old table.new }
 {
     match shape {
         AttributeShape::None => Ok(Attribute::Plain),
-        AttributeShape::RightNil(s) => Ok(Attribute::RightNil(term_at(
-            alloc, s, locals, setting, sig, table,
+        AttributeShape::RightNil(s) => Ok(Attribute::RightNil(elaborate_in(
+            alloc, s, locals, file_kind, sig, table,
         )?)),
-        AttributeShape::LeftNil(s) => Ok(Attribute::LeftNil(term_at(
-            alloc, s, locals, setting, sig, table,
+        AttributeShape::LeftNil(s) => Ok(Attribute::LeftNil(elaborate_in(
+            alloc, s, locals, file_kind, sig, table,
         )?)),
         AttributeShape::Right => Ok(Attribute::Right),
         AttributeShape::Left => Ok(Attribute::Left),
         AttributeShape::Chain(s) => Ok(Attribute::Chain(constant_meant(
-            alloc, s, locals, setting, sig, table,
+            alloc, s, locals, file_kind, sig, table,
         )?)),
         AttributeShape::Pairs(s) => Ok(Attribute::Pairs(constant_meant(
-            alloc, s, locals, setting, sig, table,
+            alloc, s, locals, file_kind, sig, table,
         )?)),
         AttributeShape::Binder(s) => Ok(Attribute::Binder(constant_meant(
-            alloc, s, locals, setting, sig, table,
+            alloc, s, locals, file_kind, sig, table,
         )?)),
     }
 }
@@ -149,15 +169,15 @@ fn constant_meant(
     alloc: Global,
     s: &Sexp<'_>,
     locals: &Locals,
-    setting: Setting,
+    file_kind: FileKind,
     sig: &Signature,
     table: &mut Table,
 ) -> Result<usize, ElabRefused>
     requires ready { IsReady (length table.old.trees) sig.now locals.now }
-    ensures gives { GivesNumber result (constant_in (world_in table.old sig.now locals.now setting) s.now) }
+    ensures gives { GivesNumber result (constant_in (world_in table.old sig.now locals.now file_kind) s.now) }
     ensures grows { Grows table.old table.new }
 {
-    let id = term_at(alloc, s, locals, setting, sig, table)?;
+    let id = elaborate_in(alloc, s, locals, file_kind, sig, table)?;
     match table.node(id) {
         Node::Con(k) => Ok(k),
         _ => Err(ElabRefused::UnknownSymbol),
@@ -224,13 +244,13 @@ pub(crate) fn plain_constant(
     name: &[u8],
     ty: Id,
     attribute: Attribute,
-    setting: Setting,
+    file_kind: FileKind,
     table: &Table,
 ) -> Result<ConstDecl, ElabRefused>
     requires ty { ty < length table.now.trees }
     requires below { AttributeBelow (length table.now.trees) attribute }
     ensures gives { (old : Terms) (k : Kept) → GivesConstant table.now result
-        (plain_constant_in old k setting name.now table.now ty attribute) }
+        (plain_constant_in old k file_kind name.now table.now ty attribute) }
     ensures sound { IfOk result (λ d. constant_fault (read_constant table.now.trees d) ≡ None) }
     ensures name { IfOk result (λ d. d.name ≡ name.now) }
 {
@@ -239,7 +259,7 @@ pub(crate) fn plain_constant(
         params: Params::new(alloc),
         ty,
         attribute,
-        from_reference: is_reference(setting),
+        from_reference: is_reference(file_kind),
     };
     if !d.may_hold(table) {
         return Err(ElabRefused::BadPattern);
@@ -248,12 +268,12 @@ pub(crate) fn plain_constant(
 }
 
 /// Whether it is a reference file.
-pub(crate) fn is_reference(setting: Setting) -> bool
-    ensures { result ≡ is_reference (read_setting setting) }
+pub(crate) fn is_reference(file_kind: FileKind) -> bool
+    ensures { result ≡ is_reference (read_file_kind file_kind) }
 {
-    match setting {
-        Setting::Proof => false,
-        Setting::Reference => true,
-        Setting::Assert => true,
+    match file_kind {
+        FileKind::Proof => false,
+        FileKind::Reference => true,
+        FileKind::Assert => true,
     }
 }

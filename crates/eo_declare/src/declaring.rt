@@ -3,11 +3,13 @@ ghost use Rattle.std.specs.Prelude.{◌≡◌, true, false, ◌<◌, ◌≤◌, 
 ghost use Rattle.eo_base.specs.Limits.{parameters_limit};
 ghost use Rattle.eo_term.specs.Growth.{trees_in, Grows};
 ghost use Rattle.eo_sig.specs.Growth.{GrowsUnder};
-ghost use Rattle.eo_sig.specs.Reading.{read_constant, read_macro, IsBelow, IsFree};
+ghost use Rattle.eo_sig.specs.Reading.{read_constant, read_macro, IsBelow};
 ghost use Rattle.eo_shape.specs.Reading.{read_attribute, read_command};
-ghost use Rattle.eo_declare.specs.Declarations.{declared_fun, declared_sort, declared_literals, declaration, defined, is_free_or_reference};
+ghost use Rattle.eo_declare.specs.Declarations.{declared_fun, declared_sort, declared_literals, declaration, defined};
+ghost use Rattle.eo_declare.specs.Declarations.{is_free_or_reference, may_be_constant};
 ghost use Rattle.eo_declare.specs.Declaring.{read_bound, read_declaration, declared, or_bad, typed, type_of_function, function_to};
-ghost use Rattle.eo_declare.specs.Declaring.{const_by, constant_of, declared_constant, parameterized_in, typed_over_in, IsCommand, BoundBelow};
+ghost use Rattle.eo_declare.specs.Declaring.{const_by, constant_of, declared_constant};
+ghost use Rattle.eo_declare.specs.Declaring.{parameterized_in, typed_over_in, IsCommand, BoundBelow};
 ghost use Rattle.eo_declare.specs.Declaring.{MayRepeat, MayBeMacro, MayBeLiterals, MayBeDeclared};
 ghost use Rattle.eo_names.specs.Gives.{GivesTree};
 ghost use Rattle.eo_names.specs.Names.{local};
@@ -23,7 +25,7 @@ use crate::programs::declared_program;
 use crate::rules::declared_rule;
 use eo_base::Name;
 use eo_base::limits::PARAMETERS;
-use eo_elab::{ElabRefused, Locals, Setting, term, term_at};
+use eo_elab::{ElabRefused, FileKind, Locals, elaborate_in, term};
 use eo_names::{function_type, names_law};
 use eo_sexp::{Children, Sexp};
 use eo_shape::{AttributeShape, Command, ParameterShapes, command_of};
@@ -38,8 +40,8 @@ use std::alloc::{AllocError, Global};
 /// A refusal is the first fault, in this order:
 ///
 /// - `BadCommand`: the command has a wrong shape, or declares nothing.
-/// - `Redeclared`: the name may not be declared, and is none that the reference file declared; or
-///   the class of literals has a type.
+/// - `Redeclared`: the name may not be declared (a constant may have one that constants have, and a
+///   macro one that the reference file declared); or the class of literals has a type.
 /// - `Parameters`: there are more than 64 parameters, or more than 64 inputs of a program.
 /// - a fault of a term, from left to right: of the parameters' types, where a name that an earlier
 ///   parameter has is `Redeclared`, of the types, of the terminator or what joins (`UnknownSymbol`,
@@ -93,7 +95,7 @@ fn declared_by(
             Ok(Declaration::Literal { class: *class, ty })
         }
         Command::Define { name, params, body } => {
-            let d = defined(alloc, name, params, body, sig, table)?;
+            let d = define_macro(alloc, name, params, body, sig, table)?;
             Ok(Declaration::Macro(d))
         }
         Command::Program(shape) => {
@@ -134,7 +136,7 @@ fn constant_by(
 ) -> Result<ConstDecl, ElabRefused>
     requires { IsBelow (length table.old.trees) sig.now }
     ensures gives { GivesConstant table.new result (constant_of (context_in table.old sig.now) command.now) }
-    ensures named { IfOk result (λ d. is_free_or_reference (context_in table.old sig.now) d.name ≡ true) }
+    ensures named { IfOk result (λ d. may_be_constant (context_in table.old sig.now) d.name ≡ true) }
     ensures refused { OnErr result (table.new ≡ table.old) }
     ensures grows { GrowsUnder sig.now table.old table.new }
 {
@@ -143,17 +145,17 @@ fn constant_by(
             name,
             ty,
             attribute,
-        } => declared_const(alloc, name, ty, attribute, Setting::Proof, sig, table),
+        } => declared_const(alloc, name, ty, attribute, FileKind::Proof, sig, table),
         Command::DeclareFun {
             name,
             inputs,
             output,
-        } => declared_fun(alloc, name, inputs, output, Setting::Proof, sig, table),
+        } => declared_fun(alloc, name, inputs, output, FileKind::Proof, sig, table),
         Command::DeclareSort { name, arity } => declared_sort(
             alloc,
             name,
             *arity,
-            Setting::Proof,
+            FileKind::Proof,
             sig,
             table,
         ),
@@ -171,7 +173,8 @@ fn constant_by(
 ///
 /// A refusal is the first fault, in this order:
 ///
-/// - `Redeclared`: the name may not be declared, and is none that the reference file declared.
+/// - `Redeclared`: no constant may have the name, whatever it takes: it is reserved, or a macro or a
+///   program has it.
 /// - a fault of a term: of the type, and then of the terminator or what joins (`UnknownSymbol`,
 ///   where it is no constant).
 /// - `BadPattern`: the type holds what no declared type may, or the terminator is no value.
@@ -181,19 +184,19 @@ pub fn declared_const(
     name: &[u8],
     ty: &Sexp<'_>,
     attribute: &AttributeShape<'_>,
-    setting: Setting,
+    file_kind: FileKind,
     sig: &Signature,
     table: &mut Table,
 ) -> Result<ConstDecl, ElabRefused>
     requires { IsBelow (length table.old.trees) sig.now }
-    ensures gives { GivesConstant table.new result (const_by (context_at table.old sig.now setting) name.now ty.now attribute.now) }
+    ensures gives { GivesConstant table.new result (const_by (context_at table.old sig.now file_kind) name.now ty.now attribute.now) }
     ensures may { IfOk result (λ d. MayRepeat (context_in table.old sig.now) (read_constant table.new.trees d)) }
     ensures refused { OnErr result (table.new ≡ table.old) }
     ensures grows { GrowsUnder sig.now table.old table.new }
 {
     sig.laws();
     let mark = table.mark();
-    match constant(alloc, name, ty, attribute, setting, sig, table) {
+    match constant(alloc, name, ty, attribute, file_kind, sig, table) {
         Ok(d) => Ok(d),
         Err(e) => {
             table.release(mark);
@@ -208,40 +211,40 @@ fn constant(
     name: &[u8],
     ty: &Sexp<'_>,
     attribute: &AttributeShape<'_>,
-    setting: Setting,
+    file_kind: FileKind,
     sig: &Signature,
     table: &mut Table,
 ) -> Result<ConstDecl, ElabRefused>
     requires { IsBelow (length table.old.trees) sig.now }
-    ensures gives { GivesConstant table.new result (const_by (context_at table.old sig.now setting) name.now ty.now attribute.now) }
+    ensures gives { GivesConstant table.new result (const_by (context_at table.old sig.now file_kind) name.now ty.now attribute.now) }
     ensures may { IfOk result (λ d. MayRepeat (context_in table.old sig.now) (read_constant table.new.trees d)) }
     ensures grows { GrowsUnder sig.now table.old table.new }
 {
     sig.laws();
-    if !may_declare(sig, name) {
+    if !sig.may_name_constant(name) {
         return Err(ElabRefused::Redeclared);
     }
-    let (ty, attribute) = typed(alloc, ty, attribute, setting, sig, table)?;
-    plain_constant(alloc, name, ty, attribute, setting, table)
+    let (ty, attribute) = type_and_attribute(alloc, ty, attribute, file_kind, sig, table)?;
+    plain_constant(alloc, name, ty, attribute, file_kind, table)
 }
 
 // A type and an attribute.
-fn typed(
+fn type_and_attribute(
     alloc: Global,
     ty: &Sexp<'_>,
     attribute: &AttributeShape<'_>,
-    setting: Setting,
+    file_kind: FileKind,
     sig: &Signature,
     table: &mut Table,
 ) -> Result<(Id, Attribute), ElabRefused>
     requires { IsBelow (length table.old.trees) sig.now }
-    ensures gives { GivesTyped table.new result (typed (context_at table.old sig.now setting) [] ty.now (read_attribute attribute.now)) }
+    ensures gives { GivesTyped table.new result (typed (context_at table.old sig.now file_kind) [] ty.now (read_attribute attribute.now)) }
     ensures grows { Grows table.old table.new }
 {
     names_law();
     let none = Locals::new(alloc);
-    let ty = term_at(alloc, ty, &none, setting, sig, table)?;
-    let attribute = attribute_meant(alloc, attribute, &none, setting, sig, table)?;
+    let ty = elaborate_in(alloc, ty, &none, file_kind, sig, table)?;
+    let attribute = attribute_meant(alloc, attribute, &none, file_kind, sig, table)?;
     Ok((ty, attribute))
 }
 
@@ -249,7 +252,8 @@ fn typed(
 ///
 /// A refusal is the first fault, in this order:
 ///
-/// - `Redeclared`: the name may not be declared, and is none that the reference file declared.
+/// - `Redeclared`: no constant may have the name, whatever it takes: it is reserved, or a macro or a
+///   program has it.
 /// - a fault of a term: of the inputs in order, and then of the output.
 /// - `Tall`: the function type is taller than the limit.
 /// - `BadPattern`: the type holds what no declared type may.
@@ -259,19 +263,19 @@ pub fn declared_fun(
     name: &[u8],
     inputs: &Children<'_>,
     output: &Sexp<'_>,
-    setting: Setting,
+    file_kind: FileKind,
     sig: &Signature,
     table: &mut Table,
 ) -> Result<ConstDecl, ElabRefused>
     requires { IsBelow (length table.old.trees) sig.now }
-    ensures gives { GivesConstant table.new result (declared_fun (context_at table.old sig.now setting) name.now inputs.now output.now) }
+    ensures gives { GivesConstant table.new result (declared_fun (context_at table.old sig.now file_kind) name.now inputs.now output.now) }
     ensures may { IfOk result (λ d. MayRepeat (context_in table.old sig.now) (read_constant table.new.trees d)) }
     ensures refused { OnErr result (table.new ≡ table.old) }
     ensures grows { GrowsUnder sig.now table.old table.new }
 {
     sig.laws();
     let mark = table.mark();
-    match function(alloc, name, inputs, output, setting, sig, table) {
+    match function(alloc, name, inputs, output, file_kind, sig, table) {
         Ok(d) => Ok(d),
         Err(e) => {
             table.release(mark);
@@ -286,21 +290,21 @@ fn function(
     name: &[u8],
     inputs: &Children<'_>,
     output: &Sexp<'_>,
-    setting: Setting,
+    file_kind: FileKind,
     sig: &Signature,
     table: &mut Table,
 ) -> Result<ConstDecl, ElabRefused>
     requires { IsBelow (length table.old.trees) sig.now }
-    ensures gives { GivesConstant table.new result (declared_fun (context_at table.old sig.now setting) name.now inputs.now output.now) }
+    ensures gives { GivesConstant table.new result (declared_fun (context_at table.old sig.now file_kind) name.now inputs.now output.now) }
     ensures may { IfOk result (λ d. MayRepeat (context_in table.old sig.now) (read_constant table.new.trees d)) }
     ensures grows { GrowsUnder sig.now table.old table.new }
 {
     sig.laws();
-    if !may_declare(sig, name) {
+    if !sig.may_name_constant(name) {
         return Err(ElabRefused::Redeclared);
     }
-    let ty = type_of_function(alloc, inputs, output, setting, sig, table)?;
-    plain_constant(alloc, name, ty, Attribute::Plain, setting, table)
+    let ty = type_of_function(alloc, inputs, output, file_kind, sig, table)?;
+    plain_constant(alloc, name, ty, Attribute::Plain, file_kind, table)
 }
 
 // The type of a function by its inputs and its output.
@@ -308,18 +312,18 @@ fn type_of_function(
     alloc: Global,
     inputs: &Children<'_>,
     output: &Sexp<'_>,
-    setting: Setting,
+    file_kind: FileKind,
     sig: &Signature,
     table: &mut Table,
 ) -> Result<Id, ElabRefused>
     requires { IsBelow (length table.old.trees) sig.now }
-    ensures gives { GivesTree table.new result (type_of_function (context_at table.old sig.now setting) inputs.now output.now) }
+    ensures gives { GivesTree table.new result (type_of_function (context_at table.old sig.now file_kind) inputs.now output.now) }
     ensures grows { Grows table.old table.new }
 {
     names_law();
     let none = Locals::new(alloc);
-    let mut types = meanings_at(alloc, inputs, &none, setting, sig, table)?;
-    function_to(alloc, &mut types, output, &none, setting, sig, table)
+    let mut types = meanings_at(alloc, inputs, &none, file_kind, sig, table)?;
+    function_to(alloc, &mut types, output, &none, file_kind, sig, table)
 }
 
 // The type of a function of these types, to an output that is read.
@@ -328,17 +332,17 @@ fn function_to(
     types: &mut Ids,
     output: &Sexp<'_>,
     locals: &Locals,
-    setting: Setting,
+    file_kind: FileKind,
     sig: &Signature,
     table: &mut Table,
 ) -> Result<Id, ElabRefused>
     requires ready { IsReady (length table.old.trees) sig.now locals.now }
     requires types { All (λ i. i < length table.old.trees) types.old }
     ensures gives { GivesTree table.new result
-        (function_to (world_in table.old sig.now locals.now setting) (trees_in table.old types.old) output.now) }
+        (function_to (world_in table.old sig.now locals.now file_kind) (trees_in table.old types.old) output.now) }
     ensures grows { Grows table.old table.new }
 {
-    let output = term_at(alloc, output, locals, setting, sig, table)?;
+    let output = elaborate_in(alloc, output, locals, file_kind, sig, table)?;
     types.push(output)?;
     let made = function_type(table, types.as_slice())?;
     prove!(table.height(made) <= HEIGHT_LIMIT);
@@ -348,25 +352,26 @@ fn function_to(
 /// `(declare-sort NAME ARITY)` in a file of this kind: a constant that makes a type of so many
 /// types.
 ///
-/// `Redeclared`: the name may not be declared, and is none that the reference file declared.
-/// `Memory`: out of memory.
+/// - `Redeclared`: no constant may have the name, whatever it takes: it is reserved, or a macro or a
+///   program has it.
+/// - `Memory`: out of memory.
 pub fn declared_sort(
     alloc: Global,
     name: &[u8],
     arity: u8,
-    setting: Setting,
+    file_kind: FileKind,
     sig: &Signature,
     table: &mut Table,
 ) -> Result<ConstDecl, ElabRefused>
     requires { IsBelow (length table.old.trees) sig.now }
-    ensures gives { GivesConstant table.new result (declared_sort (context_at table.old sig.now setting) name.now arity) }
+    ensures gives { GivesConstant table.new result (declared_sort (context_at table.old sig.now file_kind) name.now arity) }
     ensures may { IfOk result (λ d. MayRepeat (context_in table.old sig.now) (read_constant table.new.trees d)) }
     ensures refused { OnErr result (table.new ≡ table.old) }
     ensures grows { GrowsUnder sig.now table.old table.new }
 {
     sig.laws();
     let mark = table.mark();
-    match sort(alloc, name, arity, setting, sig, table) {
+    match sort(alloc, name, arity, file_kind, sig, table) {
         Ok(d) => Ok(d),
         Err(e) => {
             table.release(mark);
@@ -380,28 +385,29 @@ fn sort(
     alloc: Global,
     name: &[u8],
     arity: u8,
-    setting: Setting,
+    file_kind: FileKind,
     sig: &Signature,
     table: &mut Table,
 ) -> Result<ConstDecl, ElabRefused>
     requires { IsBelow (length table.old.trees) sig.now }
-    ensures gives { GivesConstant table.new result (declared_sort (context_at table.old sig.now setting) name.now arity) }
+    ensures gives { GivesConstant table.new result (declared_sort (context_at table.old sig.now file_kind) name.now arity) }
     ensures may { IfOk result (λ d. MayRepeat (context_in table.old sig.now) (read_constant table.new.trees d)) }
     ensures grows { GrowsUnder sig.now table.old table.new }
 {
     sig.laws();
-    if !may_declare(sig, name) {
+    if !sig.may_name_constant(name) {
         return Err(ElabRefused::Redeclared);
     }
     let ty = sort_type(table, arity)?;
-    plain_constant(alloc, name, ty, Attribute::Plain, setting, table)
+    plain_constant(alloc, name, ty, Attribute::Plain, file_kind, table)
 }
 
 /// `(declare-parameterized-const NAME (PARAMETER ..) TYPE ATTRIBUTE)`: a constant with parameters.
 ///
 /// A refusal is the first fault, in this order:
 ///
-/// - `Redeclared`: the name may not be declared.
+/// - `Redeclared`: no constant may have the name, whatever it takes: it is reserved, or a macro or a
+///   program has it.
 /// - `Parameters`: there are more than 64.
 /// - a fault of a term: of the parameters' types in order, where a name that an earlier parameter
 ///   has is `Redeclared`, and of the type.
@@ -419,14 +425,13 @@ pub fn declared_parameterized(
 ) -> Result<ConstDecl, ElabRefused>
     requires { IsBelow (length table.old.trees) sig.now }
     ensures gives { GivesConstant table.new result (parameterized_in table.old sig.now name.now params.now ty.now attribute.now) }
-    ensures free { IfOk result (λ d. IsFree sig.now d.name) }
-    ensures named { IfOk result (λ d. is_free_or_reference (context_in table.old sig.now) d.name ≡ true) }
+    ensures named { IfOk result (λ d. may_be_constant (context_in table.old sig.now) d.name ≡ true) }
     ensures refused { OnErr result (table.new ≡ table.old) }
     ensures grows { GrowsUnder sig.now table.old table.new }
 {
     sig.laws();
     let mark = table.mark();
-    match parameterized(alloc, name, params, ty, attribute, sig, table) {
+    match parameterized_constant(alloc, name, params, ty, attribute, sig, table) {
         Ok(d) => Ok(d),
         Err(e) => {
             table.release(mark);
@@ -436,7 +441,7 @@ pub fn declared_parameterized(
 }
 
 // The same, but that a refused call leaves the terms that it made.
-fn parameterized(
+fn parameterized_constant(
     alloc: Global,
     name: &[u8],
     params: &ParameterShapes<'_>,
@@ -447,18 +452,17 @@ fn parameterized(
 ) -> Result<ConstDecl, ElabRefused>
     requires { IsBelow (length table.old.trees) sig.now }
     ensures gives { GivesConstant table.new result (parameterized_in table.old sig.now name.now params.now ty.now attribute.now) }
-    ensures free { IfOk result (λ d. IsFree sig.now d.name) }
-    ensures named { IfOk result (λ d. is_free_or_reference (context_in table.old sig.now) d.name ≡ true) }
+    ensures named { IfOk result (λ d. may_be_constant (context_in table.old sig.now) d.name ≡ true) }
     ensures grows { GrowsUnder sig.now table.old table.new }
 {
     sig.laws();
-    if !sig.is_free(name) {
+    if !sig.may_name_constant(name) {
         return Err(ElabRefused::Redeclared);
     }
     if params.len() > PARAMETERS {
         return Err(ElabRefused::Parameters);
     }
-    let bound = bind(alloc, params, Setting::Proof, sig, table)?;
+    let bound = bind(alloc, params, FileKind::Proof, sig, table)?;
     let (ty, attribute) = typed_over(alloc, &bound, ty, attribute, sig, table)?;
     Ok(ConstDecl {
         name: Name::new(alloc, name)?,
@@ -488,12 +492,12 @@ fn typed_over(
     let result = term(alloc, ty, &bound.locals, sig, table)?;
     let whole = bound_type(table, 0, bound.params.as_slice(), result)?;
     prove!(table.height(whole) <= HEIGHT_LIMIT);
-    let attribute = attribute_meant(alloc, attribute, &bound.locals, Setting::Proof, sig, table)?;
+    let attribute = attribute_meant(alloc, attribute, &bound.locals, FileKind::Proof, sig, table)?;
     Ok((whole, attribute))
 }
 
-/// `(declare-consts CLASS TYPE)`: the type of the literals of a class. In it, `eo::self` stands
-/// for the literal.
+/// `(declare-consts CLASS TYPE)`: the type of the literals of a class. In it, `eo::self` is the
+/// literal.
 ///
 /// A refusal is `Redeclared`, where the class has a type; else the first fault of the term; or
 /// `Memory`: out of memory.
@@ -543,7 +547,7 @@ fn literals(
     term(alloc, ty, &names, sig, table)
 }
 
-// `eo::self`, which stands for a literal.
+// `eo::self`, which means a literal.
 fn self_name(alloc: Global, literal: Id) -> Result<Locals, AllocError>
     ensures { IfOk result (λ ls. ls ≡ local (codes "eo::self") literal false ∷ []) }
 {
@@ -561,7 +565,7 @@ fn self_name(alloc: Global, literal: Id) -> Result<Locals, AllocError>
 /// - a fault of a term: of the parameters' types in order, where a name that an earlier parameter
 ///   has is `Redeclared`, and of the body.
 /// - `Memory`: out of memory.
-pub fn defined(
+pub fn define_macro(
     alloc: Global,
     name: &[u8],
     params: &ParameterShapes<'_>,
@@ -628,7 +632,7 @@ fn macro_of(
     if params.len() > PARAMETERS {
         return Err(ElabRefused::Parameters);
     }
-    let bound = bind(alloc, params, Setting::Proof, sig, table)?;
+    let bound = bind(alloc, params, FileKind::Proof, sig, table)?;
     let tree = term(alloc, body, &bound.locals, sig, table)?;
     Ok(MacroDecl {
         name: Name::new(alloc, name)?,

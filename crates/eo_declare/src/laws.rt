@@ -1,4 +1,4 @@
-//! Laws of what is declared. A call costs nothing: it tells a proof what its clauses say.
+//! Laws of what is declared. A call costs nothing: it gives a proof what its clauses say.
 ghost use Rattle.std.specs.Prelude.{◌≡◌, ℕ, List, Ok, true};
 ghost use Rattle.eo_declare.specs.Declarations.{declared_rule, defined, defined_fun, defined_sort};
 ghost use Rattle.eo_elab.specs.Fitting.{FitsTerms, macro_is_bound};

@@ -1,4 +1,4 @@
-//! The meaning of declarations: the commands that declare, by what their names stand for, as
+//! The meaning of declarations: the commands that declare, by what their names mean, as
 //! records over the terms of a table.
 #![tactic(auto)]
 
@@ -12,7 +12,7 @@ mod rules;
 
 pub use declaring::{
     declaration, declared_const, declared_fun, declared_literals, declared_parameterized,
-    declared_sort, defined, defined_allowed,
+    declared_sort, define_macro, defined_allowed,
 };
 pub use laws::{ordering_law, reference_law};
 pub use programs::declared_program;

@@ -13,14 +13,14 @@ ghost use Rattle.eo_names.specs.Names.{local};
 ghost use Rattle.eo_elab.specs.Worlds.{context_at};
 
 use eo_base::Name;
-use eo_elab::{ElabRefused, Locals, Setting, term_at};
+use eo_elab::{ElabRefused, FileKind, Locals, elaborate_in};
 use eo_names::names_law;
 use eo_shape::{ParameterShape, ParameterShapes, Symbols};
 use eo_sig::{Param, Params, Signature};
 use eo_term::{Id, Node, TYPE, Table};
 use std::alloc::{AllocError, Global};
 
-/// Parameters that were read, and what their names stand for.
+/// Parameters that were read, and what their names mean.
 #[derive(Drop)]
 pub(crate) struct Bound {
     /// The parameters in order.
@@ -35,25 +35,25 @@ pub(crate) struct Bound {
 pub(crate) fn bind(
     alloc: Global,
     shapes: &ParameterShapes<'_>,
-    setting: Setting,
+    file_kind: FileKind,
     sig: &Signature,
     table: &mut Table,
 ) -> Result<Bound, ElabRefused>
     requires ready { IsBelow (length table.old.trees) sig.now }
     requires few { length shapes.now ≤ parameters_limit }
-    ensures gives { GivesBound sig.now table.new result (bind (context_at table.old sig.now setting) unbound shapes.now) }
+    ensures gives { GivesBound sig.now table.new result (bind (context_at table.old sig.now file_kind) unbound shapes.now) }
     ensures count { IfOk result (λ b. length b.params ≡ length shapes.now) }
     ensures grows { Grows table.old table.new }
 {
     sig.laws();
     let mut bound = no_parameters(alloc)?;
     for shape in shapes.again() {
-        bound.read(alloc, &shape, setting, sig, table)?;
+        bound.read(alloc, &shape, file_kind, sig, table)?;
     }
     Ok(bound)
 }
 
-/// Parameters of these names in order, each of which stands for a type.
+/// Parameters of these names in order, each of which is a type.
 ///
 /// `Redeclared` is a name that an earlier parameter has.
 pub(crate) fn bind_types(
@@ -90,13 +90,13 @@ impl Bound {
         &mut self,
         alloc: Global,
         shape: &ParameterShape<'_>,
-        setting: Setting,
+        file_kind: FileKind,
         sig: &Signature,
         table: &mut Table,
     ) -> Result<(), ElabRefused>
         requires bound { BoundBelow (length table.old.trees) sig.now self.old }
         requires room { length self.old.params < parameters_limit }
-        ensures reads { ReadsParameter sig.now setting table.old table.new (shapes.read_parameter shape.now) self.old self.new result }
+        ensures reads { ReadsParameter sig.now file_kind table.old table.new (shapes.read_parameter shape.now) self.old self.new result }
         ensures count { OnOk result (length self.new.params ≡ suc (length self.old.params)) }
         ensures grows { Grows table.old table.new }
     {
@@ -104,7 +104,7 @@ impl Bound {
         if self.has(shape.name) {
             return Err(ElabRefused::Redeclared);
         }
-        let ty = term_at(alloc, &shape.ty, &self.locals, setting, sig, table)?;
+        let ty = elaborate_in(alloc, &shape.ty, &self.locals, file_kind, sig, table)?;
         let id = parameter(table, self.params.as_slice().len() as u8)?;
         let param = Param {
             name: Name::new(alloc, shape.name)?,
@@ -116,7 +116,7 @@ impl Bound {
         Ok(())
     }
 
-    // Reads one parameter more, which stands for a type.
+    // Reads one more parameter, which is a type.
     fn name_type(
         &mut self,
         alloc: Global,
@@ -154,7 +154,7 @@ impl Bound {
             .any(|p| p.name.as_bytes() == name)
     }
 
-    // Adds a parameter, for which its name stands as this term.
+    // Adds a parameter, whose name means this term.
     fn push(&mut self, param: Param, id: Id) -> Result<(), AllocError>
         ensures params { OnOk result (self.new.params ≡ self.old.params ++ param ∷ []) }
         ensures locals { OnOk result (self.new.locals ≡ local param.name id param.list ∷ self.old.locals) }

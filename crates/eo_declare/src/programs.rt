@@ -13,11 +13,11 @@ ghost use Rattle.eo_names.specs.Worlds.{world_of};
 ghost use Rattle.eo_elab.specs.Worlds.{context_in};
 ghost use Rattle.eo_declare.specs.Worlds.{case_in, cases_in};
 
-use crate::constants::{mean_terms, meanings};
+use crate::constants::{elaborate_terms, meanings};
 use crate::parameters::{Bound, bind};
 use eo_base::Name;
 use eo_base::limits::PARAMETERS;
-use eo_elab::{ElabRefused, Locals, Setting, mean_term, term};
+use eo_elab::{ElabRefused, FileKind, Locals, elaborate_view, term};
 use eo_names::names_law;
 use eo_shape::{CaseShape, CaseShapes, ProgramShape};
 use eo_sig::{Case, Cases, ProgramDecl, Signature, SignatureView};
@@ -25,7 +25,7 @@ use eo_term::Table;
 use std::alloc::Global;
 
 /// `(program NAME (PARAMETER ..) :signature (INPUT ..) OUTPUT (CASE ..))`: a program. In its cases
-/// its name stands for it.
+/// its name means the program.
 ///
 /// A refusal is the first fault, in this order:
 ///
@@ -83,7 +83,7 @@ fn program(
     if shape.inputs.len() > PARAMETERS {
         return Err(ElabRefused::Parameters);
     }
-    let bound = bind(alloc, &shape.params, Setting::Proof, sig, table)?;
+    let bound = bind(alloc, &shape.params, FileKind::Proof, sig, table)?;
     program_over(alloc, shape, bound, sig, table)
 }
 
@@ -137,7 +137,7 @@ fn with_cases(
     Ok(program)
 }
 
-// The cases of a program, whose name stands for it in them.
+// The cases of a program, in which its name means the program.
 fn own_cases(
     alloc: Global,
     head: &ProgramDecl,
@@ -153,11 +153,11 @@ fn own_cases(
 {
     let view = SignatureView::with_program(sig, head);
     let inputs = head.inputs.as_slice().len();
-    mean_cases(alloc, cases, inputs, locals, &view, table)
+    elaborate_cases(alloc, cases, inputs, locals, &view, table)
 }
 
 // The cases of a program with so many inputs.
-fn mean_cases(
+fn elaborate_cases(
     alloc: Global,
     shapes: &CaseShapes<'_>,
     inputs: usize,
@@ -172,14 +172,14 @@ fn mean_cases(
     names_law();
     let mut cases = Cases::new(alloc);
     for shape in shapes.again() {
-        let case = mean_case(alloc, &shape, inputs, locals, sig, table)?;
+        let case = elaborate_case(alloc, &shape, inputs, locals, sig, table)?;
         cases.push(case)?;
     }
     Ok(cases)
 }
 
 // A case of a program with so many inputs.
-fn mean_case(
+fn elaborate_case(
     alloc: Global,
     shape: &CaseShape<'_>,
     inputs: usize,
@@ -195,7 +195,7 @@ fn mean_case(
     if shape.patterns.len() != inputs {
         return Err(ElabRefused::BadArity);
     }
-    let patterns = mean_terms(alloc, &shape.patterns, locals, Setting::Proof, sig, table)?;
-    let body = mean_term(alloc, &shape.body, locals, Setting::Proof, sig, table)?;
+    let patterns = elaborate_terms(alloc, &shape.patterns, locals, FileKind::Proof, sig, table)?;
+    let body = elaborate_view(alloc, &shape.body, locals, FileKind::Proof, sig, table)?;
     Ok(Case { patterns, body })
 }

@@ -15,7 +15,7 @@ use crate::parameters::{Bound, bind, bind_types};
 use crate::{declared_const, declared_fun, declared_sort};
 use eo_base::Name;
 use eo_base::limits::PARAMETERS;
-use eo_elab::{ElabRefused, Setting, term_at};
+use eo_elab::{ElabRefused, FileKind, elaborate_in};
 use eo_names::names_law;
 use eo_sexp::Sexp;
 use eo_shape::{Command, ParameterShapes, Symbols};
@@ -44,14 +44,14 @@ pub fn reference_declaration(
     ensures refused { OnErr result (table.new ≡ table.old) }
     ensures grows { GrowsUnder sig.now table.old table.new }
 {
-    let setting = Setting::Reference;
+    let file_kind = FileKind::Reference;
     match command {
         Command::DeclareConst {
             name,
             ty,
             attribute,
         } => {
-            let d = declared_const(alloc, name, ty, attribute, setting, sig, table)?;
+            let d = declared_const(alloc, name, ty, attribute, file_kind, sig, table)?;
             Ok(Declaration::Const(d))
         }
         Command::DeclareFun {
@@ -59,11 +59,11 @@ pub fn reference_declaration(
             inputs,
             output,
         } => {
-            let d = declared_fun(alloc, name, inputs, output, setting, sig, table)?;
+            let d = declared_fun(alloc, name, inputs, output, file_kind, sig, table)?;
             Ok(Declaration::Const(d))
         }
         Command::DeclareSort { name, arity } => {
-            let d = declared_sort(alloc, name, *arity, setting, sig, table)?;
+            let d = declared_sort(alloc, name, *arity, file_kind, sig, table)?;
             Ok(Declaration::Const(d))
         }
         Command::DefineFun {
@@ -143,7 +143,7 @@ fn function_macro(
     if params.len() > PARAMETERS {
         return Err(ElabRefused::Parameters);
     }
-    let bound = bind(alloc, params, Setting::Reference, sig, table)?;
+    let bound = bind(alloc, params, FileKind::Reference, sig, table)?;
     typed_macro(alloc, name, bound, output, body, sig, table)
 }
 
@@ -165,8 +165,15 @@ fn typed_macro(
 {
     sig.laws();
     names_law();
-    term_at(alloc, output, &bound.locals, Setting::Reference, sig, table)?;
-    let tree = term_at(alloc, body, &bound.locals, Setting::Reference, sig, table)?;
+    elaborate_in(
+        alloc,
+        output,
+        &bound.locals,
+        FileKind::Reference,
+        sig,
+        table,
+    )?;
+    let tree = elaborate_in(alloc, body, &bound.locals, FileKind::Reference, sig, table)?;
     Ok(MacroDecl {
         name: Name::new(alloc, name)?,
         params: bound.params,
@@ -175,8 +182,8 @@ fn typed_macro(
     })
 }
 
-/// `(define-sort NAME (PARAMETER ..) TYPE)` of a reference file: a macro, whose parameters stand
-/// for types.
+/// `(define-sort NAME (PARAMETER ..) TYPE)` of a reference file: a macro, whose parameters are
+/// types.
 ///
 /// A refusal is the first fault, in this order:
 ///
@@ -232,7 +239,7 @@ fn sort_macro(
         return Err(ElabRefused::Parameters);
     }
     let bound = bind_types(alloc, params, table)?;
-    let tree = term_at(alloc, ty, &bound.locals, Setting::Reference, sig, table)?;
+    let tree = elaborate_in(alloc, ty, &bound.locals, FileKind::Reference, sig, table)?;
     Ok(MacroDecl {
         name: Name::new(alloc, name)?,
         params: bound.params,

@@ -18,7 +18,7 @@ use crate::constants::meanings;
 use crate::parameters::{Bound, bind};
 use eo_base::Name;
 use eo_base::limits::PARAMETERS;
-use eo_elab::{ElabRefused, Locals, Setting, term};
+use eo_elab::{ElabRefused, FileKind, Locals, term};
 use eo_names::names_law;
 use eo_sexp::Sexp;
 use eo_shape::{PairShape, PairShapes, PremisesShape, RuleShape};
@@ -100,7 +100,7 @@ fn rule(
     if shape.params.len() > PARAMETERS {
         return Err(ElabRefused::Parameters);
     }
-    let bound = bind(alloc, &shape.params, Setting::Proof, sig, table)?;
+    let bound = bind(alloc, &shape.params, FileKind::Proof, sig, table)?;
     rule_over(alloc, shape, bound, sig, table)
 }
 

@@ -11,10 +11,10 @@ use Rattle.eo_term.specs.Terms.{Terms, tree_at}
 use Rattle.eo_term.specs.Tree.{Tree}
 use Rattle.eo_names.specs.Contexts.{Context}
 use Rattle.eo_names.specs.Names.{Binding, BindingsBelow, names_in}
-use Rattle.eo_names.specs.Readers.{Label}
+use Rattle.eo_names.specs.Readers.{NamedTerm}
 use Rattle.eo_elab.specs.Gives.{NamesGrow}
-use Rattle.eo_elab.specs.Meaning.{is_free_label, label}
-use Rattle.eo_elab.specs.Worlds.{labels_in}
+use Rattle.eo_elab.specs.Meaning.{is_free_named_term, label}
+use Rattle.eo_elab.specs.Worlds.{named_terms_in}
 
 -- ---- names
 
@@ -24,28 +24,28 @@ behind names o = option_map (λ more. names ++ more) o
 
 -- ---- names that are given
 
-pub named_labels : (t : Terms) (bs : List Binding) (name : List ℕ) → list_any (λ (l : Label). bytes_eq l.name name) (labels_in t bs) ≡ names_in bs name
-named_labels t [] name = refl
-named_labels t (b ∷ bs) name = ap (λ m. bytes_eq b.0 name || m) (named_labels t bs name)
+pub given_named_terms : (t : Terms) (bs : List Binding) (name : List ℕ) → list_any (λ (l : NamedTerm). bytes_eq l.name name) (named_terms_in t bs) ≡ names_in bs name
+given_named_terms t [] name = refl
+given_named_terms t (b ∷ bs) name = ap (λ m. bytes_eq b.0 name || m) (given_named_terms t bs name)
 
-pub labels_pushed : (t : Terms) (bs : List Binding) (name : List ℕ) (i : ℕ) → labels_in t (bs ++ (name, i) ∷ []) ≡ labels_in t bs ++ record { name = name; tree = tree_at t.trees i } ∷ []
-labels_pushed t bs name i = map-append (λ (b : Binding). record { name = b.0; tree = tree_at t.trees b.1 }) bs ((name, i) ∷ [])
+pub named_terms_pushed : (t : Terms) (bs : List Binding) (name : List ℕ) (i : ℕ) → named_terms_in t (bs ++ (name, i) ∷ []) ≡ named_terms_in t bs ++ record { name = name; tree = tree_at t.trees i } ∷ []
+named_terms_pushed t bs name i = map-append (λ (b : Binding). record { name = b.0; tree = tree_at t.trees b.1 }) bs ((name, i) ∷ [])
 
 module _ (c : Context) (t : Terms) (i : ℕ) (bs : List Binding) (name : List ℕ) (names : List (List ℕ)) where
-  abbrev by_free : Bool → Checked (Tree × List Label)
-  by_free b = if b then label c (tree_at t.trees i) names (labels_in t bs ++ record { name = name; tree = tree_at t.trees i } ∷ []) else Err Redeclared
+  abbrev by_free : Bool → Checked (Tree × List NamedTerm)
+  by_free b = if b then label c (tree_at t.trees i) names (named_terms_in t bs ++ record { name = name; tree = tree_at t.trees i } ∷ []) else Err Redeclared
 
-  free_now : is_free_label c (labels_in t bs) name ≡ (is_free c.signature c.macros name && not (names_in bs name))
-  free_now = ap (λ b. is_free c.signature c.macros name && not b) (named_labels t bs name)
+  free_now : is_free_named_term c (named_terms_in t bs) name ≡ (is_free c.signature c.macros name && not (names_in bs name))
+  free_now = ap (λ b. is_free c.signature c.macros name && not b) (given_named_terms t bs name)
 
-  pub label_next : is_free c.signature c.macros name ≡ true → names_in bs name ≡ false → label c (tree_at t.trees i) (name ∷ names) (labels_in t bs) ≡ label c (tree_at t.trees i) names (labels_in t (bs ++ (name, i) ∷ []))
-  label_next free new = ap by_free (free_now ∙ (λ j. free j && not (new j))) ∙ ap (label c (tree_at t.trees i) names) (sym (labels_pushed t bs name i))
+  pub named_term_next : is_free c.signature c.macros name ≡ true → names_in bs name ≡ false → label c (tree_at t.trees i) (name ∷ names) (named_terms_in t bs) ≡ label c (tree_at t.trees i) names (named_terms_in t (bs ++ (name, i) ∷ []))
+  named_term_next free new = ap by_free (free_now ∙ (λ j. free j && not (new j))) ∙ ap (label c (tree_at t.trees i) names) (sym (named_terms_pushed t bs name i))
 
-  pub label_reserved : is_free c.signature c.macros name ≡ false → label c (tree_at t.trees i) (name ∷ names) (labels_in t bs) ≡ Err Redeclared
-  label_reserved taken = ap by_free (free_now ∙ (λ j. taken j && not (names_in bs name)))
+  pub named_term_reserved : is_free c.signature c.macros name ≡ false → label c (tree_at t.trees i) (name ∷ names) (named_terms_in t bs) ≡ Err Redeclared
+  named_term_reserved taken = ap by_free (free_now ∙ (λ j. taken j && not (names_in bs name)))
 
-  pub label_twice : is_free c.signature c.macros name ≡ true → names_in bs name ≡ true → label c (tree_at t.trees i) (name ∷ names) (labels_in t bs) ≡ Err Redeclared
-  label_twice free twice = ap by_free (free_now ∙ (λ j. free j && not (twice j)))
+  pub named_term_twice : is_free c.signature c.macros name ≡ true → names_in bs name ≡ true → label c (tree_at t.trees i) (name ∷ names) (named_terms_in t bs) ≡ Err Redeclared
+  named_term_twice free twice = ap by_free (free_now ∙ (λ j. free j && not (twice j)))
 
 -- one name more
 pub name_added : (t : Terms) (bs : List Binding) (name : List ℕ) (i : ℕ) → i < length t.trees → BindingsBelow (length t.trees) bs → NamesGrow t bs (bs ++ (name, i) ∷ [])

@@ -3,7 +3,7 @@ use Rattle.std.proofs.Common.{◌≡◌, ℕ, ◌+◌, ◌*◌, ◌<◌, ◌≤�
 use Rattle.std.specs.Prelude.{reverse, Result, Ok, Err, false, bytes_eq, Some, None, drop}
 use Rattle.std.proofs.lemmas.List.{reverse-append, append_assoc}
 use Rattle.std.proofs.lemmas.List.Elements.{All-head, All-tail, All-weaker}
-use Rattle.eo_elab.proofs.Giving.{relabelled, made_labels, labels_grown, use_more}
+use Rattle.eo_elab.proofs.Giving.{relabelled, made_named_terms, named_terms_grown, use_more}
 use Rattle.std.specs.Result.{IsErrAnd}
 use Rattle.eo_base.specs.Answers.{Tells}
 use Rattle.eo_base.proofs.Answering.{tells_on}
@@ -17,7 +17,7 @@ use Rattle.eo_term.specs.Tree.{Tree, Con}
 use Rattle.eo_term.specs.Terms.{Terms, tree_at}
 use Rattle.eo_term.specs.Growth.{tree_in, trees_in}
 use Rattle.eo_names.specs.Names.{Binding, binding_local, bound_by, read_pairs, read_locals, BindingsBelow, AreBelow}
-use Rattle.eo_names.specs.Readers.{Label, Reader, ◌>>=◌, give, built, go_on, with_labels}
+use Rattle.eo_names.specs.Readers.{NamedTerm, Reader, ◌>>=◌, give, built, go_on, with_named_terms}
 use Rattle.std.specs.List.{list_any}
 use Rattle.eo_names.specs.Binders.{pair_local, variable, variable_list}
 use Rattle.eo_names.specs.Contexts.{is_list as is_list_tree}
@@ -25,18 +25,18 @@ use Rattle.eo_names.specs.Folding.{applied}
 use Rattle.eo_names.specs.Refused.{told}
 use Rattle.eo_names.specs.Usage.{made_of, Suits, UseBelow}
 use Rattle.eo_names.specs.declared.refused.ElabRefused.{ElabRefused}
-use Rattle.eo_names.specs.declared.usage.Use.{Use}
+use Rattle.eo_names.specs.declared.usage.Head.{Head}
 use Rattle.eo_elab.specs.Gives.{atom_told}
 use Rattle.eo_elab.proofs.WalkSteps.{of_no_list, all_next, all_fault, all_end, all_alone, no_binder, bound_after, binder_step, let_step, pairs_end, pairs_next, pairs_fault}
 use Rattle.eo_names.specs.Ready.{IsReady}
-use Rattle.eo_names.specs.Scopes.{bound_in, setting_in}
+use Rattle.eo_names.specs.Scopes.{bound_in, file_kind_in}
 use Rattle.eo_names.specs.declared.locals.LocalName.{LocalName}
 use Rattle.eo_names.specs.Worlds.{World, Read}
 use Rattle.eo_names.specs.declared.scope.Scope.{Scope}
-use Rattle.eo_elab.specs.Worlds.{labels_in, term_in, sexps, use_in, let_in, pairs_in, binder_in, in_setting, parts_in, all_in}
+use Rattle.eo_elab.specs.Worlds.{named_terms_in, term_in, sexps, use_in, let_in, pairs_in, binder_in, in_file_kind, parts_in, all_in}
 use Rattle.eo_elab.specs.Forms.{binding_of}
 use Rattle.eo_elab.specs.Meaning.{means, means_all}
-use Rattle.eo_names.specs.declared.usage.Use.TheVariants as use_
+use Rattle.eo_names.specs.declared.usage.Head.TheVariants as use_
 use Rattle.eo_names.specs.Laws.{IsInside, NamesStay, UseStays}
 use Rattle.eo_term.specs.Growth.{Grows}
 use Rattle.eo_elab.specs.declared.waiting.Frame.{Frame}
@@ -62,13 +62,13 @@ module _ (k : Kept) (s : Scope) (t : Terms) where
   around_append blocks [] ys = refl
   around_append blocks (x ∷ xs) ys = around_append (around x blocks) xs ys
 
-  module _ (labels : List Binding) where
+  module _ (named_terms : List Binding) where
     -- a meaning is there, and nothing more waits
-    pub give_on : (blocks : Blocks) (before : List Frame) (most i : ℕ) (r : Read Tree) → IsReady (length t.trees) k (bound_by blocks ++ bound_in s) → i < length t.trees → r ≡ Ok (tree_in t i, labels_in t labels) → 1 ≤ most → GoesOn k s t labels blocks blocks before before most (now.Give i) r
+    pub give_on : (blocks : Blocks) (before : List Frame) (most i : ℕ) (r : Read Tree) → IsReady (length t.trees) k (bound_by blocks ++ bound_in s) → i < length t.trees → r ≡ Ok (tree_in t i, named_terms_in t named_terms) → 1 ≤ most → GoesOn k s t named_terms blocks blocks before before most (now.Give i) r
     give_on blocks before most i r ready live e less = record { more = []; waits = refl; left = refl; live = tt; ready = ready; given = live; is = e; less = omega (arith, less) }
 
     -- a term is read, and one thing more waits
-    pub wait_on : (blocks inner : Blocks) (before after : List Frame) (most : ℕ) (f : Frame) (x : Sexp) (r : Read Tree) → after ≡ before ++ f ∷ [] → around f inner ≡ blocks → FrameBelow (length t.trees) f → IsReady (length t.trees) k (bound_by inner ++ bound_in s) → r ≡ finished k s t inner (f ∷ []) (term_in (inside t k s inner) x (labels_in t labels)) → weight f + 4 * size x ≤ most → GoesOn k s t labels blocks inner before after most (now.Read x) r
+    pub wait_on : (blocks inner : Blocks) (before after : List Frame) (most : ℕ) (f : Frame) (x : Sexp) (r : Read Tree) → after ≡ before ++ f ∷ [] → around f inner ≡ blocks → FrameBelow (length t.trees) f → IsReady (length t.trees) k (bound_by inner ++ bound_in s) → r ≡ finished k s t inner (f ∷ []) (term_in (inside t k s inner) x (named_terms_in t named_terms)) → weight f + 4 * size x ≤ most → GoesOn k s t named_terms blocks inner before after most (now.Read x) r
     wait_on blocks inner before after most f x r e same live ready is less = record {
       more = f ∷ [];
       waits = ap reverse e ∙ reverse-append before (f ∷ []);
@@ -81,87 +81,87 @@ module _ (k : Kept) (s : Scope) (t : Terms) where
     }
 
 -- the exit of a `?` ends with the same fault
-pub goes_fault : (k : Kept) (s : Scope) (t : Terms) (labels : List Binding) (blocks inner : Blocks) (before after : List Frame) (most : ℕ) (r : Result Now ElabRefused) (e : ElabRefused) (o : Read Tree) → IsErrAnd r (λ x. x ≡ e) → Tells told e o → Goes k s t labels blocks inner before after most r o
-goes_fault k s t labels blocks inner before after most (Ok n) e o q h = absurd q
-goes_fault k s t labels blocks inner before after most (Err x) e o q h = subst (λ y. Tells told y o) (sym q) h
+pub goes_fault : (k : Kept) (s : Scope) (t : Terms) (named_terms : List Binding) (blocks inner : Blocks) (before after : List Frame) (most : ℕ) (r : Result Now ElabRefused) (e : ElabRefused) (o : Read Tree) → IsErrAnd r (λ x. x ≡ e) → Tells told e o → Goes k s t named_terms blocks inner before after most r o
+goes_fault k s t named_terms blocks inner before after most (Ok n) e o q h = absurd q
+goes_fault k s t named_terms blocks inner before after most (Err x) e o q h = subst (λ y. Tells told y o) (sym q) h
 
-module _ (w : World) (ts : List Tree) (u : Use) (labels : List Label) where
+module _ (w : World) (ts : List Tree) (u : Head) (named_terms : List NamedTerm) where
   -- the first of the arguments that are left is read, and then the others
-  pub argument_first : (before : List Tree) (x : Sexp) (rest : List Sexp) → arguments_after w ts u before (x ∷ rest) labels ≡ go_on (λ t. arguments_after w ts u (before ++ t ∷ []) rest) (term_in w x labels)
-  argument_first before x rest = by (term_in w x labels) refl
+  pub argument_first : (before : List Tree) (x : Sexp) (rest : List Sexp) → arguments_after w ts u before (x ∷ rest) named_terms ≡ go_on (λ t. arguments_after w ts u (before ++ t ∷ []) rest) (term_in w x named_terms)
+  argument_first before x rest = by (term_in w x named_terms) refl
     where
-      by : (o : Read Tree) → term_in w x labels ≡ o → arguments_after w ts u before (x ∷ rest) labels ≡ go_on (λ t. arguments_after w ts u (before ++ t ∷ []) rest) o
-      by (Ok p) e = ap (go_on (made_of ts w.names w.locals u)) (all_next w.names w.locals labels x (sexps rest) before p.0 p.1 e)
-      by (Err fault) e = ap (go_on (made_of ts w.names w.locals u)) (all_fault w.names w.locals labels x (sexps rest) before fault e)
+      by : (o : Read Tree) → term_in w x named_terms ≡ o → arguments_after w ts u before (x ∷ rest) named_terms ≡ go_on (λ t. arguments_after w ts u (before ++ t ∷ []) rest) o
+      by (Ok p) e = ap (go_on (made_of ts w.names w.locals u)) (all_next w.names w.locals named_terms x (sexps rest) before p.0 p.1 e)
+      by (Err fault) e = ap (go_on (made_of ts w.names w.locals u)) (all_fault w.names w.locals named_terms x (sexps rest) before fault e)
 
-  pub argument_end : (before : List Tree) → arguments_after w ts u before [] labels ≡ used_by w ts u before labels
-  argument_end before = ap (go_on (made_of ts w.names w.locals u)) (all_end w.names w.locals labels before)
+  pub argument_end : (before : List Tree) → arguments_after w ts u before [] named_terms ≡ used_by w ts u before named_terms
+  argument_end before = ap (go_on (made_of ts w.names w.locals u)) (all_end w.names w.locals named_terms before)
 
-pub suits_more : (u : Use) (n m : ℕ) → n ≡ m → Suits u n → Suits u m
+pub suits_more : (u : Head) (n m : ℕ) → n ≡ m → Suits u n → Suits u m
 suits_more u n m e h = subst (Suits u) e h
 
-module _ (w : World) (n : Next) (labels : List Label) where
+module _ (w : World) (n : Next) (named_terms : List NamedTerm) where
   -- the first of the pairs that are left, and then the others
   pub pair_first : (before : List (List ℕ × Tree)) (p x : Sexp) (name : List ℕ) (rest : List Sexp) → Some (name, x) ≡ binding_of p → list_any (λ (q : List ℕ × Tree). bytes_eq q.0 name) before ≡ false
-      → pairs_then w n before (p ∷ rest) labels ≡ go_on (λ t. pairs_then w n (before ++ (name, t) ∷ []) rest) (term_in w x labels)
-  pair_first before p x name rest e new = by (term_in w x labels) refl
+      → pairs_then w n before (p ∷ rest) named_terms ≡ go_on (λ t. pairs_then w n (before ++ (name, t) ∷ []) rest) (term_in w x named_terms)
+  pair_first before p x name rest e new = by (term_in w x named_terms) refl
     where
-      by : (o : Read Tree) → term_in w x labels ≡ o → pairs_then w n before (p ∷ rest) labels ≡ go_on (λ t. pairs_then w n (before ++ (name, t) ∷ []) rest) o
-      by (Ok q) h = ap (go_on (with_names w n)) (pairs_next w.names w.locals labels p x name (sexps rest) before q.0 q.1 e new h)
-      by (Err fault) h = ap (go_on (with_names w n)) (pairs_fault w.names w.locals labels p x name (sexps rest) before fault e new h)
+      by : (o : Read Tree) → term_in w x named_terms ≡ o → pairs_then w n before (p ∷ rest) named_terms ≡ go_on (λ t. pairs_then w n (before ++ (name, t) ∷ []) rest) o
+      by (Ok q) h = ap (go_on (with_names w n)) (pairs_next w.names w.locals named_terms p x name (sexps rest) before q.0 q.1 e new h)
+      by (Err fault) h = ap (go_on (with_names w n)) (pairs_fault w.names w.locals named_terms p x name (sexps rest) before fault e new h)
 
-  pub pair_end : (before : List (List ℕ × Tree)) → pairs_then w n before [] labels ≡ with_names w n before labels
-  pair_end before = ap (go_on (with_names w n)) (pairs_end w.names w.locals labels before)
+  pub pair_end : (before : List (List ℕ × Tree)) → pairs_then w n before [] named_terms ≡ with_names w n before named_terms
+  pair_end before = ap (go_on (with_names w n)) (pairs_end w.names w.locals named_terms before)
 
--- a `let` and a binder are their pairs, and then what stands behind them
-pub let_pairs : (w : World) (pairs body : Sexp) (labels : List Label) → let_in w (pairs ∷ body ∷ []) labels ≡ pairs_first w (next.Body body) pairs labels
-let_pairs w pairs body labels = let_step w.names w.locals labels pairs body
+-- a `let` and a binder are their pairs, and then what is after them
+pub let_pairs : (w : World) (pairs body : Sexp) (named_terms : List NamedTerm) → let_in w (pairs ∷ body ∷ []) named_terms ≡ pairs_first w (next.Body body) pairs named_terms
+let_pairs w pairs body named_terms = let_step w.names w.locals named_terms pairs body
 
-pub binder_pairs : (w : World) (ts : List Tree) (binder collector : ℕ) (pairs : Sexp) (others : List Sexp) (labels : List Label)
-    → go_on (made_of ts w.names w.locals (use_.Bind binder collector)) (binder_in w (pairs ∷ others) collector labels) ≡ pairs_first w (next.Others binder collector others) pairs labels
-binder_pairs w ts binder collector pairs others labels = ap (go_on (made_of ts w.names w.locals (use_.Bind binder collector))) (binder_step w.names w.locals labels pairs (sexps others) collector) ∙ by (pairs_in w pairs labels)
+pub binder_pairs : (w : World) (ts : List Tree) (binder collector : ℕ) (pairs : Sexp) (others : List Sexp) (named_terms : List NamedTerm)
+    → go_on (made_of ts w.names w.locals (use_.Bind binder collector)) (binder_in w (pairs ∷ others) collector named_terms) ≡ pairs_first w (next.Others binder collector others) pairs named_terms
+binder_pairs w ts binder collector pairs others named_terms = ap (go_on (made_of ts w.names w.locals (use_.Bind binder collector))) (binder_step w.names w.locals named_terms pairs (sexps others) collector) ∙ by (pairs_in w pairs named_terms)
   where
-    by : (o : Read (List (List ℕ × Tree))) → go_on (made_of ts w.names w.locals (use_.Bind binder collector)) (go_on (bound_after w.names w.locals labels (sexps others) collector) o) ≡ go_on (with_names w (next.Others binder collector others)) o
+    by : (o : Read (List (List ℕ × Tree))) → go_on (made_of ts w.names w.locals (use_.Bind binder collector)) (go_on (bound_after w.names w.locals named_terms (sexps others) collector) o) ≡ go_on (with_names w (next.Others binder collector others)) o
     by (Ok p) = refl
     by (Err fault) = refl
 
 -- arguments of what is no binder
-pub plain_arguments : (t : Terms) (w : World) (h : Sexp) (args : List Sexp) (u : Use) (labels : List Label) → ((binder collector : ℕ) → u ≡ use_.Bind binder collector → ⊥) → use_in w t h args u labels ≡ arguments_after w t.trees u [] args labels
-plain_arguments t w h args u labels differs =
-    ap (λ (r : Reader (List Tree)). go_on (made_of t.trees w.names w.locals u) (r labels)) (no_binder (parts_in w h args) u differs) ∙ ap (go_on (made_of t.trees w.names w.locals u)) (all_alone w.names w.locals labels (parts_in w h args).arguments)
+pub plain_arguments : (t : Terms) (w : World) (h : Sexp) (args : List Sexp) (u : Head) (named_terms : List NamedTerm) → ((binder collector : ℕ) → u ≡ use_.Bind binder collector → ⊥) → use_in w t h args u named_terms ≡ arguments_after w t.trees u [] args named_terms
+plain_arguments t w h args u named_terms differs =
+    ap (λ (r : Reader (List Tree)). go_on (made_of t.trees w.names w.locals u) (r named_terms)) (no_binder (parts_in w h args) u differs) ∙ ap (go_on (made_of t.trees w.names w.locals u)) (all_alone w.names w.locals named_terms (parts_in w h args).arguments)
 
 -- the exit of a `?` ends with the fault of all terms
-pub reads_fault : (w : World) (old new : Terms) (before after : List ℕ) (terms : List Sexp) (r : Result (List Sexp) ElabRefused) (e : ElabRefused) → IsErrAnd r (λ x. x ≡ e) → ((labels : List Label) → Tells told e (all_in w (trees_in old before) terms labels)) → ReadsOn w old new before after terms r
+pub reads_fault : (w : World) (old new : Terms) (before after : List ℕ) (terms : List Sexp) (r : Result (List Sexp) ElabRefused) (e : ElabRefused) → IsErrAnd r (λ x. x ≡ e) → ((named_terms : List NamedTerm) → Tells told e (all_in w (trees_in old before) terms named_terms)) → ReadsOn w old new before after terms r
 reads_fault w old new before after terms (Ok left) e q h = absurd q
-reads_fault w old new before after terms (Err x) e q h = subst (λ y. (labels : List Label) → Tells told y (all_in w (trees_in old before) terms labels)) (sym q) h
+reads_fault w old new before after terms (Err x) e q h = subst (λ y. (named_terms : List NamedTerm) → Tells told y (all_in w (trees_in old before) terms named_terms)) (sym q) h
 
--- the first of several terms is an atom, behind those before it
-module _ (w : World) (before : List Tree) (x : Sexp) (rest : List Sexp) (labels : List Label) (alone : None ≡ list_in x) where
-  pub atom_next : (t : Tree) → atom_told w (sexp_kind x) (sexp_text x) ≡ Ok t → all_in w before (x ∷ rest) labels ≡ all_in w (before ++ t ∷ []) rest labels
-  atom_next t e = all_next w.names w.locals labels x (sexps rest) before t labels (of_no_list w x labels alone ∙ ap (with_labels labels) e)
+-- the first of several terms is an atom, after those before it
+module _ (w : World) (before : List Tree) (x : Sexp) (rest : List Sexp) (named_terms : List NamedTerm) (alone : None ≡ list_in x) where
+  pub atom_next : (t : Tree) → atom_told w (sexp_kind x) (sexp_text x) ≡ Ok t → all_in w before (x ∷ rest) named_terms ≡ all_in w (before ++ t ∷ []) rest named_terms
+  atom_next t e = all_next w.names w.locals named_terms x (sexps rest) before t named_terms (of_no_list w x named_terms alone ∙ ap (with_named_terms named_terms) e)
 
-  pub atom_fault : (fault : FaultName) → atom_told w (sexp_kind x) (sexp_text x) ≡ Err fault → all_in w before (x ∷ rest) labels ≡ Err fault
-  atom_fault fault e = all_fault w.names w.locals labels x (sexps rest) before fault (of_no_list w x labels alone ∙ ap (with_labels labels) e)
+  pub atom_fault : (fault : FaultName) → atom_told w (sexp_kind x) (sexp_text x) ≡ Err fault → all_in w before (x ∷ rest) named_terms ≡ Err fault
+  atom_fault fault e = all_fault w.names w.locals named_terms x (sexps rest) before fault (of_no_list w x named_terms alone ∙ ap (with_named_terms named_terms) e)
 
 -- what is read inside of names that are bound
-inner_same : (r : Read Tree) → r ≡ go_on (λ t labels. Ok (t, labels)) r
+inner_same : (r : Read Tree) → r ≡ go_on (λ t named_terms. Ok (t, named_terms)) r
 inner_same (Ok p) = refl
 inner_same (Err fault) = refl
 
-pub inner_reads : (k : Kept) (s : Scope) (t : Terms) (blocks : Blocks) (bs : List Binding) (x : Sexp) (labels : List Label) → IsInside bs (bound_by blocks ++ bound_in s)
-    → with_names (inside t k s blocks) (next.Body x) (read_pairs t.trees bs) labels ≡ finished k s t (bs ∷ blocks) (frame.Inner ∷ []) (term_in (inside t k s (bs ∷ blocks)) x labels)
-inner_reads k s t blocks bs x labels is =
+pub inner_reads : (k : Kept) (s : Scope) (t : Terms) (blocks : Blocks) (bs : List Binding) (x : Sexp) (named_terms : List NamedTerm) → IsInside bs (bound_by blocks ++ bound_in s)
+    → with_names (inside t k s blocks) (next.Body x) (read_pairs t.trees bs) named_terms ≡ finished k s t (bs ∷ blocks) (frame.Inner ∷ []) (term_in (inside t k s (bs ∷ blocks)) x named_terms)
+inner_reads k s t blocks bs x named_terms is =
     let same : read_locals t.trees (bound_by (bs ∷ blocks) ++ bound_in s) ≡ map pair_local (read_pairs t.trees bs) ++ read_locals t.trees (bound_by blocks ++ bound_in s) = ap (read_locals t.trees) (append_assoc (map binding_local bs) (bound_by blocks) (bound_in s)) ∙ is.locals t.trees in
-    ap (λ ls. means (inside t k s blocks).names ls x labels) (sym same) ∙ inner_same (term_in (inside t k s (bs ∷ blocks)) x labels)
+    ap (λ ls. means (inside t k s blocks).names ls x named_terms) (sym same) ∙ inner_same (term_in (inside t k s (bs ∷ blocks)) x named_terms)
 
 -- inside of names that are bound all is there
 pub inner_ready : (n : ℕ) (k : Kept) (s : Scope) (blocks : Blocks) (bs : List Binding) → IsInside bs (bound_by blocks ++ bound_in s) → BindingsBelow n bs → IsReady n k (bound_by blocks ++ bound_in s) → IsReady n k (bound_by (bs ∷ blocks) ++ bound_in s)
 inner_ready n k s blocks bs is below ready = record { below = ready.below; names = subst (AreBelow n) (sym (append_assoc (map binding_local bs) (bound_by blocks) (bound_in s))) (is.below n below ready.names) }
 
 -- the same of what is the same, with more left
-pub goes_on : (k : Kept) (s : Scope) (t : Terms) (labels : List Binding) (blocks inner : Blocks) (before after : List Frame) (most more : ℕ) (r : Result Now ElabRefused) (o p : Read Tree) → o ≡ p → most ≤ more → Goes k s t labels blocks inner before after most r p → Goes k s t labels blocks inner before after more r o
-goes_on k s t labels blocks inner before after most more (Ok n) o p e l g = record { more = g.more; waits = g.waits; left = g.left; live = g.live; ready = g.ready; given = g.given; is = e ∙ g.is; less = let h = g.less in omega (arith, h, l) }
-goes_on k s t labels blocks inner before after most more (Err x) o p e l g = tells_on told x o p (λ f q. e ∙ q) g
+pub goes_on : (k : Kept) (s : Scope) (t : Terms) (named_terms : List Binding) (blocks inner : Blocks) (before after : List Frame) (most more : ℕ) (r : Result Now ElabRefused) (o p : Read Tree) → o ≡ p → most ≤ more → Goes k s t named_terms blocks inner before after most r p → Goes k s t named_terms blocks inner before after more r o
+goes_on k s t named_terms blocks inner before after most more (Ok n) o p e l g = record { more = g.more; waits = g.waits; left = g.left; live = g.live; ready = g.ready; given = g.given; is = e ∙ g.is; less = let h = g.less in omega (arith, h, l) }
+goes_on k s t named_terms blocks inner before after most more (Err x) o p e l g = tells_on told x o p (λ f q. e ∙ q) g
 
 -- over a table that grows
 
@@ -186,44 +186,44 @@ around_ready n k s blocks (frame.Argument u before rest) h = h
 around_ready n k s blocks (frame.Beside b) h = h
 around_ready n k s blocks (frame.Annotated attributes) h = h
 
-module _ (k : Kept) (s : Scope) (old new : Terms) (g : Grows old new) (stays : (ls : List LocalName) → NamesStay k ls) (uses : (u : Use) → UseStays u) where
-  made_grown : (w : World) (u : Use) (ts : List Tree) → UseBelow (length old.trees) u → (labels : List Label) → made_of new.trees w.names w.locals u ts labels ≡ made_of old.trees w.names w.locals u ts labels
-  made_grown w u ts below labels = made_labels new.trees w.names w.locals u ts labels ∙ ap (relabelled labels) (sym (uses u old new w ts below g.now)) ∙ sym (made_labels old.trees w.names w.locals u ts labels)
+module _ (k : Kept) (s : Scope) (old new : Terms) (g : Grows old new) (stays : (ls : List LocalName) → NamesStay k ls) (uses : (u : Head) → UseStays u) where
+  made_grown : (w : World) (u : Head) (ts : List Tree) → UseBelow (length old.trees) u → (named_terms : List NamedTerm) → made_of new.trees w.names w.locals u ts named_terms ≡ made_of old.trees w.names w.locals u ts named_terms
+  made_grown w u ts below named_terms = made_named_terms new.trees w.names w.locals u ts named_terms ∙ ap (relabelled named_terms) (sym (uses u old new w ts below g.now)) ∙ sym (made_named_terms old.trees w.names w.locals u ts named_terms)
 
-  go_same : {A B : Type 0} (m n : A → Reader B) → ((x : A) (labels : List Label) → m x labels ≡ n x labels) → (r : Read A) → go_on m r ≡ go_on n r
+  go_same : {A B : Type 0} (m n : A → Reader B) → ((x : A) (named_terms : List NamedTerm) → m x named_terms ≡ n x named_terms) → (r : Read A) → go_on m r ≡ go_on n r
   go_same m n h (Ok p) = h p.0 p.1
   go_same m n h (Err fault) = refl
 
   resumed_grown : (w : World) (f : Frame) → FrameBelow (length old.trees) f → (r : Read Tree) → go_on (resumed w new.trees f) r ≡ go_on (resumed w old.trees f) r
   resumed_grown w (frame.Head args) below r = refl
   resumed_grown w (frame.Argument u before rest) below r = go_same (resumed w new.trees (frame.Argument u before rest)) (resumed w old.trees (frame.Argument u before rest))
-      (λ x labels. ap (λ is. arguments_after w new.trees u (is ++ x ∷ []) rest labels) (trees_grown old new before below.0 g) ∙ go_same (made_of new.trees w.names w.locals u) (made_of old.trees w.names w.locals u) (λ ts ls. made_grown w u ts below.1.0 ls) (all_in w (map (tree_at old.trees) before ++ x ∷ []) rest labels)) r
+      (λ x named_terms. ap (λ is. arguments_after w new.trees u (is ++ x ∷ []) rest named_terms) (trees_grown old new before below.0 g) ∙ go_same (made_of new.trees w.names w.locals u) (made_of old.trees w.names w.locals u) (λ ts ls. made_grown w u ts below.1.0 ls) (all_in w (map (tree_at old.trees) before ++ x ∷ []) rest named_terms)) r
   resumed_grown w (frame.Beside b) below r = ap (λ bs. go_on (λ x. pairs_then w b.value.next (bs ++ (b.value.name.now, x) ∷ []) b.value.rest) r) (pairs_grown old new b.value.before below.0 g)
   resumed_grown w (frame.Annotated attributes) below r = refl
   resumed_grown w frame.Inner below r = refl
 
   -- and so do arguments that are left
-  pub arguments_grown : (blocks : Blocks) (u : Use) (labels : List Binding) (us : List Tree) (rest : List Sexp) → UseBelow (length old.trees) u → BindingsBelow (length old.trees) labels → IsReady (length old.trees) k (bound_by blocks ++ bound_in s)
-      → arguments_after (inside new k s blocks) new.trees u us rest (labels_in new labels) ≡ arguments_after (inside old k s blocks) old.trees u us rest (labels_in old labels)
-  arguments_grown blocks u labels us rest below given ready =
-      let same : inside new k s blocks ≡ inside old k s blocks = ap (in_setting (setting_in s)) (stays (bound_by blocks ++ bound_in s) old new ready g).world in
+  pub arguments_grown : (blocks : Blocks) (u : Head) (named_terms : List Binding) (us : List Tree) (rest : List Sexp) → UseBelow (length old.trees) u → BindingsBelow (length old.trees) named_terms → IsReady (length old.trees) k (bound_by blocks ++ bound_in s)
+      → arguments_after (inside new k s blocks) new.trees u us rest (named_terms_in new named_terms) ≡ arguments_after (inside old k s blocks) old.trees u us rest (named_terms_in old named_terms)
+  arguments_grown blocks u named_terms us rest below given ready =
+      let same : inside new k s blocks ≡ inside old k s blocks = ap (in_file_kind (file_kind_in s)) (stays (bound_by blocks ++ bound_in s) old new ready g).world in
       let w = inside old k s blocks in
-      ap (λ v. arguments_after v new.trees u us rest (labels_in new labels)) same ∙ ap (arguments_after w new.trees u us rest) (labels_grown old new labels given g.now)
-      ∙ go_same (made_of new.trees w.names w.locals u) (made_of old.trees w.names w.locals u) (λ ts ls. made_grown w u ts below ls) (all_in w us rest (labels_in old labels))
+      ap (λ v. arguments_after v new.trees u us rest (named_terms_in new named_terms)) same ∙ ap (arguments_after w new.trees u us rest) (named_terms_grown old new named_terms given g.now)
+      ∙ go_same (made_of new.trees w.names w.locals u) (made_of old.trees w.names w.locals u) (λ ts ls. made_grown w u ts below ls) (all_in w us rest (named_terms_in old named_terms))
 
   -- what waits makes the same of what is read
   pub finished_grown : (blocks : Blocks) (fs : List Frame) → FramesBelow (length old.trees) fs → IsReady (length old.trees) k (bound_by blocks ++ bound_in s) → (r : Read Tree) → finished k s new blocks fs r ≡ finished k s old blocks fs r
   finished_grown blocks [] below ready r = refl
   finished_grown blocks (f ∷ fs) below ready r =
-      let same : inside new k s blocks ≡ inside old k s blocks = ap (in_setting (setting_in s)) (stays (bound_by blocks ++ bound_in s) old new ready g).world in
+      let same : inside new k s blocks ≡ inside old k s blocks = ap (in_file_kind (file_kind_in s)) (stays (bound_by blocks ++ bound_in s) old new ready g).world in
       let step : go_on (resumed (inside new k s blocks) new.trees f) r ≡ go_on (resumed (inside old k s blocks) old.trees f) r = ap (λ w. go_on (resumed w new.trees f) r) same ∙ resumed_grown (inside old k s blocks) f below.0 r in
       ap (finished k s new (around f blocks) fs) step ∙ finished_grown (around f blocks) fs below.1 (around_ready (length old.trees) k s blocks f ready) (go_on (resumed (inside old k s blocks) old.trees f) r)
 
   -- one step keeps the whole: what waits now, given what is read next, makes what was to be made
-  pub whole_on : (labels : List Binding) (blocks inner : Blocks) (before after : List Frame) (most : ℕ) (n : Now) (r : Read Tree) → FramesBelow (length old.trees) (reverse before) → IsReady (length old.trees) k (bound_by blocks ++ bound_in s) → GoesOn k s new labels blocks inner before after most n r
-      → finished k s old blocks (reverse before) r ≡ finished k s new inner (reverse after) (reads k s new inner labels n)
-  whole_on labels blocks inner before after most n r below ready o =
-      sym (ap (λ fs. finished k s new inner fs (reads k s new inner labels n)) o.waits ∙ finished_append k s new inner o.more (reverse before) (reads k s new inner labels n) ∙ ap (finished k s new (around_all o.more inner) (reverse before)) (sym o.is) ∙ ap (λ b. finished k s new b (reverse before) r) o.left ∙ finished_grown blocks (reverse before) below ready r)
+  pub whole_on : (named_terms : List Binding) (blocks inner : Blocks) (before after : List Frame) (most : ℕ) (n : Now) (r : Read Tree) → FramesBelow (length old.trees) (reverse before) → IsReady (length old.trees) k (bound_by blocks ++ bound_in s) → GoesOn k s new named_terms blocks inner before after most n r
+      → finished k s old blocks (reverse before) r ≡ finished k s new inner (reverse after) (reads k s new inner named_terms n)
+  whole_on named_terms blocks inner before after most n r below ready o =
+      sym (ap (λ fs. finished k s new inner fs (reads k s new inner named_terms n)) o.waits ∙ finished_append k s new inner o.more (reverse before) (reads k s new inner named_terms n) ∙ ap (finished k s new (around_all o.more inner) (reverse before)) (sym o.is) ∙ ap (λ b. finished k s new b (reverse before) r) o.left ∙ finished_grown blocks (reverse before) below ready r)
 
   frame_more : (f : Frame) → FrameBelow (length old.trees) f → FrameBelow (length new.trees) f
   frame_more (frame.Head args) h = h
@@ -241,16 +241,16 @@ module _ (k : Kept) (s : Scope) (old new : Terms) (g : Grows old new) (stays : (
   frames_append n (x ∷ xs) ys h k = (h.0, frames_append n xs ys h.1 k)
 
   -- what waits is there
-  pub below_on : (labels : List Binding) (blocks inner : Blocks) (before after : List Frame) (most : ℕ) (n : Now) (r : Read Tree) → FramesBelow (length old.trees) (reverse before) → GoesOn k s new labels blocks inner before after most n r → FramesBelow (length new.trees) (reverse after)
-  below_on labels blocks inner before after most n r below o = subst (FramesBelow (length new.trees)) (sym o.waits) (frames_append (length new.trees) o.more (reverse before) o.live (frames_more (reverse before) below))
+  pub below_on : (named_terms : List Binding) (blocks inner : Blocks) (before after : List Frame) (most : ℕ) (n : Now) (r : Read Tree) → FramesBelow (length old.trees) (reverse before) → GoesOn k s new named_terms blocks inner before after most n r → FramesBelow (length new.trees) (reverse after)
+  below_on named_terms blocks inner before after most n r below o = subst (FramesBelow (length new.trees)) (sym o.waits) (frames_append (length new.trees) o.more (reverse before) o.live (frames_more (reverse before) below))
 
 weights_append : (xs ys : List Frame) → weights (xs ++ ys) ≡ weights xs + weights ys
 weights_append [] ys = omega arith
 weights_append (x ∷ xs) ys = let h = weights_append xs ys in omega (arith, h)
 
 -- and less is left
-pub less_on : (k : Kept) (s : Scope) (t : Terms) (labels : List Binding) (blocks inner : Blocks) (before after : List Frame) (most : ℕ) (n : Now) (r : Read Tree) → GoesOn k s t labels blocks inner before after most n r → weights (reverse after) + weight_now n ≤ weights (reverse before) + most
-less_on k s t labels blocks inner before after most n r o =
+pub less_on : (k : Kept) (s : Scope) (t : Terms) (named_terms : List Binding) (blocks inner : Blocks) (before after : List Frame) (most : ℕ) (n : Now) (r : Read Tree) → GoesOn k s t named_terms blocks inner before after most n r → weights (reverse after) + weight_now n ≤ weights (reverse before) + most
+less_on k s t named_terms blocks inner before after most n r o =
     let e : weights (reverse after) ≡ weights o.more + weights (reverse before) = ap weights o.waits ∙ weights_append o.more (reverse before) in
     let l = o.less in
     omega (arith, e, l)
@@ -260,27 +260,27 @@ size_at_least (Atom k text span) = omega arith
 size_at_least (Listed ss span) = omega arith
 
 -- what is read inside of names that are bound, and then these are left
-pub inner_goes : (k : Kept) (s : Scope) (t : Terms) (labels : List Binding) (blocks inner : Blocks) (bs : List Binding) (before after : List Frame) (most : ℕ) (r : Result Now ElabRefused) (o p : Read Tree) → o ≡ p → Goes k s t labels (bs ∷ blocks) inner (before ++ frame.Inner ∷ []) after most r p → Goes k s t labels blocks inner before after (most + 1) r o
-inner_goes k s t labels blocks inner bs before after most (Ok n) o p e g = record {
+pub inner_goes : (k : Kept) (s : Scope) (t : Terms) (named_terms : List Binding) (blocks inner : Blocks) (bs : List Binding) (before after : List Frame) (most : ℕ) (r : Result Now ElabRefused) (o p : Read Tree) → o ≡ p → Goes k s t named_terms (bs ∷ blocks) inner (before ++ frame.Inner ∷ []) after most r p → Goes k s t named_terms blocks inner before after (most + 1) r o
+inner_goes k s t named_terms blocks inner bs before after most (Ok n) o p e g = record {
   more = g.more ++ frame.Inner ∷ [];
   waits = g.waits ∙ ap (λ fs. g.more ++ fs) (reverse-append before (frame.Inner ∷ [])) ∙ sym (append_assoc g.more (frame.Inner ∷ []) (reverse before));
   left = around_append k s t inner g.more (frame.Inner ∷ []) ∙ ap (drop 1) g.left;
   live = frames_both (length t.trees) g.more (frame.Inner ∷ []) g.live (tt, tt);
   ready = g.ready;
   given = g.given;
-  is = e ∙ inner_same p ∙ ap (go_on (λ x ls. Ok (x, ls))) g.is ∙ sym (finished_append k s t inner g.more (frame.Inner ∷ []) (reads k s t inner labels n));
+  is = e ∙ inner_same p ∙ ap (go_on (λ x ls. Ok (x, ls))) g.is ∙ sym (finished_append k s t inner g.more (frame.Inner ∷ []) (reads k s t inner named_terms n));
   less = let h = weights_append g.more (frame.Inner ∷ []) in let l = g.less in omega (arith, h, l);
 }
   where
     frames_both : (m : ℕ) (xs ys : List Frame) → FramesBelow m xs → FramesBelow m ys → FramesBelow m (xs ++ ys)
     frames_both m [] ys h j = j
     frames_both m (x ∷ xs) ys h j = (h.0, frames_both m xs ys h.1 j)
-inner_goes k s t labels blocks inner bs before after most (Err x) o p e g = tells_on told x o p (λ f q. e ∙ q) g
+inner_goes k s t named_terms blocks inner bs before after most (Err x) o p e g = tells_on told x o p (λ f q. e ∙ q) g
 
 -- the other arguments of a binder inside of its variables
-pub others_read : (w inner : World) (ts : List Tree) (binder collector : ℕ) (others : List Sexp) (ps : List (List ℕ × Tree)) (first : Tree) (labels : List Label) → variable_list w.names.signature (is_list_tree w.locals) collector (map variable ps) labels ≡ Ok (first, labels) → inner.names ≡ w.names → inner.locals ≡ map pair_local (map variable ps) ++ w.locals
-    → with_names w (next.Others binder collector others) ps labels ≡ arguments_after inner ts (use_.Bind binder collector) (first ∷ []) others labels
-others_read w inner ts binder collector others ps first labels e names locals =
+pub others_read : (w inner : World) (ts : List Tree) (binder collector : ℕ) (others : List Sexp) (ps : List (List ℕ × Tree)) (first : Tree) (named_terms : List NamedTerm) → variable_list w.names.signature (is_list_tree w.locals) collector (map variable ps) named_terms ≡ Ok (first, named_terms) → inner.names ≡ w.names → inner.locals ≡ map pair_local (map variable ps) ++ w.locals
+    → with_names w (next.Others binder collector others) ps named_terms ≡ arguments_after inner ts (use_.Bind binder collector) (first ∷ []) others named_terms
+others_read w inner ts binder collector others ps first named_terms e names locals =
     let made : List Tree → Reader Tree = λ us. built (applied (Con binder) us) in
     let then_all : Tree → Reader (List Tree) = λ f. means_all w.names (map pair_local (map variable ps) ++ w.locals) (sexps others) >>= λ us. give (f ∷ us) in
-    ap (λ (o : Read Tree). go_on made (go_on then_all o)) e ∙ (λ i. go_on made (go_on (λ us. give (first ∷ us)) (means_all (sym names i) (sym locals i) (sexps others) labels)))
+    ap (λ (o : Read Tree). go_on made (go_on then_all o)) e ∙ (λ i. go_on made (go_on (λ us. give (first ∷ us)) (means_all (sym names i) (sym locals i) (sexps others) named_terms)))

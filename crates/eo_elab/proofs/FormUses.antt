@@ -14,14 +14,14 @@ use Rattle.eo_sig.specs.Signature.{Attribute, Binder}
 use Rattle.eo_term.specs.Tree.{Tree, Con, Bits, Op, to_trees, uses_only}
 use Rattle.eo_names.specs.Contexts.{Context, Local, is_list, is_reference}
 use Rattle.eo_names.specs.Folding.{applied, attribute_at, least, folded, arrow, plainly}
-use Rattle.eo_names.specs.Meanings.{Meant, ATree, AMacro, AnOperator, Nothing, meant, Word, Underscore, Arrow, Let, Annotation, Name, word_of}
+use Rattle.eo_names.specs.Meanings.{Resolved, ATree, AMacro, AnOperator, Nothing, meant_before, Word, Underscore, Arrow, Let, Annotation, Name, word_of}
 use Rattle.eo_names.specs.Readers.{Reader, ◌>>=◌, read, built}
 use Rattle.eo_elab.specs.Fitting.{FitsTerms}
 use Rattle.eo_elab.specs.Meaning.{count, is_let, begins_with_pairs, is_annotated, bits_of, bit_vector, Application, Wrong, Binds, Uses, ListForm, ALet, AnAnnotation, ABitString, AnApplication, ATermFirst, where_many, at_least, exactly, plain_use, folded_use, constant_use, tree_use, meant_use, underscore_form, word_form, head_form, counted_form, list_form, used}
 use Rattle.eo_elab.proofs.Uses.{arguments_use}
 use Rattle.eo_elab.proofs.PutUses.{macro_uses}
 use Rattle.eo_elab.proofs.FoldUses.{Within, AllWithin, PassesWithin, ok_within, applied_uses, folded_uses}
-use Rattle.eo_elab.proofs.SymbolUses.{LocalsWithin, MeantWithin, meant_within}
+use Rattle.eo_elab.proofs.SymbolUses.{LocalsWithin, MeantWithin, meant_before_within}
 use Rattle.eo_elab.proofs.ReadingUses.{Reads, bind_reads, fail_reads, read_reads, built_reads}
 
 module _ (known : ℕ → Bool) where
@@ -113,7 +113,7 @@ module _ (known : ℕ → Bool) where
       tree_fits (Con f) u = constant_fits f (attribute_at c.signature f)
       tree_fits f u = plain_fits f u
 
-      meant_fits : (m : Meant) → MeantWithin known m → ApplicationFits args (meant_use c locals args m)
+      meant_fits : (m : Resolved) → MeantWithin known m → ApplicationFits args (meant_use c locals args m)
       meant_fits (ATree t) u = tree_fits t u
       meant_fits (AMacro m) u =
           exactly_fits args (length m.parameters) (λ ts. Ok (put (slice_get ts) m.tree))
@@ -138,17 +138,17 @@ module _ (known : ℕ → Bool) where
       if_fits true form u = u
       if_fits false form u = tt
 
-      word_fits : (w : Word) (m : Meant) → MeantWithin known m → HeadFits args (word_form c locals args w m)
+      word_fits : (w : Word) (m : Resolved) → MeantWithin known m → HeadFits args (word_form c locals args w m)
       word_fits Underscore m u =
-          underscore_fits (if is_reference c.setting then bit_vector args else None) (bits_or_none (is_reference c.setting))
+          underscore_fits (if is_reference c.file_kind then bit_vector args else None) (bits_or_none (is_reference c.file_kind))
       word_fits Arrow m u = at_least_fits args 2 (λ ts. Ok (arrow ts)) (λ ts g. ok_within known (arrow ts) (arrow_within ts g))
       word_fits Let m u = if_fits (is_let args) ALet tt
-      word_fits Annotation m u = if_fits (is_annotated c.setting args) AnAnnotation tt
+      word_fits Annotation m u = if_fits (is_annotated c.file_kind args) AnAnnotation tt
       word_fits Name m u = meant_fits m u
 
       head_fits : (word : Option (List ℕ)) → HeadFits args (head_form c locals args word)
       head_fits None = tt
-      head_fits (Some name) = word_fits (word_of c.setting name) (meant c locals name) (meant_within known c fits locals locals_fit name)
+      head_fits (Some name) = word_fits (word_of c.file_kind name) (meant_before c (count args) locals name) (meant_before_within known c fits locals locals_fit (count args) name)
 
       counted_fits : (word : Option (List ℕ)) → HeadFits args (counted_form c locals args word)
       counted_fits word = by_count (nat_le 1 (count args))

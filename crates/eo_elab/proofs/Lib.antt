@@ -15,3 +15,4 @@ pub mod ReadingUses
 pub mod FormUses
 pub mod MeansUses
 pub mod Finishing
+pub mod SingleNames

@@ -7,7 +7,7 @@ use Rattle.eo_sexp.specs.Sexp.{Sexp, Atom, Listed, NoSexp, Next, sexps_of, sexp_
 use Rattle.eo_sexp.specs.Sizes.{size}
 use Rattle.eo_elab.specs.Forms.{binding_of}
 
--- what stands beside the name of a pair is smaller than the pair
+-- what follows the name of a pair is smaller than the pair
 pub size_beside : (s t : Sexp) (name : List ℕ) → Some (name, t) ≡ binding_of s → size t < size s
 size_beside (Atom k text span) t name e = cc
 size_beside (Listed NoSexp span) t name e = cc

@@ -1,4 +1,4 @@
--- What a symbol stands for uses no parameter that the locals do not use.
+-- What a symbol means uses no parameter that the locals do not use.
 use Rattle.std.specs.Prelude.{◌≡◌, ◌<◌, ℕ, Bool, true, false, nat_lt, ◌==◌, if◌then◌else◌, List, [], ◌∷◌, find, length, Option, Some, None, option_map, slice_get, bytes_eq, refl}
 use Rattle.std.specs.List.{list_all}
 use Rattle.std.proofs.Common.{subst, arith}
@@ -15,8 +15,8 @@ use Rattle.eo_term.specs.declared.OpCode.{OpCode}
 use Rattle.eo_term.specs.declared.OpName.{OpName}
 use Rattle.eo_term.specs.Operators.{operator_named}
 use Rattle.eo_term.specs.Tree.{Tree, Num, Bits, Str, uses_only}
-use Rattle.eo_names.specs.Contexts.{Context, Local, local_named}
-use Rattle.eo_names.specs.Meanings.{Meant, ATree, AMacro, AnOperator, Nothing, macro_meant, or_nothing, program_meant, global_meant, local_meant, operator_meant, meant, Word, Name, word_of}
+use Rattle.eo_names.specs.Contexts.{Context, Local, lookup_head, local_named}
+use Rattle.eo_names.specs.Meanings.{Resolved, ATree, AMacro, AnOperator, Nothing, macro_meant, or_nothing, program_meant, global_meant, local_meant, operator_meant, meant, meant_before, Word, Name, word_of}
 use Rattle.eo_elab.specs.Fitting.{FitsTerms, macro_is_bound}
 use Rattle.eo_elab.specs.Meaning.{literal_tree, tree_alone, word_alone, atom}
 use Rattle.eo_elab.proofs.Uses.{uses_more, at_place}
@@ -27,7 +27,7 @@ module _ (known : ℕ → Bool) where
   LocalsWithin locals = list_all (λ l. uses_only known l.tree) locals ≡ true
 
   -- a tree, or a macro that uses its own parameters alone
-  abbrev pub MeantWithin : Meant → Type 0
+  abbrev pub MeantWithin : Resolved → Type 0
   MeantWithin (ATree t) = Within known t
   MeantWithin (AMacro m) = macro_is_bound m ≡ true
   MeantWithin (AnOperator code arity) = Unit {0}
@@ -86,24 +86,28 @@ module _ (known : ℕ → Bool) where
           by_local None e = global_meant_within n
           by_local (Some t) e = local_found (λ l. bytes_eq l.name name) locals h t e
 
-      operator_meant_within : (o : Option OpName) (m : Meant) → MeantWithin m → MeantWithin (operator_meant c o m)
+      operator_meant_within : (o : Option OpName) (m : Resolved) → MeantWithin m → MeantWithin (operator_meant c o m)
       operator_meant_within (Some o) m k = tt
       operator_meant_within None m k = k
 
+      named_within : (name : List ℕ) (n : Option Named) → MeantWithin (operator_meant c (operator_named name) (local_meant c (local_named locals name) n))
+      named_within name n = operator_meant_within (operator_named name) (local_meant c (local_named locals name) n) (local_meant_within name n)
+
       pub meant_within : (name : List ℕ) → MeantWithin (meant c locals name)
-      meant_within name =
-          let n = lookup c.signature c.macros name in
-          operator_meant_within (operator_named name) (local_meant c (local_named locals name) n) (local_meant_within name n)
+      meant_within name = named_within name (lookup c.signature c.macros name)
+
+      pub meant_before_within : (n : ℕ) (name : List ℕ) → MeantWithin (meant_before c n locals name)
+      meant_before_within n name = named_within name (lookup_head c.naming c.signature c.macros name n)
 
       -- ---- atoms
 
-      alone_within : (m : Meant) → MeantWithin m → PassesWithin known (tree_alone m)
+      alone_within : (m : Resolved) → MeantWithin m → PassesWithin known (tree_alone m)
       alone_within (ATree u) k = ok_within known u k
       alone_within (AMacro m) k = err_within known BadArity
       alone_within (AnOperator code arity) k = err_within known BadArity
       alone_within Nothing k = err_within known UnknownSymbol
 
-      word_alone_within : (w : Word) (m : Meant) → MeantWithin m → PassesWithin known (word_alone w m)
+      word_alone_within : (w : Word) (m : Resolved) → MeantWithin m → PassesWithin known (word_alone w m)
       word_alone_within Name m k = alone_within m k
       word_alone_within w m k = err_within known BadArity
 
@@ -118,7 +122,7 @@ module _ (known : ℕ → Bool) where
 
       pub atom_within : (k : AtomKind) (text : List ℕ) → PassesWithin known (atom c locals k text)
       unfolding atom
-      atom_within kind.Symbol text = word_alone_within (word_of c.setting text) (meant c locals text) (meant_within text)
+      atom_within kind.Symbol text = word_alone_within (word_of c.file_kind text) (meant c locals text) (meant_within text)
       atom_within kind.Literal text = λ t e.
           let o = option_map literal_tree (literal_value text) in
           literal_within (literal_value text) t (value_or_ok BadLiteral o t e)

@@ -11,17 +11,17 @@ use Rattle.eo_names.specs.Binders.{pair_local, variable, variable_list}
 use Rattle.eo_names.specs.Contexts.{is_list}
 use Rattle.eo_names.specs.Folding.{applied}
 use Rattle.eo_names.specs.Names.{Binding, read_pairs, BindingsBelow, bound_by, names_in}
-use Rattle.eo_names.specs.Readers.{Label, Reader, ◌>>=◌, give, go_on, built}
+use Rattle.eo_names.specs.Readers.{NamedTerm, Reader, ◌>>=◌, give, go_on, built}
 use Rattle.eo_names.specs.Ready.{IsReady}
 use Rattle.eo_names.specs.Refused.{told}
-use Rattle.eo_names.specs.Scopes.{bound_in, setting_in}
+use Rattle.eo_names.specs.Scopes.{bound_in, file_kind_in}
 use Rattle.eo_names.specs.Usage.{made_of, UseBelow, Suits}
 use Rattle.eo_names.specs.Worlds.{World, Read, world_of}
 use Rattle.eo_names.specs.declared.refused.ElabRefused.{ElabRefused}
 use Rattle.eo_names.specs.declared.scope.Scope.{Scope}
-use Rattle.eo_names.specs.declared.usage.Use.{Use}
-use Rattle.eo_elab.specs.Meaning.{means, means_all, in_binder, tree_use, used, label, labels_of}
-use Rattle.eo_elab.specs.Worlds.{sexps, in_setting, labels_in, term_in, all_in, pairs_in, more_pairs_in}
+use Rattle.eo_names.specs.declared.usage.Head.{Head}
+use Rattle.eo_elab.specs.Meaning.{means, means_all, in_binder, tree_use, used, label, named_terms_of}
+use Rattle.eo_elab.specs.Worlds.{sexps, in_file_kind, named_terms_in, term_in, all_in, pairs_in, more_pairs_in}
 use Rattle.eo_elab.specs.declared.waiting.Frame.{Frame}
 use Rattle.eo_elab.specs.declared.waiting.Frame.TheVariants as frame
 use Rattle.eo_elab.specs.declared.waiting.Next.{Next}
@@ -33,9 +33,9 @@ use Rattle.eo_elab.specs.declared.waiting.Now.TheVariants as now
 abbrev pub Blocks : Type 0
 Blocks = List (List Binding)
 
--- what names stand for inside of these
+-- what names mean inside of these
 abbrev pub inside : Terms → Kept → Scope → Blocks → World
-inside t k s blocks = in_setting (setting_in s) (world_of t k (bound_by blocks ++ bound_in s))
+inside t k s blocks = in_file_kind (file_kind_in s) (world_of t k (bound_by blocks ++ bound_in s))
 
 -- the list of a binder's variables, and then its other arguments
 abbrev pub bound_list : World → ℕ → List Sexp → List (List ℕ × Tree) → Reader (List Tree)
@@ -48,11 +48,11 @@ abbrev pub with_names : World → Next → List (List ℕ × Tree) → Reader Tr
 with_names w (next.Body s) ps = means w.names (map pair_local ps ++ w.locals) s
 with_names w (next.Others binder collector others) ps = bound_list w collector others (map variable ps) >>= λ ts. built (applied (Con binder) ts)
 
--- arguments behind those that are given, and what is made of all
-abbrev pub arguments_after : World → List Tree → Use → List Tree → List Sexp → Reader Tree
+-- arguments after those that are given, and what is made of all
+abbrev pub arguments_after : World → List Tree → Head → List Tree → List Sexp → Reader Tree
 arguments_after w ts u before rest = all_in w before rest >>= made_of ts w.names w.locals u
 
--- pairs behind those that are given, and what is made of all
+-- pairs after those that are given, and what is made of all
 abbrev pub pairs_then : World → Next → List (List ℕ × Tree) → List Sexp → Reader Tree
 pairs_then w n before rest = more_pairs_in w (sexps rest) before >>= with_names w n
 
@@ -65,7 +65,7 @@ abbrev pub resumed : World → List Tree → Frame → Tree → Reader Tree
 resumed w ts (frame.Head args) f = headed_by w args f
 resumed w ts (frame.Argument u before rest) t = arguments_after w ts u (map (tree_at ts) before ++ t ∷ []) rest
 resumed w ts (frame.Beside b) t = pairs_then w b.value.next (read_pairs ts b.value.before ++ (b.value.name.now, t) ∷ []) b.value.rest
-resumed w ts (frame.Annotated attributes) t = label w.names t (labels_of w.names.setting (sexps attributes))
+resumed w ts (frame.Annotated attributes) t = label w.names t (named_terms_of w.names.file_kind (sexps attributes))
 resumed w ts frame.Inner t = give t
 
 -- what is around where this no longer waits
@@ -88,8 +88,8 @@ module _ (k : Kept) (s : Scope) (t : Terms) where
 
   -- what is read next, or is there
   abbrev pub reads : Blocks → List Binding → Now → Read Tree
-  reads blocks labels (now.Read x) = term_in (inside t k s blocks) x (labels_in t labels)
-  reads blocks labels (now.Give i) = Ok (tree_in t i, labels_in t labels)
+  reads blocks named_terms (now.Read x) = term_in (inside t k s blocks) x (named_terms_in t named_terms)
+  reads blocks named_terms (now.Give i) = Ok (tree_in t i, named_terms_in t named_terms)
 
 -- the terms are there
 abbrev pub NowBelow : ℕ → Now → Type 0
@@ -128,35 +128,35 @@ weight_now (now.Read s) = 4 * size s
 weight_now (now.Give i) = 1
 
 -- Reading goes on: what waits now is what waited before and more in front of it, and what is read next, given to these, is what was to be read. Of that no more is left than so much.
-pub record GoesOn (k : Kept) (s : Scope) (t : Terms) (labels : List Binding) (blocks inner : Blocks) (before after : List Frame) (most : ℕ) (n : Now) (r : Read Tree) : Type 0 where
+pub record GoesOn (k : Kept) (s : Scope) (t : Terms) (named_terms : List Binding) (blocks inner : Blocks) (before after : List Frame) (most : ℕ) (n : Now) (r : Read Tree) : Type 0 where
   pub more : List Frame
   pub waits : reverse after ≡ more ++ reverse before
   pub left : around_all more inner ≡ blocks
   pub live : FramesBelow (length t.trees) more
   pub ready : IsReady (length t.trees) k (bound_by inner ++ bound_in s)
   pub given : NowBelow (length t.trees) n
-  pub is : r ≡ finished k s t inner more (reads k s t inner labels n)
+  pub is : r ≡ finished k s t inner more (reads k s t inner named_terms n)
   pub less : weights more + weight_now n ≤ most
 
 -- it goes on, or ends with the fault of what was to be read
 abbrev pub Goes : Kept → Scope → Terms → List Binding → (blocks inner : Blocks) → (before after : List Frame) → ℕ → Result Now ElabRefused → Read Tree → Type 0
-Goes k s t labels blocks inner before after most (Ok n) r = GoesOn k s t labels blocks inner before after most n r
-Goes k s t labels blocks inner before after most (Err e) r = Tells told e r
+Goes k s t named_terms blocks inner before after most (Ok n) r = GoesOn k s t named_terms blocks inner before after most n r
+Goes k s t named_terms blocks inner before after most (Err e) r = Tells told e r
 
--- Terms are read on: what is left, behind what is read by then, makes what all make.
+-- More terms are read: what is left, after those that are read, makes what all make.
 pub record IsReadOn (w : World) (old new : Terms) (before after : List ℕ) (terms left : List Sexp) : Type 0 where
   pub live : All (λ i. i < length new.trees) after
   pub count : length after + length left ≡ length before + length terms
   pub less : size_of_all left ≤ size_of_all terms
-  pub is : (labels : List Label) → all_in w (trees_in old before) terms labels ≡ all_in w (trees_in new after) left labels
+  pub is : (named_terms : List NamedTerm) → all_in w (trees_in old before) terms named_terms ≡ all_in w (trees_in new after) left named_terms
 
 -- they are, or there is the fault of the whole
 abbrev pub ReadsOn : World → (old new : Terms) → (before after : List ℕ) → List Sexp → Result (List Sexp) ElabRefused → Type 0
 ReadsOn w old new before after terms (Ok left) = IsReadOn w old new before after terms left
-ReadsOn w old new before after terms (Err e) = (labels : List Label) → Tells told e (all_in w (trees_in old before) terms labels)
+ReadsOn w old new before after terms (Err e) = (named_terms : List NamedTerm) → Tells told e (all_in w (trees_in old before) terms named_terms)
 
 -- what is made of arguments that are all there
-abbrev pub used_by : World → List Tree → Use → List Tree → Reader Tree
+abbrev pub used_by : World → List Tree → Head → List Tree → Reader Tree
 used_by w ts u args = made_of ts w.names w.locals u args
 
 -- pairs from the first one on

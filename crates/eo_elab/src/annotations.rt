@@ -1,4 +1,4 @@
-//! Terms with attributes, and the names that terms give themselves (SMT-LIB 2.6, section 3.6
+//! Terms with attributes, and the names that terms are given (SMT-LIB 2.6, section 3.6
 //! "Terms and Formulas").
 ghost use Rattle.std.specs.Prelude.{◌≡◌, ◌<◌, List, length, map, false, IfOk, is_some, unwrap_or, [], codes};
 ghost use Rattle.eo_sexp.specs.Sexp.{sexps_of};
@@ -9,13 +9,13 @@ ghost use Rattle.eo_sig.specs.Signature as sigs;
 ghost use Rattle.eo_shape.specs.Words.{keyword_of, is_some_word};
 ghost use Rattle.eo_names.specs.Contexts as contexts;
 ghost use Rattle.eo_names.specs.Names.{BindingsBelow};
-ghost use Rattle.eo_names.specs.Scopes.{read_setting};
-ghost use Rattle.eo_elab.specs.Gives.{GivesLabels, AddsLabel, NamesGrow};
+ghost use Rattle.eo_names.specs.Scopes.{read_file_kind};
+ghost use Rattle.eo_elab.specs.Gives.{GivesNamedTerms, AddsNamedTerm, NamesGrow};
 ghost use Rattle.eo_elab.specs.Meaning.{is_annotated, are_attributes, names_given};
-ghost use Rattle.eo_elab.specs.Worlds.{label_as, label_told};
+ghost use Rattle.eo_elab.specs.Worlds.{named_term_as, named_term_told};
 
 use crate::{ElabRefused, Names};
-use eo_names::Setting;
+use eo_names::FileKind;
 use eo_sexp::{Children, Kind, Sexp};
 use eo_shape::symbol;
 use eo_sig::{SignatureView, is_reserved};
@@ -23,15 +23,15 @@ use eo_term::{Id, Table};
 use std::alloc::{AllocError, Global};
 
 /// Whether the arguments are a term and one or more attributes, each of which is a keyword with at
-/// most one value. In an assertion a symbol stands behind each `:named`.
-pub(crate) fn is_annotated(args: &Children<'_>, setting: Setting) -> bool
-    ensures { result ≡ is_annotated (read_setting setting) (sexps_of args.now) }
+/// most one value. In an assertion each `:named` is followed by a symbol.
+pub(crate) fn is_annotated(args: &Children<'_>, file_kind: FileKind) -> bool
+    ensures { result ≡ is_annotated (read_file_kind file_kind) (sexps_of args.now) }
 {
     match args.split_first() {
         Some((_, attributes)) => {
             attributes.len() != 0
                 && are_attributes(&attributes)
-                && (setting != Setting::Assert || are_named(&attributes))
+                && (file_kind != FileKind::Assert || are_named(&attributes))
         }
         None => false,
     }
@@ -70,7 +70,7 @@ fn is_named(s: &Sexp<'_>) -> bool
     }
 }
 
-// Whether a symbol stands behind each `:named`.
+// Whether each `:named` is followed by a symbol.
 fn are_named(attributes: &Children<'_>) -> bool
     ensures { result ≡ is_some (names_given false (sexps_of attributes.now)) }
 {
@@ -88,7 +88,7 @@ fn are_named(attributes: &Children<'_>) -> bool
     !named
 }
 
-// The names that `:named` gives; none where no symbol stands behind one.
+// The names that `:named` gives; none where one is not followed by a symbol.
 fn names_given<'b>(alloc: Global, attributes: &Children<'b>) -> Result<Vec<&'b [u8]>, AllocError>
     ensures { IfOk result (λ names. map (λ name. name.now) names.items ≡ unwrap_or (names_given false (sexps_of attributes.now)) []) }
 {
@@ -111,7 +111,7 @@ fn names_given<'b>(alloc: Global, attributes: &Children<'b>) -> Result<Vec<&'b [
     Ok(names)
 }
 
-/// Gives a term the names that its attributes have, where it stands in an assertion. A refused call
+/// Gives a term the names that its attributes have, where it is in an assertion. A refused call
 /// may have given it some of them.
 ///
 /// - `Redeclared`: a name that is taken, reserved or given to a term of the command before.
@@ -120,18 +120,20 @@ pub(crate) fn label(
     alloc: Global,
     id: Id,
     attributes: &Children<'_>,
-    setting: Setting,
+    file_kind: FileKind,
     sig: &SignatureView<'_>,
-    labels: &mut Names,
+    named_terms: &mut Names,
 ) -> Result<(), ElabRefused>
-    ensures gives { (t : Terms) → GivesLabels t labels.new id result (label_told t sig.now setting labels.old id attributes.now) }
-    ensures grows { (t : Terms) → id < length t.trees → BindingsBelow (length t.trees) labels.old → NamesGrow t labels.old labels.new }
+    ensures gives { (t : Terms) → GivesNamedTerms t named_terms.new id result
+        (named_term_told t sig.now file_kind named_terms.old id attributes.now) }
+    ensures grows { (t : Terms) → id < length t.trees → BindingsBelow (length t.trees) named_terms.old →
+        NamesGrow t named_terms.old named_terms.new }
 {
-    match setting {
-        Setting::Proof | Setting::Reference => Ok(()),
-        Setting::Assert => {
+    match file_kind {
+        FileKind::Proof | FileKind::Reference => Ok(()),
+        FileKind::Assert => {
             let names = names_given(alloc, attributes)?;
-            add_names(id, &names, sig, labels)
+            add_names(id, &names, sig, named_terms)
         }
     }
 }
@@ -141,13 +143,15 @@ fn add_names(
     id: Id,
     names: &[&[u8]],
     sig: &SignatureView<'_>,
-    labels: &mut Names,
+    named_terms: &mut Names,
 ) -> Result<(), ElabRefused>
-    ensures gives { (t : Terms) (x : contexts.Setting) → GivesLabels t labels.new id result (label_as t sig.now x labels.old id names.now) }
-    ensures grows { (t : Terms) → id < length t.trees → BindingsBelow (length t.trees) labels.old → NamesGrow t labels.old labels.new }
+    ensures gives { (t : Terms) (x : contexts.FileKind) → GivesNamedTerms t named_terms.new id result
+        (named_term_as t sig.now x named_terms.old id names.now) }
+    ensures grows { (t : Terms) → id < length t.trees → BindingsBelow (length t.trees) named_terms.old →
+        NamesGrow t named_terms.old named_terms.new }
 {
     for name in names {
-        add_name(name, id, sig, labels)?;
+        add_name(name, id, sig, named_terms)?;
     }
     Ok(())
 }
@@ -157,18 +161,19 @@ fn add_name(
     name: &[u8],
     id: Id,
     sig: &SignatureView<'_>,
-    labels: &mut Names,
+    named_terms: &mut Names,
 ) -> Result<(), ElabRefused>
-    ensures adds { (t : Terms) (x : contexts.Setting) → AddsLabel t sig.now x labels.old labels.new id name.now result }
-    ensures grows { (t : Terms) → id < length t.trees → BindingsBelow (length t.trees) labels.old → NamesGrow t labels.old labels.new }
+    ensures adds { (t : Terms) (x : contexts.FileKind) → AddsNamedTerm t sig.now x named_terms.old named_terms.new id name.now result }
+    ensures grows { (t : Terms) → id < length t.trees → BindingsBelow (length t.trees) named_terms.old →
+        NamesGrow t named_terms.old named_terms.new }
 {
     if !is_free(name, sig) {
         return Err(ElabRefused::Redeclared);
     }
-    if labels.contains(name) {
+    if named_terms.contains(name) {
         return Err(ElabRefused::Redeclared);
     }
-    labels.push(name, id)?;
+    named_terms.push(name, id)?;
     Ok(())
 }
 

@@ -17,19 +17,19 @@ ghost use Rattle.eo_elab.specs.Worlds.{place, atom_in};
 
 use crate::ElabRefused;
 use eo_lit::{LitRead, StringRefused, read_literal, read_string};
-use eo_names::{Meant, Scope, Word, name_meant, word_of};
+use eo_names::{Resolved, Scope, Word, resolve_name, word_of};
 use eo_sexp::Kind;
 use eo_sig::SignatureView;
 use eo_term::{Id, Node, Table};
 use std::alloc::{AllocError, Global};
 
 /// The meaning of an atom: a literal or a string is its value, and a symbol is the term that its
-/// name stands for.
+/// name means.
 ///
 /// `BadLiteral`: a literal or a string without an accepted value. `BadArity`: a program, a macro
 /// with parameters, an operator, or one of `_`, `->`, `let` and, in a
 /// reference file, `!`. `UnknownSymbol`: any other symbol
-/// that stands for nothing, and a keyword.
+/// that has no meaning, and a keyword.
 #[tactic(auto, unfolding(crate::specs::Meaning::atom))]
 #[inline(always)]
 pub(crate) fn atom(
@@ -66,7 +66,7 @@ fn symbol(
     ensures grows { Grows table.old table.new }
 {
     match word_of(name, scope) {
-        Word::Name => term_of(sig, name_meant(name, scope, sig), table),
+        Word::Name => term_of(sig, resolve_name(name, scope, sig), table),
         Word::Underscore => Err(ElabRefused::BadArity),
         Word::Arrow => Err(ElabRefused::BadArity),
         Word::Let => Err(ElabRefused::BadArity),
@@ -74,18 +74,18 @@ fn symbol(
     }
 }
 
-// What stands for a term by itself.
-fn term_of(sig: &SignatureView<'_>, meant: Meant, table: &mut Table) -> Result<Id, ElabRefused>
+// The term that a name means by itself.
+fn term_of(sig: &SignatureView<'_>, meant: Resolved, table: &mut Table) -> Result<Id, ElabRefused>
     requires { IsLive (length table.old.trees) sig.now meant }
     ensures gives { GivesTree table.new result (tree_alone (read_meant table.old.trees sig.now meant)) }
     ensures grows { Grows table.old table.new }
 {
     match meant {
-        Meant::Term(id) => Ok(id),
-        Meant::Constant(k) => Ok(table.constant(k)?),
-        Meant::Macro(_) => Err(ElabRefused::BadArity),
-        Meant::Operator(_, _) => Err(ElabRefused::BadArity),
-        Meant::Nothing => Err(ElabRefused::UnknownSymbol),
+        Resolved::Term(id) => Ok(id),
+        Resolved::Constant(k) => Ok(table.constant(k)?),
+        Resolved::Macro(_) => Err(ElabRefused::BadArity),
+        Resolved::Operator(_, _) => Err(ElabRefused::BadArity),
+        Resolved::Nothing => Err(ElabRefused::UnknownSymbol),
     }
 }
 

@@ -6,13 +6,13 @@ ghost use Rattle.std.specs.List.{starts_with};
 ghost use Rattle.eo_sexp.specs.Sexp.{sexps_of};
 ghost use Rattle.eo_lit.specs.Literals.{numeral, with_digits, digit_below};
 ghost use Rattle.eo_names.specs.Contexts.{is_reference};
-ghost use Rattle.eo_names.specs.Scopes.{read_setting};
+ghost use Rattle.eo_names.specs.Scopes.{read_file_kind};
 ghost use Rattle.eo_shape.specs.Words.{numeral_of, symbol_of};
 ghost use Rattle.eo_elab.specs.BitStrings.{read_bits, FitBits, IsWidth, within_width};
 ghost use Rattle.eo_elab.specs.Meaning.{bit_vector, bits_of, indexed_bits};
 
 use eo_lit::read_numeral;
-use eo_names::Setting;
+use eo_names::FileKind;
 use eo_sexp::{Children, Kind, Sexp};
 use eo_shape::symbol;
 
@@ -28,13 +28,14 @@ pub(crate) struct BitString {
 
 /// The bit string that `bvN` and a width from 1 to 128 write in this kind of file: the number N
 /// modulo 2 to the power of the width.
-pub(crate) fn bit_vector_in(args: &Children<'_>, setting: Setting) -> Option<BitString>
-    ensures value { option_map read_bits result ≡ (if is_reference (read_setting setting) then bit_vector (sexps_of args.now) else None) }
+pub(crate) fn bit_vector_in(args: &Children<'_>, file_kind: FileKind) -> Option<BitString>
+    ensures value { option_map read_bits result ≡ (if is_reference (read_file_kind file_kind) then bit_vector
+        (sexps_of args.now) else None) }
     ensures fits { IfSome result FitBits }
 {
-    match setting {
-        Setting::Proof => None,
-        Setting::Reference | Setting::Assert => bit_vector(args),
+    match file_kind {
+        FileKind::Proof => None,
+        FileKind::Reference | FileKind::Assert => bit_vector(args),
     }
 }
 
@@ -54,7 +55,7 @@ fn bits_of(name: &Sexp<'_>, width: &Sexp<'_>) -> Option<BitString>
     bits_named(symbol(name)?, width_in(width)?)
 }
 
-// The number of bits that an s-expression tells, where it is a numeral from 1 to 128.
+// The number of bits that an s-expression gives, where it is a numeral from 1 to 128.
 fn width_in(s: &Sexp<'_>) -> Option<u8>
     ensures width { result ≡ option_and_then within_width (numeral_of s.now) }
     ensures fits { IfSome result IsWidth }
@@ -132,7 +133,7 @@ fn last_bits_of(digits: &[u8]) -> Option<u128>
     Some(value)
 }
 
-// The value of digits with one more behind them, modulo 2^128.
+// The value of digits with one more after them, modulo 2^128.
 fn with_digit(value: u128, digit: u8) -> Option<u128>
     ensures value { result ≡ option_map (λ d. (value * 10 % 2 ^ 128 + d) % 2 ^ 128) (digit_below 10 digit) }
     ensures within { IfSome result (λ n. n < 2 ^ 128) }

@@ -1,4 +1,4 @@
-//! The meaning of terms: s-expressions, by what their names stand for, as terms of a table.
+//! The meaning of terms: s-expressions, by what their names mean, as terms of a table.
 #![tactic(auto)]
 
 mod annotations;
@@ -12,6 +12,6 @@ mod waiting;
 mod walk;
 mod within;
 
-pub use eo_names::{Bindings as Names, ElabRefused, LocalName, Locals, Setting};
-pub use laws::labels_law;
-pub use terms::{mean_term, reference_term, term, term_at};
+pub use eo_names::{Bindings as Names, ElabRefused, FileKind, LocalName, Locals};
+pub use laws::named_terms_law;
+pub use terms::{elaborate_in, elaborate_view, reference_term, term};

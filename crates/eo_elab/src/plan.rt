@@ -19,7 +19,7 @@ use crate::ElabRefused;
 use crate::annotations::is_annotated;
 use crate::bits::bit_vector_in;
 use crate::shapes::{begins_with_pairs, is_let};
-use eo_names::{Meant, Scope, Use, Word, attribute_of, least_of, name_meant, word_of};
+use eo_names::{Head, Resolved, Scope, Word, attribute_of, head_meant, least_of, word_of};
 use eo_sexp::{Children, Sexp};
 use eo_shape::symbol;
 use eo_sig::{Attribute, SignatureView};
@@ -33,7 +33,7 @@ pub(crate) enum Form {
     /// A head that is a term of its own, before its arguments.
     Head,
     /// Arguments that are used.
-    Arguments(Use),
+    Arguments(Head),
     /// A term with attributes.
     Annotation,
     /// A bit string of so many bits, with this value.
@@ -81,7 +81,7 @@ fn form_by_word(
             if args.len() < 2 {
                 return Err(ElabRefused::BadArity);
             }
-            Ok(Form::Arguments(Use::Arrow))
+            Ok(Form::Arguments(Head::Arrow))
         }
         Word::Let => {
             if !is_let(args) {
@@ -90,13 +90,14 @@ fn form_by_word(
             Ok(Form::Let)
         }
         Word::Annotation => {
-            if !is_annotated(args, scope.setting()) {
+            if !is_annotated(args, scope.file_kind()) {
                 return Err(ElabRefused::BadCommand);
             }
             Ok(Form::Annotation)
         }
         Word::Name => {
-            let used = use_of_meaning(name_meant(name, scope, sig), args, sig, table)?;
+            let meant = head_meant(name, args.len(), scope, sig);
+            let used = use_of_meaning(meant, args, sig, table)?;
             Ok(Form::Arguments(used))
         }
     }
@@ -107,7 +108,7 @@ fn form_of_underscore(args: &Children<'_>, scope: &Scope<'_>) -> Result<Form, El
     ensures form { (w : World) (t : Terms) → FormsUnderscore w t scope.now args.now result }
     ensures fits { (n : ℕ) → IfOk result (FormFits n (length args.now)) }
 {
-    if let Some(bits) = bit_vector_in(args, scope.setting()) {
+    if let Some(bits) = bit_vector_in(args, scope.file_kind()) {
         return Ok(Form::Bits {
             width: bits.width,
             value: bits.value,
@@ -116,16 +117,16 @@ fn form_of_underscore(args: &Children<'_>, scope: &Scope<'_>) -> Result<Form, El
     if args.len() < 2 {
         return Err(ElabRefused::BadArity);
     }
-    Ok(Form::Arguments(Use::Underscore))
+    Ok(Form::Arguments(Head::Underscore))
 }
 
-// How a name that stands for this uses its arguments.
+// How a name with this meaning uses its arguments.
 fn use_of_meaning(
-    meant: Meant,
+    meant: Resolved,
     args: &Children<'_>,
     sig: &SignatureView<'_>,
     table: &Table,
-) -> Result<Use, ElabRefused>
+) -> Result<Head, ElabRefused>
     requires live { IsLive (length table.now.trees) sig.now meant }
     requires below { IsBelow (length table.now.trees) sig.now }
     requires some { 1 ≤ length args.now }
@@ -134,23 +135,23 @@ fn use_of_meaning(
     ensures suits { IfOk result (λ u. Suits u (length args.now)) }
 {
     match meant {
-        Meant::Term(id) => use_of_term(id, args, sig, table),
-        Meant::Constant(k) => use_of_constant(k, args, sig),
-        Meant::Macro(n) => {
+        Resolved::Term(id) => use_of_term(id, args, sig, table),
+        Resolved::Constant(k) => use_of_constant(k, args, sig),
+        Resolved::Macro(n) => {
             let defined = sig.macro_of(n);
             let count = defined.params.as_slice().len();
             if args.len() != count {
                 return Err(ElabRefused::BadArity);
             }
-            Ok(Use::Macro(defined.tree))
+            Ok(Head::Macro(defined.tree))
         }
-        Meant::Operator(code, arity) => {
+        Resolved::Operator(code, arity) => {
             if args.len() != arity {
                 return Err(ElabRefused::BadArity);
             }
-            Ok(Use::Operator(code))
+            Ok(Head::Operator(code))
         }
-        Meant::Nothing => Err(ElabRefused::UnknownSymbol),
+        Resolved::Nothing => Err(ElabRefused::UnknownSymbol),
     }
 }
 
@@ -161,7 +162,7 @@ pub(crate) fn use_of_term(
     args: &Children<'_>,
     sig: &SignatureView<'_>,
     table: &Table,
-) -> Result<Use, ElabRefused>
+) -> Result<Head, ElabRefused>
     requires live { id < length table.now.trees }
     requires some { 1 ≤ length args.now }
     ensures used { UsesTree sig.now table.now.trees args.now (tree_in table.now id) result }
@@ -170,7 +171,7 @@ pub(crate) fn use_of_term(
 {
     match table.node(id) {
         Node::Con(k) => use_of_constant(k, args, sig),
-        _ => Ok(Use::Plainly(id)),
+        _ => Ok(Head::Apply(id)),
     }
 }
 
@@ -180,14 +181,14 @@ fn use_of_constant(
     k: usize,
     args: &Children<'_>,
     sig: &SignatureView<'_>,
-) -> Result<Use, ElabRefused>
+) -> Result<Head, ElabRefused>
     requires some { 1 ≤ length args.now }
     ensures used { (ts : List Tree) → UsesTree sig.now ts args.now (Con k) result }
     ensures below { IfOk result (λ u. (n : ℕ) → UseBelow n u) }
     ensures suits { IfOk result (λ u. Suits u (length args.now)) }
 {
     match collector_of(attribute_of(sig, k), args) {
-        Some(collector) => Ok(Use::Bind {
+        Some(collector) => Ok(Head::Bind {
             binder: k,
             collector,
         }),
@@ -195,7 +196,7 @@ fn use_of_constant(
             if args.len() < least_of(k, sig) {
                 return Err(ElabRefused::BadArity);
             }
-            Ok(Use::Fold(k))
+            Ok(Head::Fold(k))
         }
     }
 }

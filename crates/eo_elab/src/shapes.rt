@@ -55,8 +55,8 @@ fn is_pair(s: &Sexp<'_>) -> bool
     }
 }
 
-/// The name of a pair, and what stands beside it; nothing, where it is no list of an atom and one
-/// thing more.
+/// The name of a pair, and what follows it; nothing, where it is no list of an atom and one more
+/// part.
 pub(crate) fn binding_of<'b>(s: &Sexp<'b>) -> Option<(&'b [u8], Sexp<'b>)>
     ensures { option_map (λ p. (p.0.now, p.1)) result ≡ binding_of s.now }
 {

@@ -1,5 +1,5 @@
 //! What waits for the meaning of a term.
-use eo_names::{Bindings, Use};
+use eo_names::{Bindings, Head};
 use eo_sexp::{Children, Sexp};
 use eo_term::{Id, Ids};
 
@@ -23,7 +23,7 @@ pub(crate) struct Pairs<'b> {
     pub(crate) before: Bindings,
     /// Its name.
     pub(crate) name: &'b [u8],
-    /// Those behind it.
+    /// Those after it.
     pub(crate) rest: Children<'b>,
     pub(crate) next: Next<'b>,
 }
@@ -38,11 +38,11 @@ pub(crate) enum Frame<'b> {
     },
     /// Arguments that are used so wait for one of them. The meanings of those before it are there.
     Argument {
-        used: Use,
+        used: Head,
         before: Ids,
         rest: Children<'b>,
     },
-    /// The pairs of a `let` or a binder wait for what stands beside the name of one.
+    /// The pairs of a `let` or a binder wait for what follows the name of one.
     Beside(Box<Pairs<'b>>),
     /// Attributes wait for their term.
     Annotated {

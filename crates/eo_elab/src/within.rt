@@ -10,13 +10,13 @@ ghost use Rattle.eo_names.specs.Names.{BindingsBelow, bound_by};
 ghost use Rattle.eo_names.specs.Scopes.{bound_in};
 ghost use Rattle.eo_names.specs.Usage.{UseBelow, Suits};
 ghost use Rattle.eo_names.specs.Ready.{IsReady};
-ghost use Rattle.eo_elab.specs.Worlds.{labels_in};
+ghost use Rattle.eo_elab.specs.Worlds.{named_terms_in};
 ghost use Rattle.eo_elab.specs.Waiting.{inside, used_by};
 
 use crate::atoms::atom;
 use crate::plan::{Form, form_of};
 use crate::{ElabRefused, Names};
-use eo_names::{Bindings, Blocks, Scope, Use, bind, names_law, use_arguments};
+use eo_names::{Bindings, Blocks, Head, Scope, apply_head, bind, names_law};
 use eo_sexp::{Children, Kind, Sexp};
 use eo_sig::SignatureView;
 use eo_term::{Id, Ids, Table};
@@ -95,26 +95,26 @@ pub(crate) fn bind_inside(
 /// What is made of all arguments inside of these names.
 pub(crate) fn use_all(
     alloc: Global,
-    used: &Use,
+    used: &Head,
     args: &Ids,
     scope: &Scope<'_>,
     sig: &SignatureView<'_>,
     table: &mut Table,
-    labels: &Names,
+    named_terms: &Names,
     blocks: &Blocks,
 ) -> Result<Id, ElabRefused>
     requires ready { IsReady (length table.old.trees) sig.now (bound_by blocks.now ++ bound_in scope.now) }
-    requires labels { BindingsBelow (length table.old.trees) labels.now }
+    requires named_terms { BindingsBelow (length table.old.trees) named_terms.now }
     requires args { All (λ i. i < length table.old.trees) args.now }
     requires below { UseBelow (length table.old.trees) used.now }
     requires suits { Suits used.now (length args.now) }
-    ensures gives { GivesTerm table.new labels.now result
+    ensures gives { GivesTerm table.new named_terms.now result
         (used_by (inside table.old sig.now scope.now blocks.now) table.old.trees used.now
-        (trees_in table.old args.now) (labels_in table.old labels.now)) }
+        (trees_in table.old args.now) (named_terms_in table.old named_terms.now)) }
     ensures grows { Grows table.old table.new }
 {
     names_law();
-    use_arguments(
+    apply_head(
         alloc,
         *used,
         args.as_slice(),

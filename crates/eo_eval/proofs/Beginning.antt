@@ -24,9 +24,9 @@ use Rattle.eo_stack.specs.declared.calls.LocalKey.{LocalKey}
 use Rattle.eo_eval.specs.declared.machine.Machine.{Machine}
 use Rattle.eo_stack.specs.declared.stack.Frame as code_frame
 use Rattle.eo_stack.specs.declared.stack.Frame.TheVariants as frame
-use Rattle.eo_stack.specs.declared.stack.Known as code_known
-use Rattle.eo_stack.specs.declared.stack.Known.TheVariants as known
-use Rattle.eo_stack.specs.declared.stack.Now.TheVariants as next
+use Rattle.eo_stack.specs.declared.stack.CallMemo as code_memo
+use Rattle.eo_stack.specs.declared.stack.CallMemo.TheVariants as known
+use Rattle.eo_stack.specs.declared.stack.Control.TheVariants as next
 use Rattle.eo_eval.proofs.Calling.{call_again, call_new, call_full, covers_new}
 use Rattle.eo_eval.proofs.Called.{call_read}
 use Rattle.eo_term.proofs.Numbers.{found_entry}
@@ -39,9 +39,9 @@ use Rattle.eo_eval.proofs.Running.{begun_at, begun_count}
 use Rattle.eo_eval.proofs.Steps.{stacked_later}
 
 abbrev Entry : Type 0
-Entry = CallKey × code_known.Known
+Entry = CallKey × code_memo.CallMemo
 
-begun_more : (ts : List Tree) (es : List Entry) (k : CallKey) (v : code_known.Known) → begun ts (es ++ (k, v) ∷ []) ≡ begun ts es ++ read_call ts k ∷ []
+begun_more : (ts : List Tree) (es : List Entry) (k : CallKey) (v : code_memo.CallMemo) → begun ts (es ++ (k, v) ∷ []) ≡ begun ts es ++ read_call ts k ∷ []
 begun_more ts [] k v = refl
 begun_more ts (e ∷ es) k v = ap (λ cs. read_call ts e.0 ∷ cs) (begun_more ts es k v)
 
@@ -57,7 +57,7 @@ placed_more : (b : Begun) (x : Call) (f : code_frame.Frame) → IsPlaced (length
 placed_more b x (frame.Body place body base here kept) p = omega (arith, p, longer b x)
 placed_more b x f p = tt
 
--- What waits is the same, and what stands for parameters is right.
+-- What waits is the same, and the values of parameters are right.
 
 waiting_more : (ts : List Tree) (b : Begun) (x : Call) (scope : Bound) (fs : List code_frame.Frame) (vs : List ℕ) → All (IsPlaced (length b)) fs → waiting ts (b ++ x ∷ []) scope fs vs ≡ waiting ts b scope fs vs
 waiting_more ts b x scope [] vs h = refl
@@ -82,7 +82,7 @@ scoped_more S ts b x scope [] h = scope_more S ts b x scope h
 scoped_more S ts b x scope (frame.Body place body base here kept ∷ fs) h = (scope_more S ts b x scope h.0, scoped_more S ts b x (outer scope base here) fs h.1)
 scoped_more S ts b x scope (f ∷ fs) h = scoped_more S ts b x scope fs h
 
-known_later : (ts : List Tree) (b c : Begun) → Covers c b → (F : Family) (r : code_known.Known) → IsKnown ts b F r → IsKnown ts c F r
+known_later : (ts : List Tree) (b c : Begun) → Covers c b → (F : Family) (r : code_memo.CallMemo) → IsKnown ts b F r → IsKnown ts c F r
 known_later ts b c over F known.Open h = h
 known_later ts b c over F (known.Value i d) h = (h.0, λ k e cover. h.1 k e (λ x m. cover x (over x m)))
 known_later ts b c over F (known.Stuck d) h = λ k e cover. h k e (λ x m. cover x (over x m))
@@ -129,17 +129,17 @@ module _ (S : Signature) (most : ℕ) (ts : List Tree) (cs : List Entry) (key : 
   abbrev C : Begun → Entry → Type 0
   C c e = IsKnown ts c (calls S most (read_call ts e.0)) e.1
 
-  abbrev T : Begun → ℕ × code_known.Known → Type 0
+  abbrev T : Begun → ℕ × code_memo.CallMemo → Type 0
   T c e = (e.0 < length ts) × IsKnown ts c (evals S most (tree_at ts e.0)) e.1
 
-  local_more : (e : LocalKey × code_known.Known) → Covers (b ++ x ∷ []) b → IsLocal S most ts b e → IsLocal S most ts (b ++ x ∷ []) e
+  local_more : (e : LocalKey × code_memo.CallMemo) → Covers (b ++ x ∷ []) b → IsLocal S most ts b e → IsLocal S most ts (b ++ x ∷ []) e
   local_more e over h = record {
     live = h.live;
     begun = omega (arith, h.begun, longer b x);
     known = subst (λ σ. IsKnown ts (b ++ x ∷ []) (evals S most (put σ (tree_at ts e.0.id))) e.1) (sym (here_more S b x e.0.here h.begun)) (known_later ts b (b ++ x ∷ []) over (evals S most (local_tree S ts b e.0)) e.1 h.known);
   }
 
-  remembers_more : (es : List (ℕ × code_known.Known)) (ls : List (LocalKey × code_known.Known)) → Covers (b ++ x ∷ []) b → Remembers S most ts cs es ls → Remembers S most ts (cs ++ (key, known.Open) ∷ []) es ls
+  remembers_more : (es : List (ℕ × code_memo.CallMemo)) (ls : List (LocalKey × code_memo.CallMemo)) → Covers (b ++ x ∷ []) b → Remembers S most ts cs es ls → Remembers S most ts (cs ++ (key, known.Open) ∷ []) es ls
   remembers_more es ls over h =
       let same = sym (begun_more ts cs key known.Open) in
       record {

@@ -12,8 +12,8 @@ use Rattle.eo_sig.specs.Reading.{Kept, signature}
 use Rattle.eo_sig.specs.Signature.{Signature}
 use Rattle.eo_stack.specs.Evaluation.{Value, Stuck, Call, Begun}
 use Rattle.eo_stack.specs.Machine.{Frame, OfCall, evals, calls, finish}
-use Rattle.eo_stack.specs.Reading.{waiting, told, Waits, call_at, read_call, begun, IsKnown, IsLocal, Remembers, Scoped, IsFrame, IsPlaced, IsResult, depth_of, deeper, known_of, NowBelow}
-use Rattle.eo_eval.specs.Ready.{Based, Stands, Ready, PoppedReady, told_in, told_popped}
+use Rattle.eo_stack.specs.Reading.{waiting, told, Waits, call_at, read_call, begun, IsKnown, IsLocal, Remembers, Scoped, IsFrame, IsPlaced, IsResult, depth_of, deeper, memo_of, ControlBelow}
+use Rattle.eo_eval.specs.Ready.{Based, Stands, Ready, PoppedReady, outcome_from, outcome_of_frame}
 use Rattle.std.proofs.Math.Path.{transport}
 use Rattle.eo_stack.specs.Scopes.{Bound, entered, outer, IsValueSlot}
 use Rattle.eo_stack.specs.declared.calls.CallKey.{CallKey}
@@ -21,25 +21,25 @@ use Rattle.eo_stack.specs.declared.calls.LocalKey.{LocalKey}
 use Rattle.eo_eval.specs.declared.machine.Machine.{Machine}
 use Rattle.eo_stack.specs.declared.stack.Frame as code_frame
 use Rattle.eo_stack.specs.declared.stack.Frame.TheVariants as frame
-use Rattle.eo_stack.specs.declared.stack.Known as code_known
-use Rattle.eo_stack.specs.declared.stack.Now as code_now
-use Rattle.eo_stack.specs.declared.stack.Now.TheVariants as next
+use Rattle.eo_stack.specs.declared.stack.CallMemo as code_memo
+use Rattle.eo_stack.specs.declared.stack.Control as code_control
+use Rattle.eo_stack.specs.declared.stack.Control.TheVariants as next
 use Rattle.eo_eval.proofs.Waiting.{waits_called, again_called}
 
 abbrev Entry : Type 0
-Entry = CallKey × code_known.Known
+Entry = CallKey × code_memo.CallMemo
 
-pub begun_set : (ts : List Tree) (es : List Entry) (i : ℕ) (v : code_known.Known) → begun ts (set_value_at es i v) ≡ begun ts es
+pub begun_set : (ts : List Tree) (es : List Entry) (i : ℕ) (v : code_memo.CallMemo) → begun ts (set_value_at es i v) ≡ begun ts es
 begun_set ts [] i v = refl
 begun_set ts (e ∷ es) zero v = refl
 begun_set ts (e ∷ es) (suc i) v = ap (λ cs. read_call ts e.0 ∷ cs) (begun_set ts es i v)
 
-all_set : (P : Entry → Type 0) (es : List Entry) (i : ℕ) (v : code_known.Known) → All P es → ((e : Entry) → slice_get es i ≡ Some e → P (e.0, v)) → All P (set_value_at es i v)
+all_set : (P : Entry → Type 0) (es : List Entry) (i : ℕ) (v : code_memo.CallMemo) → All P es → ((e : Entry) → slice_get es i ≡ Some e → P (e.0, v)) → All P (set_value_at es i v)
 all_set P [] i v h p = h
 all_set P (e ∷ es) zero v h p = All-cons P (e.0, v) es (p e refl) (All-tail P e es h)
 all_set P (e ∷ es) (suc i) v h p = All-cons P e (set_value_at es i v) (All-head P e es h) (all_set P es i v (All-tail P e es h) p)
 
-pub keys_set : (P : CallKey → Type 0) (es : List Entry) (i : ℕ) (v : code_known.Known) → All (λ (e : Entry). P e.0) es → All (λ (e : Entry). P e.0) (set_value_at es i v)
+pub keys_set : (P : CallKey → Type 0) (es : List Entry) (i : ℕ) (v : code_memo.CallMemo) → All (λ (e : Entry). P e.0) es → All (λ (e : Entry). P e.0) (set_value_at es i v)
 keys_set P [] i v h = h
 keys_set P (e ∷ es) zero v h = All-cons (λ (e : Entry). P e.0) (e.0, v) es (All-head (λ (e : Entry). P e.0) e es h) (All-tail (λ (e : Entry). P e.0) e es h)
 keys_set P (e ∷ es) (suc i) v h = All-cons (λ (e : Entry). P e.0) e (set_value_at es i v) (All-head (λ (e : Entry). P e.0) e es h) (keys_set P es i v (All-tail (λ (e : Entry). P e.0) e es h))
@@ -50,10 +50,10 @@ call_read ts (x ∷ es) zero e h = ap (λ (y : Entry). read_call ts y.0) (same_S
 call_read ts (x ∷ es) (suc i) e h = call_read ts es i e h
 
 -- what is kept of the call at a place is right where it is right of that call
-pub remembers_put : (S : Signature) (most : ℕ) (ts : List Tree) (cs : List Entry) (es : List (ℕ × code_known.Known)) (ls : List (LocalKey × code_known.Known)) (i : ℕ) (v : code_known.Known) → Remembers S most ts cs es ls → IsKnown ts (begun ts cs) (calls S most (call_at (begun ts cs) i)) v → Remembers S most ts (set_value_at cs i v) es ls
+pub remembers_put : (S : Signature) (most : ℕ) (ts : List Tree) (cs : List Entry) (es : List (ℕ × code_memo.CallMemo)) (ls : List (LocalKey × code_memo.CallMemo)) (i : ℕ) (v : code_memo.CallMemo) → Remembers S most ts cs es ls → IsKnown ts (begun ts cs) (calls S most (call_at (begun ts cs) i)) v → Remembers S most ts (set_value_at cs i v) es ls
 remembers_put S most ts cs es ls i v h known =
     let C : Begun → Entry → Type 0 = λ b c. IsKnown ts b (calls S most (read_call ts c.0)) c.1 in
-    let T : Begun → ℕ × code_known.Known → Type 0 = λ b c. (c.0 < length ts) × IsKnown ts b (evals S most (tree_at ts c.0)) c.1 in
+    let T : Begun → ℕ × code_memo.CallMemo → Type 0 = λ b c. (c.0 < length ts) × IsKnown ts b (evals S most (tree_at ts c.0)) c.1 in
     let b = begun ts cs in
     let same = sym (begun_set ts cs i v) in
     record {
@@ -63,7 +63,7 @@ remembers_put S most ts cs es ls i v h known =
     }
 
 -- of fewer terms in bodies
-pub remembers_fewer : (S : Signature) (most : ℕ) (ts : List Tree) (cs : List Entry) (es : List (ℕ × code_known.Known)) (ls : List (LocalKey × code_known.Known)) (n : ℕ) → Remembers S most ts cs es ls → Remembers S most ts cs es (take n ls)
+pub remembers_fewer : (S : Signature) (most : ℕ) (ts : List Tree) (cs : List Entry) (es : List (ℕ × code_memo.CallMemo)) (ls : List (LocalKey × code_memo.CallMemo)) (n : ℕ) → Remembers S most ts cs es ls → Remembers S most ts cs es (take n ls)
 remembers_fewer S most ts cs es ls n h = record { calls = h.calls; terms = h.terms; locals = All-take (IsLocal S most ts (begun ts cs)) n ls h.locals }
 
 module _ (S : Signature) (most : ℕ) (ts : List Tree) (b : Begun) (scope : Bound) (fs : List code_frame.Frame) (vs : List ℕ) (place body base here kept : ℕ) where
@@ -82,22 +82,22 @@ module _ (S : Signature) (most : ℕ) (ts : List Tree) (b : Begun) (scope : Boun
   top : f ∷ reverse fs ≡ reverse (fs ++ f ∷ [])
   top = sym (reverse-append fs (f ∷ []))
 
-  popped : (now : code_now.Now) → Stands S most ts b scope (fs ++ f ∷ []) vs now → Waits S most ts b scope (OfCall x (entered ts scope body) ∷ ws) now
+  popped : (now : code_control.Control) → Stands S most ts b scope (fs ++ f ∷ []) vs now → Waits S most ts b scope (OfCall x (entered ts scope body) ∷ ws) now
   popped now s = subst (λ gs. Waits S most ts b scope (waiting ts b scope gs vs) now) (sym top) s.waits
 
-  pub call_told : (now : code_now.Now) (e : ℕ) → IsResult now → told S most ts b before fs vs (deeper now e) ≡ told S most ts b scope (fs ++ f ∷ []) vs now
+  pub call_told : (now : code_control.Control) (e : ℕ) → IsResult now → told S most ts b before fs vs (deeper now e) ≡ told S most ts b scope (fs ++ f ∷ []) vs now
   call_told (next.Value i d) e r = ap (λ gs. finish S most (waiting ts b scope gs vs) (Value (tree_at ts i), b)) top
   call_told (next.Stuck d) e r = ap (λ gs. finish S most (waiting ts b scope gs vs) (Stuck, b)) top
-  call_told (next.Enter i k) e r = absurd r
+  call_told (next.Eval i k) e r = absurd r
   call_told next.Deep e r = absurd r
   call_told next.Calls e r = absurd r
   call_told next.Range e r = absurd r
   call_told next.Tall e r = absurd r
 
-  pub call_known : (now : code_now.Now) → IsResult now → Stands S most ts b scope (fs ++ f ∷ []) vs now → IsKnown ts b (calls S most x) (known_of now (suc (depth_of now)))
+  pub call_known : (now : code_control.Control) → IsResult now → Stands S most ts b scope (fs ++ f ∷ []) vs now → IsKnown ts b (calls S most x) (memo_of now (suc (depth_of now)))
   call_known (next.Value i d) r s = (s.now_live, again_called S most b ws x (entered ts scope body) (Value (tree_at ts i)) d (popped (next.Value i d) s))
   call_known (next.Stuck d) r s = again_called S most b ws x (entered ts scope body) Stuck d (popped (next.Stuck d) s)
-  call_known (next.Enter i k) r s = absurd r
+  call_known (next.Eval i k) r s = absurd r
   call_known next.Deep r s = absurd r
   call_known next.Calls r s = absurd r
   call_known next.Range r s = absurd r
@@ -106,7 +106,7 @@ module _ (S : Signature) (most : ℕ) (ts : List Tree) (b : Begun) (scope : Boun
   scoped_after : Scoped S ts b scope (reverse (fs ++ f ∷ [])) → Scoped S ts b before (reverse fs)
   scoped_after h = (subst (Scoped S ts b scope) (sym top) h).1
 
-  after : (now : code_now.Now) → Stands S most ts b scope (fs ++ f ∷ []) vs now → (n : code_now.Now) → NowBelow (length ts) n → Waits S most ts b before ws n → Stands S most ts b before fs vs n
+  after : (now : code_control.Control) → Stands S most ts b scope (fs ++ f ∷ []) vs now → (n : code_control.Control) → ControlBelow (length ts) n → Waits S most ts b before ws n → Stands S most ts b before fs vs n
   after now s n live waits = record {
     now_live = live;
     frames_live = (All-pop (IsFrame ts) (fs ++ f ∷ []) fs (Some f) refl s.frames_live).0;
@@ -118,17 +118,17 @@ module _ (S : Signature) (most : ℕ) (ts : List Tree) (b : Begun) (scope : Boun
     waits = waits;
   }
 
-  pub call_stands : (now : code_now.Now) → IsResult now → Stands S most ts b scope (fs ++ f ∷ []) vs now → Stands S most ts b before fs vs (deeper now (suc (depth_of now)))
+  pub call_stands : (now : code_control.Control) → IsResult now → Stands S most ts b scope (fs ++ f ∷ []) vs now → Stands S most ts b before fs vs (deeper now (suc (depth_of now)))
   call_stands (next.Value i d) r s = after (next.Value i d) s (next.Value i (suc d)) s.now_live (waits_called S most b ws x (entered ts scope body) (Value (tree_at ts i)) d (popped (next.Value i d) s))
   call_stands (next.Stuck d) r s = after (next.Stuck d) s (next.Stuck (suc d)) tt (waits_called S most b ws x (entered ts scope body) Stuck d (popped (next.Stuck d) s))
-  call_stands (next.Enter i k) r s = absurd r
+  call_stands (next.Eval i k) r s = absurd r
   call_stands next.Deep r s = absurd r
   call_stands next.Calls r s = absurd r
   call_stands next.Range r s = absurd r
   call_stands next.Tall r s = absurd r
 
 -- The same of machines.
-module _ (k : Kept) (t : Terms) (typed : List (ℕ × ℕ)) (e later : Machine) (place body base here kept : ℕ) (now n : code_now.Now) (v : code_known.Known) (result : IsResult now)
+module _ (k : Kept) (t : Terms) (typed : List (ℕ × ℕ)) (e later : Machine) (place body base here kept : ℕ) (now n : code_control.Control) (v : code_memo.CallMemo) (result : IsResult now)
     (fs : later.stack.frames.items ≡ e.stack.frames.items) (vs : later.stack.values.items ≡ e.stack.values.items) (scope : later.scope ≡ outer e.scope base here) (cs : later.calls.entries ≡ set_value_at e.calls.entries place v) where
   abbrev sig : Signature
   sig = signature t.trees k
@@ -139,12 +139,12 @@ module _ (k : Kept) (t : Terms) (typed : List (ℕ × ℕ)) (e later : Machine) 
   same_begun : begun t.trees later.calls.entries ≡ b
   same_begun = ap (begun t.trees) cs ∙ begun_set t.trees e.calls.entries place v
 
-  pub ended_call_told : (d : ℕ) → n ≡ deeper now d → told_in k t later n ≡ told_popped k t e (frame.Body place body base here kept) now
+  pub ended_call_told : (d : ℕ) → n ≡ deeper now d → outcome_from k t later n ≡ outcome_of_frame k t e (frame.Body place body base here kept) now
   ended_call_told d same =
       (λ i. told sig calls_limit t.trees (same_begun i) (scope i) (fs i) (vs i) (same i)) ∙ call_told sig calls_limit t.trees b e.scope e.stack.frames.items e.stack.values.items place body base here kept now d result
 
   module _ (es : later.terms.entries ≡ e.terms.entries) (ls : later.locals.entries ≡ take kept e.locals.entries) where
-    remembers_set : PoppedReady k t typed e (frame.Body place body base here kept) now → v ≡ known_of now (suc (depth_of now)) → Remembers sig calls_limit t.trees later.calls.entries later.terms.entries later.locals.entries
+    remembers_set : PoppedReady k t typed e (frame.Body place body base here kept) now → v ≡ memo_of now (suc (depth_of now)) → Remembers sig calls_limit t.trees later.calls.entries later.terms.entries later.locals.entries
     remembers_set r is =
         let c = sym cs in
         let m = sym es in
@@ -154,7 +154,7 @@ module _ (k : Kept) (t : Terms) (typed : List (ℕ × ℕ)) (e later : Machine) 
         (remembers_put sig calls_limit t.trees e.calls.entries e.terms.entries e.locals.entries place v r.held.remembers
         (subst (IsKnown t.trees b (calls sig calls_limit (call_at b place))) (sym is) (call_known sig calls_limit t.trees b e.scope e.stack.frames.items e.stack.values.items place body base here kept now result r.stands))))
 
-    pub ended_call_ready : n ≡ deeper now (suc (depth_of now)) → v ≡ known_of now (suc (depth_of now)) → PoppedReady k t typed e (frame.Body place body base here kept) now → Ready k t typed later n
+    pub ended_call_ready : n ≡ deeper now (suc (depth_of now)) → v ≡ memo_of now (suc (depth_of now)) → PoppedReady k t typed e (frame.Body place body base here kept) now → Ready k t typed later n
     ended_call_ready same is r =
         let q = sym same_begun in
         let f = sym fs in

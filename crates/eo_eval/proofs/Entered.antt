@@ -1,4 +1,4 @@
--- The tree that is evaluated for a term: its kind and its parts are those of the term, with what stands for parameters put in.
+-- The tree that is evaluated for a term: its kind and its parts are those of the term, with the values of parameters substituted.
 use Rattle.std.specs.Prelude.{◌≡◌, ℕ, zero, suc, ◌<◌, All, true, false, List, [], ◌∷◌, drop, slice_get, Option, Some, None, option_map, option_and_then, IfSome, refl}
 use Rattle.std.specs.Option.{option_or, option_flatten}
 use Rattle.std.proofs.lemmas.List.Elements.{All-head, All-tail, All-drop}
@@ -94,7 +94,7 @@ module _ (ts : List Tree) (s : Bound) where
   entered_other i n h =
       ap (λ us. argument_at us n) (arguments_put (standing ts s) (tree_at ts i) (argument_kind (tree_at ts i) n h)) ∙ argument_put (standing ts s) (arguments_of (tree_at ts i)) n h
 
-  -- a term that is closed, or evaluated where nothing stands for any parameter, is the tree itself
+  -- a term that is closed, or evaluated where no parameter has a value, is the tree itself
   pub entered_closed : (i : ℕ) → is_closed (tree_at ts i) ≡ true → entered ts s i ≡ tree_at ts i
   entered_closed i h = put_closed (standing ts s) (tree_at ts i) h
 
@@ -105,7 +105,7 @@ module _ (ts : List Tree) (s : Bound) where
     pub entered_local : (i : ℕ) → entered ts s i ≡ local_tree S ts b (record { here = s.here; id = i })
     entered_local i = ap (λ σ. put σ (tree_at ts i)) h.agrees
 
--- A value is evaluated as it is, and a parameter to what stands for it.
+-- A value is evaluated as it is, and a parameter to its value.
 
 pub value_put : (σ : Assignment) (t : Tree) → is_value t ≡ true → put σ t ≡ t
 value_put σ (Con k) h = refl
@@ -131,7 +131,7 @@ entered_slot ts scope i n v is h = entered_par ts scope i n is ∙ ap (λ o. val
 pub entered_free : (ts : List Tree) (scope : Bound) (i n : ℕ) → Par n ≡ tree_at ts i → slot_at scope n ≡ None → entered ts scope i ≡ Par n
 entered_free ts scope i n is h = entered_par ts scope i n is ∙ ap (λ o. value_or_par n (option_map (tree_at ts) o)) h
 
--- what stands for a parameter is a value
+-- what a parameter is given is a value
 value_in : (ts : List Tree) (os : List (Option ℕ)) (n : ℕ) → All (IsValueSlot ts) os → IsValueSlot ts (option_flatten (slice_get os n))
 value_in ts [] n h = tt
 value_in ts (o ∷ os) zero h = All-head (IsValueSlot ts) o os h

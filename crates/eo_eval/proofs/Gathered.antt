@@ -13,17 +13,17 @@ use Rattle.eo_sig.specs.Reading.{Kept, signature}
 use Rattle.eo_sig.specs.Signature.{Signature}
 use Rattle.eo_pattern.specs.Matching.{put}
 use Rattle.eo_stack.specs.Evaluation.{Value, Call, Begun, call_within}
-use Rattle.eo_stack.specs.Machine.{parts_of, is_call, made, made_of, Handed, Comes, Again, Frame, OfNode, Stacked, evals, calls, finish}
-use Rattle.eo_stack.specs.Reading.{begun, waiting, told, IsFrame, IsPlaced, Remembers, Scoped, Waits, outcome_in, OutcomeBelow, now_of}
-use Rattle.eo_eval.specs.Ready.{Based, Stands, Ready, Keeps, Calling, Gathering, IsNextPart, waiting_for, waiting_in, told_in, told_rest, told_call}
+use Rattle.eo_stack.specs.Machine.{parts_of, is_call, made, made_of, Tail, Comes, Again, Frame, OfNode, Stacked, evals, calls, finish}
+use Rattle.eo_stack.specs.Reading.{begun, waiting, told, IsFrame, IsPlaced, Remembers, Scoped, Waits, outcome_in, OutcomeBelow, control_of}
+use Rattle.eo_eval.specs.Ready.{Based, Stands, Ready, Keeps, Calling, Gathering, IsNextPart, waiting_for, waiting_in, outcome_from, outcome_of_parts, told_call}
 use Rattle.eo_stack.specs.Scopes.{standing, entered, IsValueSlot}
 use Rattle.eo_stack.specs.declared.calls.CallKey.{CallKey}
 use Rattle.eo_eval.specs.declared.machine.Machine.{Machine}
 use Rattle.eo_stack.specs.declared.stack.Frame as code_frame
 use Rattle.eo_stack.specs.declared.stack.Frame.TheVariants as frame
-use Rattle.eo_stack.specs.declared.stack.Known as code_known
-use Rattle.eo_stack.specs.declared.stack.Now as code_now
-use Rattle.eo_stack.specs.declared.stack.Now.TheVariants as next
+use Rattle.eo_stack.specs.declared.stack.CallMemo as code_memo
+use Rattle.eo_stack.specs.declared.stack.Control as code_control
+use Rattle.eo_stack.specs.declared.stack.Control.TheVariants as next
 use Rattle.eo_stack.specs.declared.Outcome as code_outcome
 use Rattle.eo_eval.proofs.Entered.{call_put, made_put, entered_count, entered_part}
 use Rattle.eo_eval.proofs.Itself.{value_itself}
@@ -86,7 +86,7 @@ module _ (k : Kept) (t : Terms) (typed : List (ℕ × ℕ)) (e : Machine) (i bas
         (omega (arith, h.within, ap length vs, length-append e.stack.values.items (v ∷ []))) (omega (arith, part.1.0, length-append own (v ∷ []))) (All-push (λ j. j < length t.trees) own v h.values_live value.0) h.stands h.waits
         (subst (λ xs. Comes (evals S calls_limit node) (rest S calls_limit b ws node xs) deepest b) (sym read_more) (comes_more S calls_limit b ws node us (tree_at t.trees v) deepest h.comes (more_is part.1.0) at_once))
 
-    pub more_told : (left : ℕ) → told_rest k t later i base left ≡ told_rest k t e i base left
+    pub more_told : (left : ℕ) → outcome_of_parts k t later i base left ≡ outcome_of_parts k t e i base left
     more_told left =
         rest_told k t typed e later i base deepest (take base e.stack.values.items) (own ++ v ∷ []) fs before_more own_more scope cs left
         ∙ ap (finish S calls_limit ws) (ap (λ xs. rest S calls_limit b ws node xs left b) read_more ∙ sym (rest_more S calls_limit b ws node us (tree_at t.trees v) (more_is part.1.0) at_once left b))
@@ -100,18 +100,18 @@ module _ (k : Kept) (t : Terms) (typed : List (ℕ × ℕ)) (e : Machine) (i bas
     top : f ∷ reverse e.stack.frames.items ≡ reverse (e.stack.frames.items ++ f ∷ [])
     top = sym (reverse-append e.stack.frames.items (f ∷ []))
 
-    pub waits_told : told_in k t later (next.Enter p left) ≡ told_rest k t e i base left
+    pub waits_told : outcome_from k t later (next.Eval p left) ≡ outcome_of_parts k t e i base left
     waits_told =
-        (λ j. told S calls_limit t.trees (begun t.trees (cs j)) (scope j) (fs j) (vs j) (next.Enter p left))
+        (λ j. told S calls_limit t.trees (begun t.trees (cs j)) (scope j) (fs j) (vs j) (next.Eval p left))
         ∙ (ap (λ gs. finish S calls_limit (waiting t.trees b e.scope gs e.stack.values.items) (evals S calls_limit (entered t.trees e.scope p) left b)) (sym top)
         ∙ ap (finish S calls_limit ws) (sym (next_waits S calls_limit b ws node (entered t.trees e.scope p) us (part_is p part.1.0 part.1.1) (more_is part.1.0) left b)))
 
-    pub waits_ready : later.terms.entries ≡ e.terms.entries → later.locals.entries ≡ e.locals.entries → Ready k t typed later (next.Enter p left)
+    pub waits_ready : later.terms.entries ≡ e.terms.entries → later.locals.entries ≡ e.locals.entries → Ready k t typed later (next.Eval p left)
     waits_ready es ls =
         let s = h.stands in
         record {
           held = held_same k t typed e later cs es ls h.held;
-          stands = stands_same k t typed e later cs (e.stack.frames.items ++ f ∷ []) later.stack.frames.items e.stack.values.items later.stack.values.items (next.Enter p left) fs vs scope (record {
+          stands = stands_same k t typed e later cs (e.stack.frames.items ++ f ∷ []) later.stack.frames.items e.stack.values.items later.stack.values.items (next.Eval p left) fs vs scope (record {
             now_live = part.0;
             frames_live = All-push (IsFrame t.trees) e.stack.frames.items f s.frames_live h.live;
             placed = All-push (IsPlaced (length b)) e.stack.frames.items f s.placed tt;
@@ -119,7 +119,7 @@ module _ (k : Kept) (t : Terms) (typed : List (ℕ × ℕ)) (e : Machine) (i bas
             slots_live = s.slots_live;
             scoped = subst (Scoped S t.trees b e.scope) top s.scoped;
             based = subst (λ gs. Based t.trees gs e.stack.values.items) top ((h.within, part.1.0), s.based);
-            waits = subst (λ gs. Waits S calls_limit t.trees b e.scope (waiting t.trees b e.scope gs e.stack.values.items) (next.Enter p left)) top
+            waits = subst (λ gs. Waits S calls_limit t.trees b e.scope (waiting t.trees b e.scope gs e.stack.values.items) (next.Eval p left)) top
                 (waits_part S calls_limit b ws node (entered t.trees e.scope p) us deepest left h.waits h.comes (part_is p part.1.0 part.1.1) (more_is part.1.0));
           });
         }
@@ -137,14 +137,14 @@ module _ (k : Kept) (t : Terms) (typed : List (ℕ × ℕ)) (e : Machine) (i bas
       calls_it : (j : ℕ) (c : Begun) → rest S calls_limit b ws node us j c ≡ calls S calls_limit x j c
       calls_it j c = no_part S (call_within S calls_limit j) node us c none_left ∙ ap (λ y. made S (call_within S calls_limit j) (put (standing t.trees e.scope) y) us c) (sym tree)
 
-      module _ (later : Machine) (fs : later.stack.frames.items ≡ e.stack.frames.items ++ frame.Handed i deepest ∷ []) (vs : later.stack.values.items ≡ take base e.stack.values.items) (scope : later.scope ≡ e.scope) (cs : later.calls.entries ≡ e.calls.entries) where
-        top_handed : frame.Handed i deepest ∷ reverse e.stack.frames.items ≡ reverse (e.stack.frames.items ++ frame.Handed i deepest ∷ [])
-        top_handed = sym (reverse-append e.stack.frames.items (frame.Handed i deepest ∷ []))
+      module _ (later : Machine) (fs : later.stack.frames.items ≡ e.stack.frames.items ++ frame.Tail i deepest ∷ []) (vs : later.stack.values.items ≡ take base e.stack.values.items) (scope : later.scope ≡ e.scope) (cs : later.calls.entries ≡ e.calls.entries) where
+        top_handed : frame.Tail i deepest ∷ reverse e.stack.frames.items ≡ reverse (e.stack.frames.items ++ frame.Tail i deepest ∷ [])
+        top_handed = sym (reverse-append e.stack.frames.items (frame.Tail i deepest ∷ []))
 
-        waiting_is : waiting_in t later ≡ OfNode node Handed deepest 0 ∷ ws
+        waiting_is : waiting_in t later ≡ OfNode node Tail deepest 0 ∷ ws
         waiting_is = (λ j. waiting t.trees (begun t.trees (cs j)) (scope j) (reverse (fs j)) (vs j)) ∙ ap (λ gs. waiting t.trees b e.scope gs (take base e.stack.values.items)) (sym top_handed)
 
-        pub call_told : (left : ℕ) → told_call k t later x left ≡ told_rest k t e i base left
+        pub call_told : (left : ℕ) → told_call k t later x left ≡ outcome_of_parts k t e i base left
         call_told left =
             (λ j. finish S calls_limit (waiting_is j) (calls S calls_limit x left (begun t.trees (cs j)))) ∙ ap (finish S calls_limit ws) (sym (calls_it left b))
 
@@ -155,10 +155,10 @@ module _ (k : Kept) (t : Terms) (typed : List (ℕ × ℕ)) (e : Machine) (i bas
             let w = sym waiting_is in
             record {
               held = held_same k t typed e later cs es ls h.held;
-              stands = stands_same k t typed e later cs (e.stack.frames.items ++ frame.Handed i deepest ∷ []) later.stack.frames.items (take base e.stack.values.items) later.stack.values.items next.Deep fs vs scope (record {
+              stands = stands_same k t typed e later cs (e.stack.frames.items ++ frame.Tail i deepest ∷ []) later.stack.frames.items (take base e.stack.values.items) later.stack.values.items next.Deep fs vs scope (record {
                 now_live = tt;
-                frames_live = All-push (IsFrame t.trees) e.stack.frames.items (frame.Handed i deepest) s.frames_live h.live;
-                placed = All-push (IsPlaced (length b)) e.stack.frames.items (frame.Handed i deepest) s.placed tt;
+                frames_live = All-push (IsFrame t.trees) e.stack.frames.items (frame.Tail i deepest) s.frames_live h.live;
+                placed = All-push (IsPlaced (length b)) e.stack.frames.items (frame.Tail i deepest) s.placed tt;
                 values_live = s.values_live;
                 slots_live = s.slots_live;
                 scoped = subst (Scoped S t.trees b e.scope) top_handed s.scoped;
@@ -182,8 +182,8 @@ module _ (k : Kept) (t : Terms) (typed : List (ℕ × ℕ)) (e : Machine) (i bas
       pub gathered_keeps : Keeps S calls_limit t.trees b e.scope i o deepest
       gathered_keeps = record { term = h.live; value = live; again = ends_again }
 
-      module _ (later : Machine) (n : code_now.Now) (fs : later.stack.frames.items ≡ e.stack.frames.items) (vs : later.stack.values.items ≡ take base e.stack.values.items) (scope : later.scope ≡ e.scope) (cs : later.calls.entries ≡ e.calls.entries) (same : n ≡ now_of o deepest) where
-        pub gathered_told : (left : ℕ) → told_in k t later n ≡ told_rest k t e i base left
+      module _ (later : Machine) (n : code_control.Control) (fs : later.stack.frames.items ≡ e.stack.frames.items) (vs : later.stack.values.items ≡ take base e.stack.values.items) (scope : later.scope ≡ e.scope) (cs : later.calls.entries ≡ e.calls.entries) (same : n ≡ control_of o deepest) where
+        pub gathered_told : (left : ℕ) → outcome_from k t later n ≡ outcome_of_parts k t e i base left
         gathered_told left =
             (λ j. told S calls_limit t.trees (begun t.trees (cs j)) (scope j) (fs j) (vs j) (same j)) ∙ ap (finish S calls_limit ws) (current_ended S calls_limit t.trees b e.scope o deepest ∙ sym (ends left b))
 
@@ -191,9 +191,9 @@ module _ (k : Kept) (t : Terms) (typed : List (ℕ × ℕ)) (e : Machine) (i bas
         gathered_ready remembers =
             let s = h.stands in
             record {
-              held = record { usable = h.held.usable; fit = h.held.fit; keys_live = subst (All (λ (c : CallKey × code_known.Known). All (λ i. i < length t.trees) c.0.args)) (sym cs) h.held.keys_live; remembers = remembers };
+              held = record { usable = h.held.usable; fit = h.held.fit; keys_live = subst (All (λ (c : CallKey × code_memo.CallMemo). All (λ i. i < length t.trees) c.0.args)) (sym cs) h.held.keys_live; remembers = remembers };
               stands = subst (Stands S calls_limit t.trees (begun t.trees later.calls.entries) later.scope later.stack.frames.items later.stack.values.items) (sym same)
-                  (stands_same k t typed e later cs e.stack.frames.items later.stack.frames.items (take base e.stack.values.items) later.stack.values.items (now_of o deepest) fs vs scope (record {
+                  (stands_same k t typed e later cs e.stack.frames.items later.stack.frames.items (take base e.stack.values.items) later.stack.values.items (control_of o deepest) fs vs scope (record {
                     now_live = live_ended S calls_limit t.trees b e.scope o deepest live;
                     frames_live = s.frames_live;
                     placed = s.placed;

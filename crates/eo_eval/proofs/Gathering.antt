@@ -16,15 +16,15 @@ use Rattle.eo_type.specs.Known.{Fit}
 use Rattle.eo_stack.specs.Evaluation.{Begun, call_within}
 use Rattle.eo_stack.specs.Machine.{parts_of, made_of, rest_with, Comes, Frame, Stacked, evals, finish}
 use Rattle.eo_stack.specs.Reading.{is_par, begun, waiting, IsWhole}
-use Rattle.eo_eval.specs.Ready.{Stands, Held, Ready, Gathering, waiting_for, told_in, told_rest, IsNextPart}
+use Rattle.eo_eval.specs.Ready.{Stands, Held, Ready, Gathering, waiting_for, outcome_from, outcome_of_parts, IsNextPart}
 use Rattle.eo_stack.specs.Scopes.{entered}
 use Rattle.eo_eval.specs.declared.machine.Machine.{Machine}
-use Rattle.eo_stack.specs.declared.stack.Now.TheVariants as next
+use Rattle.eo_stack.specs.declared.stack.Control.TheVariants as next
 use Rattle.eo_eval.proofs.Grown.{entered_grown, held_grown, now_stands, same_begun, trees_grown, waiting_same}
 use Rattle.eo_eval.proofs.Same.{held_same, stands_same}
 use Rattle.eo_eval.proofs.Waiting.{comes_whole, rest}
 
--- the values from a place on, as a slice tells them
+-- the values from a place on, as a slice has them
 pub values_from : (base : ℕ) (vs xs : List ℕ) → xs ≡ vs → take (length xs - base) (drop base xs) ≡ drop base vs
 values_from base vs xs same = ap (λ n. take n (drop base xs)) (sym (length-drop base xs)) ∙ (take-length (drop base xs) ∙ ap (drop base) same)
 
@@ -79,7 +79,7 @@ module _ (k : Kept) (t : Terms) (typed : List (ℕ × ℕ)) (e later : Machine) 
         comes = transport (λ j. Comes (evals S calls_limit (entered t.trees (s j) i)) (λ l. rest_with S (call_within S calls_limit l) (entered t.trees (s j) i) (map (tree_at t.trees) (o j))) deepest (begun t.trees (c j))) comes;
       }
 
-  pub rest_told : (left : ℕ) → told_rest k t later i base left ≡ finish S calls_limit ws (rest S calls_limit b ws (entered t.trees e.scope i) (map (tree_at t.trees) back) left b)
+  pub rest_told : (left : ℕ) → outcome_of_parts k t later i base left ≡ finish S calls_limit ws (rest S calls_limit b ws (entered t.trees e.scope i) (map (tree_at t.trees) back) left b)
   rest_told left = λ j. finish S calls_limit (waiting t.trees (begun t.trees (cs j)) (scope j) (reverse (fs j)) (before j)) (rest_with S (call_within S calls_limit left) (entered t.trees (scope j) i) (map (tree_at t.trees) (own j)) (begun t.trees (cs j)))
 
 -- A node begins to collect.
@@ -93,14 +93,14 @@ module _ (k : Kept) (t : Terms) (typed : List (ℕ × ℕ)) (e : Machine) (i bas
   none : drop base vs ≡ []
   none = drop_all base vs (omega (arith, at))
 
-  pub gathering_begins : (left : ℕ) → is_par (tree_at t.trees i) ≡ false → Ready k t typed e (next.Enter i left) → Gathering k t typed e i base 0
+  pub gathering_begins : (left : ℕ) → is_par (tree_at t.trees i) ≡ false → Ready k t typed e (next.Eval i left) → Gathering k t typed e i base 0
   gathering_begins left node r =
       let s = r.stands in
       gathering_of k t typed e e i base 0 vs [] refl all none refl refl refl refl r.held s.now_live node (omega (arith, at)) (omega arith) (All-nil (λ j. j < length t.trees))
       (record { now_live = tt; frames_live = s.frames_live; placed = s.placed; values_live = s.values_live; slots_live = s.slots_live; scoped = s.scoped; based = s.based; waits = tt })
       s.waits (comes_whole (signature t.trees k) calls_limit (begun t.trees e.calls.entries) [] (entered t.trees e.scope i) whole)
 
-  pub begins_told : (left : ℕ) → told_rest k t e i base left ≡ told_in k t e (next.Enter i left)
+  pub begins_told : (left : ℕ) → outcome_of_parts k t e i base left ≡ outcome_from k t e (next.Eval i left)
   begins_told left =
       let S = signature t.trees k in
       rest_told k t typed e e i base 0 vs [] refl all none refl refl left
@@ -149,7 +149,7 @@ module _ (k : Kept) (old new : Terms) (u : GrowsUnder k old new) (e : Machine) (
         comes = transport (λ j. Comes (evals (S j) calls_limit (n j)) (λ l. rest_with (S j) (call_within (S j) calls_limit l) (n j) (us j)) deepest (b j)) h.comes;
       }
 
-  pub rest_told_grown : (left : ℕ) → told_rest k new e i base left ≡ told_rest k old e i base left
+  pub rest_told_grown : (left : ℕ) → outcome_of_parts k new e i base left ≡ outcome_of_parts k old e i base left
   rest_told_grown left =
       let S = sig_same in
       let b = begun_same in

@@ -11,12 +11,12 @@ use Rattle.eo_sig.specs.Signature.{Signature}
 use Rattle.eo_stack.specs.Evaluation.{Value, Begun}
 use Rattle.eo_stack.specs.Machine.{Parts, Comes, Frame, OfNode, evals, finish}
 use Rattle.eo_stack.specs.Reading.{begun, waiting, IsFrame, IsPlaced, Scoped, Waits}
-use Rattle.eo_eval.specs.Ready.{Based, PoppedReady, Gathering, waiting_for, told_popped, told_rest}
+use Rattle.eo_eval.specs.Ready.{Based, PoppedReady, Gathering, waiting_for, outcome_of_frame, outcome_of_parts}
 use Rattle.eo_stack.specs.Scopes.{entered}
 use Rattle.eo_eval.specs.declared.machine.Machine.{Machine}
 use Rattle.eo_stack.specs.declared.stack.Frame as code_frame
 use Rattle.eo_stack.specs.declared.stack.Frame.TheVariants as frame
-use Rattle.eo_stack.specs.declared.stack.Now.TheVariants as next
+use Rattle.eo_stack.specs.declared.stack.Control.TheVariants as next
 use Rattle.eo_eval.proofs.Entered.{part_kind}
 use Rattle.eo_eval.proofs.Waiting.{comes_given, rest}
 use Rattle.eo_eval.proofs.Gathering.{gathering_of, rest_told}
@@ -79,7 +79,7 @@ module _ (k : Kept) (t : Terms) (typed : List (ℕ × ℕ)) (e later : Machine) 
       given.1.0.1
       (subst (λ xs. Comes (evals S calls_limit node) (rest S calls_limit b ws node xs) (max deepest inner) b) (sym read_given) (comes_given S calls_limit b ws node (map (tree_at t.trees) own) (tree_at t.trees v) deepest inner left given))
 
-  pub given_told : told_rest k t later i base left ≡ told_popped k t e f (next.Value v inner)
+  pub given_told : outcome_of_parts k t later i base left ≡ outcome_of_frame k t e f (next.Value v inner)
   given_told =
       rest_told k t typed e later i base (max deepest inner) (take base e.stack.values.items) (own ++ v ∷ []) fs before_given own_given scope cs left
       ∙ (ap (λ xs. finish S calls_limit ws (rest S calls_limit b ws node xs left b)) read_given ∙ ap (λ gs. finish S calls_limit (waiting t.trees b e.scope gs e.stack.values.items) (Value (tree_at t.trees v), b)) top)

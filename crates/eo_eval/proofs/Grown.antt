@@ -1,4 +1,4 @@
--- What waits, what is told and what is remembered are the same over a table that has grown.
+-- What waits, what is returned and what is remembered are the same over a table that has grown.
 use Rattle.std.specs.Prelude.{◌≡◌, ℕ, zero, suc, ◌<◌, All, Option, option_map, slice_get, List, [], ◌∷◌, length, map, take, drop, reverse, Some, None, refl}
 use Rattle.std.proofs.Common.{sym, ◌∙◌, ap, subst, arith}
 use Rattle.std.proofs.lemmas.List.Elements.{All-nil, All-cons, All-head, All-tail, All-take, All-drop, All-push, All-weaker}
@@ -7,11 +7,11 @@ use Rattle.eo_term.specs.Tree.{Tree, is_value}
 use Rattle.eo_term.specs.Terms.{Terms, Since, tree_at}
 use Rattle.eo_term.specs.Arguments.{arguments_of, argument_at, count_of}
 use Rattle.eo_sig.specs.Signature.{Signature}
-use Rattle.eo_stack.specs.declared.stack.Now as code_now
-use Rattle.eo_stack.specs.declared.stack.Now.TheVariants as next
+use Rattle.eo_stack.specs.declared.stack.Control as code_control
+use Rattle.eo_stack.specs.declared.stack.Control.TheVariants as next
 use Rattle.eo_stack.specs.Evaluation.{Value, Call, Begun, on_body, body_of, eval}
-use Rattle.eo_stack.specs.Machine.{Parts, Choice, Tested, Left, Right, Require, Required, Handed, Frame, OfNode, OfCall, Stacked, Family, Again, evals, calls, finish}
-use Rattle.eo_stack.specs.Reading.{waiting, read_call, begun, call_at, local_tree, IsFrame, IsKnown, IsLocal, Remembers, HasMore, NowBelow, Scoped, Waits, Given}
+use Rattle.eo_stack.specs.Machine.{Parts, Choice, Tested, EqLeft, EqRight, RequireLeft, RequireRight, Tail, Frame, OfNode, OfCall, Stacked, Family, Again, evals, calls, finish}
+use Rattle.eo_stack.specs.Reading.{waiting, read_call, begun, call_at, local_tree, IsFrame, IsKnown, IsLocal, Remembers, HasMore, ControlBelow, Scoped, Waits, Given}
 use Rattle.eo_stack.specs.Scopes.{Bound, standing, entered, outer, assignment_here, IsValueSlot, IsScope}
 use Rattle.eo_stack.specs.declared.calls.LocalKey.{LocalKey}
 use Rattle.eo_pattern.specs.Matching.{put}
@@ -19,8 +19,8 @@ use Rattle.std.specs.Option.{option_flatten}
 use Rattle.std.proofs.Math.Path.{transport}
 use Rattle.eo_stack.specs.declared.stack.Frame as code_frame
 use Rattle.eo_stack.specs.declared.stack.Frame.TheVariants as frame
-use Rattle.eo_stack.specs.declared.stack.Known as code_known
-use Rattle.eo_stack.specs.declared.stack.Known.TheVariants as known
+use Rattle.eo_stack.specs.declared.stack.CallMemo as code_memo
+use Rattle.eo_stack.specs.declared.stack.CallMemo.TheVariants as known
 use Rattle.eo_eval.specs.declared.machine.Machine.{Machine}
 use Rattle.eo_stack.specs.Machine.{parts_of}
 use Rattle.eo_eval.specs.Ready.{Based, Held, Stands, Calling, called_at, told_run, waiting_in}
@@ -42,7 +42,7 @@ module _ (old new : Terms) (g : Since old new) where
   abbrev Below : ℕ → Type 0
   Below i = i < length old.trees
 
-  abbrev KeyBelow : CallKey × code_known.Known → Type 0
+  abbrev KeyBelow : CallKey × code_memo.CallMemo → Type 0
   KeyBelow c = All Below c.0.args
 
   pub trees_grown : (is : List ℕ) → All Below is → map (tree_at new.trees) is ≡ map (tree_at old.trees) is
@@ -52,14 +52,14 @@ module _ (old new : Terms) (g : Since old new) where
       let more = trees_grown is (All-tail Below i is h) in
       λ j. one j ∷ more j
 
-  pub begun_grown : (es : List (CallKey × code_known.Known)) → All KeyBelow es → begun new.trees es ≡ begun old.trees es
+  pub begun_grown : (es : List (CallKey × code_memo.CallMemo)) → All KeyBelow es → begun new.trees es ≡ begun old.trees es
   begun_grown [] h = refl
   begun_grown (e ∷ es) h =
       let one = trees_grown e.0.args (All-head KeyBelow e es h) in
       let more = begun_grown es (All-tail KeyBelow e es h) in
       λ j. (record { program = e.0.program; arguments = one j }) ∷ more j
 
-  -- What stands for parameters is the same, and what is evaluated.
+  -- The values of parameters are the same, and what is evaluated.
 
   abbrev SlotsLive : Bound → Type 0
   SlotsLive s = All (IsValueSlot old.trees) s.slots
@@ -93,24 +93,24 @@ module _ (old new : Terms) (g : Since old new) where
           λ j. OfNode (t j) (Parts (t j) (us j)) d k ∷ w j
       by (frame.Choice i k) p r = let t = entered_grown s q i p.0 in let w = r s q vs l in λ j. OfNode (t j) (Choice (arg (t j) 1) (arg (t j) 2)) 0 k ∷ w j
       by (frame.Tested i) p r = let t = entered_grown s q i p in let w = r s q vs l in λ j. OfNode (t j) Tested 0 0 ∷ w j
-      by (frame.Left i k) p r = let t = entered_grown s q i p.0 in let w = r s q vs l in λ j. OfNode (t j) (Left (arg (t j) 1)) 0 k ∷ w j
-      by (frame.Right i u d) p r = let t = entered_grown s q i p.0 in let v = g.tree u p.1 in let w = r s q vs l in λ j. OfNode (t j) (Right (Some (v j))) d 0 ∷ w j
-      by (frame.Unequal i d) p r = let t = entered_grown s q i p in let w = r s q vs l in λ j. OfNode (t j) (Right None) d 0 ∷ w j
-      by (frame.Require i k) p r = let t = entered_grown s q i p.0 in let w = r s q vs l in λ j. OfNode (t j) (Require (arg (t j) 1) (arg (t j) 2)) 0 k ∷ w j
-      by (frame.Required i u d k) p r = let t = entered_grown s q i p.0.0 in let v = g.tree u p.1 in let w = r s q vs l in λ j. OfNode (t j) (Required (Some (v j)) (arg (t j) 2)) d k ∷ w j
-      by (frame.Missed i d) p r = let t = entered_grown s q i p in let w = r s q vs l in λ j. OfNode (t j) (Required None (arg (t j) 2)) d 0 ∷ w j
-      by (frame.Handed i d) p r = let t = entered_grown s q i p in let w = r s q vs l in λ j. OfNode (t j) Handed d 0 ∷ w j
+      by (frame.EqLeft i k) p r = let t = entered_grown s q i p.0 in let w = r s q vs l in λ j. OfNode (t j) (EqLeft (arg (t j) 1)) 0 k ∷ w j
+      by (frame.EqRight i u d) p r = let t = entered_grown s q i p.0 in let v = g.tree u p.1 in let w = r s q vs l in λ j. OfNode (t j) (EqRight (Some (v j))) d 0 ∷ w j
+      by (frame.EqStuck i d) p r = let t = entered_grown s q i p in let w = r s q vs l in λ j. OfNode (t j) (EqRight None) d 0 ∷ w j
+      by (frame.RequireLeft i k) p r = let t = entered_grown s q i p.0 in let w = r s q vs l in λ j. OfNode (t j) (RequireLeft (arg (t j) 1) (arg (t j) 2)) 0 k ∷ w j
+      by (frame.RequireRight i u d k) p r = let t = entered_grown s q i p.0.0 in let v = g.tree u p.1 in let w = r s q vs l in λ j. OfNode (t j) (RequireRight (Some (v j)) (arg (t j) 2)) d k ∷ w j
+      by (frame.RequireStuck i d) p r = let t = entered_grown s q i p in let w = r s q vs l in λ j. OfNode (t j) (RequireRight None (arg (t j) 2)) d 0 ∷ w j
+      by (frame.Tail i d) p r = let t = entered_grown s q i p in let w = r s q vs l in λ j. OfNode (t j) Tail d 0 ∷ w j
       by (frame.Body place body base here kept) p r = let t = entered_grown s q body p in let w = r (outer s base here) (outer_live s base here q) vs l in λ j. OfCall (call_at b place) (t j) ∷ w j
 
   -- and what waits, waits rightly
-  pub waits_grown : (S : Signature) (most : ℕ) (b : Begun) (s : Bound) (fs : List code_frame.Frame) (vs : List ℕ) (now : code_now.Now) → SlotsLive s → All (IsFrame old.trees) fs → All Below vs → NowBelow (length old.trees) now → Waits S most old.trees b s (waiting old.trees b s (reverse fs) vs) now → Waits S most new.trees b s (waiting new.trees b s (reverse fs) vs) now
+  pub waits_grown : (S : Signature) (most : ℕ) (b : Begun) (s : Bound) (fs : List code_frame.Frame) (vs : List ℕ) (now : code_control.Control) → SlotsLive s → All (IsFrame old.trees) fs → All Below vs → ControlBelow (length old.trees) now → Waits S most old.trees b s (waiting old.trees b s (reverse fs) vs) now → Waits S most new.trees b s (waiting new.trees b s (reverse fs) vs) now
   waits_grown S most b s fs vs now q h l n w = by now n (subst (λ xs. Waits S most old.trees b s xs now) (sym (waiting_grown b s q (reverse fs) vs (all_reverse (IsFrame old.trees) fs h) l)) w)
     where
       ws : List Frame
       ws = waiting new.trees b s (reverse fs) vs
 
-      by : (now : code_now.Now) → NowBelow (length old.trees) now → Waits S most old.trees b s ws now → Waits S most new.trees b s ws now
-      by (next.Enter i k) n w = subst (λ t. Stacked S most b ws (evals S most t)) (sym (entered_grown s q i n)) w
+      by : (now : code_control.Control) → ControlBelow (length old.trees) now → Waits S most old.trees b s ws now → Waits S most new.trees b s ws now
+      by (next.Eval i k) n w = subst (λ t. Stacked S most b ws (evals S most t)) (sym (entered_grown s q i n)) w
       by (next.Value i d) n w = subst (λ t. Given S most b ws (Value t) d) (sym (g.tree i n)) w
       by (next.Stuck d) n w = w
       by next.Deep n w = w
@@ -130,17 +130,17 @@ module _ (old new : Terms) (g : Since old new) where
   frame_grown (frame.Parts i base d k) h = below_grown i h
   frame_grown (frame.Choice i k) h = more_grown i 2 h
   frame_grown (frame.Tested i) h = below_grown i h
-  frame_grown (frame.Left i k) h = more_grown i 1 h
-  frame_grown (frame.Right i u d) h = (below_grown i h.0, below_grown u h.1)
-  frame_grown (frame.Unequal i d) h = below_grown i h
-  frame_grown (frame.Require i k) h = more_grown i 2 h
-  frame_grown (frame.Required i u d k) h = (more_grown i 2 h.0, below_grown u h.1)
-  frame_grown (frame.Missed i d) h = below_grown i h
-  frame_grown (frame.Handed i d) h = below_grown i h
+  frame_grown (frame.EqLeft i k) h = more_grown i 1 h
+  frame_grown (frame.EqRight i u d) h = (below_grown i h.0, below_grown u h.1)
+  frame_grown (frame.EqStuck i d) h = below_grown i h
+  frame_grown (frame.RequireLeft i k) h = more_grown i 2 h
+  frame_grown (frame.RequireRight i u d k) h = (more_grown i 2 h.0, below_grown u h.1)
+  frame_grown (frame.RequireStuck i d) h = below_grown i h
+  frame_grown (frame.Tail i d) h = below_grown i h
   frame_grown (frame.Body place body base here kept) h = below_grown body h
 
-  now_grown : (now : code_now.Now) → NowBelow (length old.trees) now → NowBelow (length new.trees) now
-  now_grown (next.Enter i k) h = below_grown i h
+  now_grown : (now : code_control.Control) → ControlBelow (length old.trees) now → ControlBelow (length new.trees) now
+  now_grown (next.Eval i k) h = below_grown i h
   now_grown (next.Value i d) h = below_grown i h
   now_grown (next.Stuck d) h = h
   now_grown next.Deep h = h
@@ -171,7 +171,7 @@ module _ (old new : Terms) (g : Since old new) where
   scoped_grown S b s q (frame.Body place body base here kept ∷ fs) h = (scope_grown S b s q h.0, scoped_grown S b (outer s base here) (outer_live s base here q) fs h.1)
   scoped_grown S b s q (f ∷ fs) h = scoped_grown S b s q fs h
 
-  pub stands_grown : (S : Signature) (most : ℕ) (b : Begun) (s : Bound) (fs : List code_frame.Frame) (vs : List ℕ) (now : code_now.Now) → Stands S most old.trees b s fs vs now → Stands S most new.trees b s fs vs now
+  pub stands_grown : (S : Signature) (most : ℕ) (b : Begun) (s : Bound) (fs : List code_frame.Frame) (vs : List ℕ) (now : code_control.Control) → Stands S most old.trees b s fs vs now → Stands S most new.trees b s fs vs now
   stands_grown S most b s fs vs now h = record {
     now_live = now_grown now h.now_live;
     frames_live = All-weaker (IsFrame old.trees) (IsFrame new.trees) frame_grown fs h.frames_live;
@@ -183,36 +183,36 @@ module _ (old new : Terms) (g : Since old new) where
     waits = waits_grown S most b s fs vs now h.slots_live h.frames_live h.values_live h.now_live h.waits;
   }
 
-  known_grown : (b : Begun) (F : Family) (r : code_known.Known) → IsKnown old.trees b F r → IsKnown new.trees b F r
+  known_grown : (b : Begun) (F : Family) (r : code_memo.CallMemo) → IsKnown old.trees b F r → IsKnown new.trees b F r
   known_grown b F known.Open h = h
   known_grown b F (known.Value i d) h = (below_grown i h.0, subst (λ t. Again F (Value t) d b) (sym (g.tree i h.0)) h.1)
   known_grown b F (known.Stuck d) h = h
 
   module _ (S : Signature) (most : ℕ) (b : Begun) where
-    abbrev CallKnown : List Tree → CallKey × code_known.Known → Type 0
+    abbrev CallKnown : List Tree → CallKey × code_memo.CallMemo → Type 0
     CallKnown ts e = IsKnown ts b (calls S most (read_call ts e.0)) e.1
 
-    abbrev TermKnown : List Tree → ℕ × code_known.Known → Type 0
+    abbrev TermKnown : List Tree → ℕ × code_memo.CallMemo → Type 0
     TermKnown ts e = (e.0 < length ts) × IsKnown ts b (evals S most (tree_at ts e.0)) e.1
 
-    calls_grown : (cs : List (CallKey × code_known.Known)) → All KeyBelow cs → All (CallKnown old.trees) cs → All (CallKnown new.trees) cs
+    calls_grown : (cs : List (CallKey × code_memo.CallMemo)) → All KeyBelow cs → All (CallKnown old.trees) cs → All (CallKnown new.trees) cs
     calls_grown [] l h = All-nil (CallKnown new.trees)
     calls_grown (e ∷ cs) l h =
         let args = trees_grown e.0.args (All-head KeyBelow e cs l) in
         let one : CallKnown new.trees e = subst (λ us. IsKnown new.trees b (calls S most (record { program = e.0.program; arguments = us })) e.1) (sym args) (known_grown b (calls S most (read_call old.trees e.0)) e.1 (All-head (CallKnown old.trees) e cs h)) in
         All-cons (CallKnown new.trees) e cs one (calls_grown cs (All-tail KeyBelow e cs l) (All-tail (CallKnown old.trees) e cs h))
 
-    term_grown : (e : ℕ × code_known.Known) → TermKnown old.trees e → TermKnown new.trees e
+    term_grown : (e : ℕ × code_memo.CallMemo) → TermKnown old.trees e → TermKnown new.trees e
     term_grown e h = (below_grown e.0 h.0, subst (λ t. IsKnown new.trees b (evals S most t) e.1) (sym (g.tree e.0 h.0)) (known_grown b (evals S most (tree_at old.trees e.0)) e.1 h.1))
 
-    local_grown : (e : LocalKey × code_known.Known) → IsLocal S most old.trees b e → IsLocal S most new.trees b e
+    local_grown : (e : LocalKey × code_memo.CallMemo) → IsLocal S most old.trees b e → IsLocal S most new.trees b e
     local_grown e h = record {
       live = below_grown e.0.id h.live;
       begun = h.begun;
       known = subst (λ t. IsKnown new.trees b (evals S most (put (assignment_here S b e.0.here) t)) e.1) (sym (g.tree e.0.id h.live)) (known_grown b (evals S most (local_tree S old.trees b e.0)) e.1 h.known);
     }
 
-  remembers_grown : (S : Signature) (most : ℕ) (cs : List (CallKey × code_known.Known)) (es : List (ℕ × code_known.Known)) (ls : List (LocalKey × code_known.Known)) → All KeyBelow cs → Remembers S most old.trees cs es ls → Remembers S most new.trees cs es ls
+  remembers_grown : (S : Signature) (most : ℕ) (cs : List (CallKey × code_memo.CallMemo)) (es : List (ℕ × code_memo.CallMemo)) (ls : List (LocalKey × code_memo.CallMemo)) → All KeyBelow cs → Remembers S most old.trees cs es ls → Remembers S most new.trees cs es ls
   remembers_grown S most cs es ls l h =
       let C : Begun → Type 0 = λ b. All (CallKnown S most b new.trees) cs in
       let T : Begun → Type 0 = λ b. All (TermKnown S most b new.trees) es in
@@ -224,30 +224,30 @@ module _ (old new : Terms) (g : Since old new) where
         locals = subst L (sym (begun_grown cs l)) (All-weaker (IsLocal S most old.trees b) (IsLocal S most new.trees b) (local_grown S most b) ls h.locals);
       }
 
--- All that a machine holds is right over a table that has grown, and what is told is the same.
+-- All that a machine holds is right over a table that has grown, and what is returned is the same.
 module _ (k : Kept) (old new : Terms) (u : GrowsUnder k old new) (e : Machine) (typed later : List (ℕ × ℕ)) (fit : Fit k new later) where
-  abbrev cs : List (CallKey × code_known.Known)
+  abbrev cs : List (CallKey × code_memo.CallMemo)
   cs = e.calls.entries
 
   pub held_grown : Held k old typed e → Held k new later e
   held_grown h = record {
     usable = subst IsUsable (sym u.stays.signature) h.usable;
     fit = fit;
-    keys_live = All-weaker (λ (c : CallKey × code_known.Known). All (λ i. i < length old.trees) c.0.args) (λ (c : CallKey × code_known.Known). All (λ i. i < length new.trees) c.0.args) (λ c l. All-weaker (λ i. i < length old.trees) (λ i. i < length new.trees) (λ i m. omega (arith, m, u.table.now.more_trees)) c.0.args l) cs h.keys_live;
+    keys_live = All-weaker (λ (c : CallKey × code_memo.CallMemo). All (λ i. i < length old.trees) c.0.args) (λ (c : CallKey × code_memo.CallMemo). All (λ i. i < length new.trees) c.0.args) (λ c l. All-weaker (λ i. i < length old.trees) (λ i. i < length new.trees) (λ i m. omega (arith, m, u.table.now.more_trees)) c.0.args l) cs h.keys_live;
     remembers = subst (λ S. Remembers S calls_limit new.trees cs e.terms.entries e.locals.entries) (sym u.stays.signature) (remembers_grown old new u.table.now (signature old.trees k) calls_limit cs e.terms.entries e.locals.entries h.keys_live h.remembers);
   }
 
   pub same_begun : Held k old typed e → begun new.trees cs ≡ begun old.trees cs
   same_begun h = begun_grown old new u.table.now cs h.keys_live
 
-  pub now_stands : (fs : List code_frame.Frame) (vs : List ℕ) (now : code_now.Now) → Held k old typed e → Stands (signature old.trees k) calls_limit old.trees (begun old.trees cs) e.scope fs vs now → Stands (signature new.trees k) calls_limit new.trees (begun new.trees cs) e.scope fs vs now
+  pub now_stands : (fs : List code_frame.Frame) (vs : List ℕ) (now : code_control.Control) → Held k old typed e → Stands (signature old.trees k) calls_limit old.trees (begun old.trees cs) e.scope fs vs now → Stands (signature new.trees k) calls_limit new.trees (begun new.trees cs) e.scope fs vs now
   now_stands fs vs now h s =
       let S = sym u.stays.signature in
       let b = sym (same_begun h) in
       transport (λ i. Stands (S i) calls_limit new.trees (b i) e.scope fs vs now) (stands_grown old new u.table.now (signature old.trees k) calls_limit (begun old.trees cs) e.scope fs vs now s)
 
   -- what waits is the same
-  pub waiting_same : (fs : List code_frame.Frame) (vs : List ℕ) (now : code_now.Now) → Held k old typed e → Stands (signature old.trees k) calls_limit old.trees (begun old.trees cs) e.scope fs vs now → waiting new.trees (begun new.trees cs) e.scope (reverse fs) vs ≡ waiting old.trees (begun old.trees cs) e.scope (reverse fs) vs
+  pub waiting_same : (fs : List code_frame.Frame) (vs : List ℕ) (now : code_control.Control) → Held k old typed e → Stands (signature old.trees k) calls_limit old.trees (begun old.trees cs) e.scope fs vs now → waiting new.trees (begun new.trees cs) e.scope (reverse fs) vs ≡ waiting old.trees (begun old.trees cs) e.scope (reverse fs) vs
   waiting_same fs vs now h s =
       ap (λ b. waiting new.trees b e.scope (reverse fs) vs) (same_begun h)
       ∙ waiting_grown old new u.table.now (begun old.trees cs) e.scope s.slots_live (reverse fs) vs (all_reverse (IsFrame old.trees) fs s.frames_live) s.values_live

@@ -16,8 +16,8 @@ use Rattle.eo_stack.specs.Machine.{Again, Family, Stacked, evals, finish, Frame}
 use Rattle.eo_stack.specs.Reading.{waiting, told}
 use Rattle.eo_eval.specs.Ready.{Recalls, Stands}
 use Rattle.eo_stack.specs.declared.stack.Frame as code_frame
-use Rattle.eo_stack.specs.declared.stack.Now as code_now
-use Rattle.eo_stack.specs.declared.stack.Now.TheVariants as next
+use Rattle.eo_stack.specs.declared.stack.Control as code_control
+use Rattle.eo_stack.specs.declared.stack.Control.TheVariants as next
 use Rattle.eo_pattern.specs.Matching.{put}
 use Rattle.eo_stack.specs.Scopes.{Bound, standing, entered}
 use Rattle.eo_eval.proofs.Waiting.{recalled_low, recalled_deep}
@@ -61,20 +61,20 @@ module _ (S : Signature) (most : ℕ) (ts : List Tree) (b : Begun) (scope : Boun
   abbrev ws : List Frame
   ws = waiting ts b scope (reverse fs) vs
 
-  pub recalls_told : (n : code_now.Now) → Recalls ts b F left n → told S most ts b scope fs vs n ≡ finish S most ws (F left b)
+  pub recalls_told : (n : code_control.Control) → Recalls ts b F left n → told S most ts b scope fs vs n ≡ finish S most ws (F left b)
   recalls_told (next.Value v d) r = sym (recalled_low S most b ws F (Value (tree_at ts v)) d left r.1.0 r.1.1)
   recalls_told (next.Stuck d) r = sym (recalled_low S most b ws F Stuck d left r.0 r.1)
   recalls_told next.Deep r = sym (recalled_deep S most b ws F r.0 r.1.0 left r.1.1.0 r.1.1.1)
-  recalls_told (next.Enter j k) r = absurd r
+  recalls_told (next.Eval j k) r = absurd r
   recalls_told next.Calls r = absurd r
   recalls_told next.Range r = absurd r
   recalls_told next.Tall r = absurd r
 
-  pub recalls_stands : (n now : code_now.Now) → Recalls ts b F left n → Stacked S most b ws F → Stands S most ts b scope fs vs now → Stands S most ts b scope fs vs n
+  pub recalls_stands : (n now : code_control.Control) → Recalls ts b F left n → Stacked S most b ws F → Stands S most ts b scope fs vs now → Stands S most ts b scope fs vs n
   recalls_stands (next.Value v d) now r w s = record { now_live = r.0; frames_live = s.frames_live; placed = s.placed; values_live = s.values_live; slots_live = s.slots_live; scoped = s.scoped; based = s.based; waits = (F, (w, r.1.0)) }
   recalls_stands (next.Stuck d) now r w s = record { now_live = tt; frames_live = s.frames_live; placed = s.placed; values_live = s.values_live; slots_live = s.slots_live; scoped = s.scoped; based = s.based; waits = (F, (w, r.0)) }
   recalls_stands next.Deep now r w s = record { now_live = tt; frames_live = s.frames_live; placed = s.placed; values_live = s.values_live; slots_live = s.slots_live; scoped = s.scoped; based = s.based; waits = tt }
-  recalls_stands (next.Enter j k) now r w s = absurd r
+  recalls_stands (next.Eval j k) now r w s = absurd r
   recalls_stands next.Calls now r w s = absurd r
   recalls_stands next.Range now r w s = absurd r
   recalls_stands next.Tall now r w s = absurd r
@@ -87,17 +87,17 @@ module _ (S : Signature) (most : ℕ) (ts : List Tree) (b : Begun) (scope : Boun
       none : (n : ℕ) → n < 0 → ⊥
       none n z = omega arith
 
-  pub value_told : (v : ℕ) → o ≡ Value (tree_at ts v) → told S most ts b scope fs vs (next.Value v 0) ≡ told S most ts b scope fs vs (next.Enter id left)
+  pub value_told : (v : ℕ) → o ≡ Value (tree_at ts v) → told S most ts b scope fs vs (next.Value v 0) ≡ told S most ts b scope fs vs (next.Eval id left)
   value_told v is = ap (finish S most (waiting ts b scope (reverse fs) vs)) (sym (h left b ∙ ap (λ r. (r, b)) is))
 
-  pub value_stands : (v : ℕ) → o ≡ Value (tree_at ts v) → v < length ts → Stands S most ts b scope fs vs (next.Enter id left) → Stands S most ts b scope fs vs (next.Value v 0)
+  pub value_stands : (v : ℕ) → o ≡ Value (tree_at ts v) → v < length ts → Stands S most ts b scope fs vs (next.Eval id left) → Stands S most ts b scope fs vs (next.Value v 0)
   value_stands v is live s =
       record { now_live = live; frames_live = s.frames_live; placed = s.placed; values_live = s.values_live; slots_live = s.slots_live; scoped = s.scoped; based = s.based; waits = (evals S most (entered ts scope id), (s.waits, subst (λ r. Again (evals S most (entered ts scope id)) r 0 b) is at_once)) }
 
-  pub stuck_told : o ≡ Stuck → told S most ts b scope fs vs (next.Stuck 0) ≡ told S most ts b scope fs vs (next.Enter id left)
+  pub stuck_told : o ≡ Stuck → told S most ts b scope fs vs (next.Stuck 0) ≡ told S most ts b scope fs vs (next.Eval id left)
   stuck_told is = ap (finish S most (waiting ts b scope (reverse fs) vs)) (sym (h left b ∙ ap (λ r. (r, b)) is))
 
-  pub stuck_stands : o ≡ Stuck → Stands S most ts b scope fs vs (next.Enter id left) → Stands S most ts b scope fs vs (next.Stuck 0)
+  pub stuck_stands : o ≡ Stuck → Stands S most ts b scope fs vs (next.Eval id left) → Stands S most ts b scope fs vs (next.Stuck 0)
   stuck_stands is s =
       record { now_live = tt; frames_live = s.frames_live; placed = s.placed; values_live = s.values_live; slots_live = s.slots_live; scoped = s.scoped; based = s.based; waits = (evals S most (entered ts scope id), (s.waits, subst (λ r. Again (evals S most (entered ts scope id)) r 0 b) is at_once)) }
 
@@ -105,7 +105,7 @@ module _ (S : Signature) (most : ℕ) (ts : List Tree) (b : Begun) (scope : Boun
 pub value_entered : (S : Signature) (most : ℕ) (ts : List Tree) (scope : Bound) (id v : ℕ) → entered ts scope id ≡ tree_at ts v → is_value (tree_at ts v) ≡ true → is_tall (tree_at ts v) ≡ false → (j : ℕ) (c : Begun) → evals S most (entered ts scope id) j c ≡ (Value (tree_at ts v), c)
 value_entered S most ts scope id v is value low j c = ap (λ t. evals S most t j c) is ∙ value_itself S (call_within S most j) (tree_at ts v) c value low
 
--- a parameter for which nothing stands, and a quantifier's arrow, are stuck
+-- a parameter without a value, and a quantifier's arrow, are stuck
 pub free_entered : (S : Signature) (most : ℕ) (ts : List Tree) (scope : Bound) (id n : ℕ) → entered ts scope id ≡ Par n → (j : ℕ) (c : Begun) → evals S most (entered ts scope id) j c ≡ (Stuck, c)
 free_entered S most ts scope id n is j c = ap (λ t. evals S most t j c) is
 

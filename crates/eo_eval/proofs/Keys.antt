@@ -12,7 +12,7 @@ use Rattle.eo_term.proofs.Equality.{tree_list_decides}
 use Rattle.eo_stack.specs.Evaluation.{call_eq}
 use Rattle.eo_stack.specs.Reading.{read_call, begun}
 use Rattle.eo_stack.specs.declared.calls.CallKey.{CallKey}
-use Rattle.eo_stack.specs.declared.stack.Known as code_known
+use Rattle.eo_stack.specs.declared.stack.CallMemo as code_memo
 use Rattle.eo_stack.specs.contracts.calls.CallKeyPartialEq.TheImpl as key_eq
 use Rattle.eo_base.proofs.Tests.{same_tests}
 
@@ -20,7 +20,7 @@ module _ (ts : List Tree) (same : (i j : ℕ) → i < length ts → j < length t
   abbrev Below : ℕ → Type 0
   Below i = i < length ts
 
-  abbrev KeyBelow : CallKey × code_known.Known → Type 0
+  abbrev KeyBelow : CallKey × code_memo.CallMemo → Type 0
   KeyBelow c = All Below c.0.args
 
   ids_same : (xs ys : List ℕ) → All (λ i. i < length ts) xs → All (λ i. i < length ts) ys → map (tree_at ts) xs ≡ map (tree_at ts) ys → xs ≡ ys
@@ -43,7 +43,7 @@ module _ (ts : List Tree) (same : (i j : ℕ) → i < length ts → j < length t
   key_alike : (k l : CallKey) → All (λ i. i < length ts) k.args → All (λ i. i < length ts) l.args → key_eq.ghosts.eq k l ≡ call_eq (read_call ts k) (read_call ts l)
   key_alike k l p q = ap (λ b. eqb k.program l.program && b) (args_alike k.args l.args p q)
 
-  pub begun_found : (k : CallKey) → All (λ i. i < length ts) k.args → (es : List (CallKey × code_known.Known)) → All (λ (c : CallKey × code_known.Known). All (λ i. i < length ts) c.0.args) es → is_some (lookup (key_eq.ghosts.eq k) es) ≡ list_any (call_eq (read_call ts k)) (begun ts es)
+  pub begun_found : (k : CallKey) → All (λ i. i < length ts) k.args → (es : List (CallKey × code_memo.CallMemo)) → All (λ (c : CallKey × code_memo.CallMemo). All (λ i. i < length ts) c.0.args) es → is_some (lookup (key_eq.ghosts.eq k) es) ≡ list_any (call_eq (read_call ts k)) (begun ts es)
   begun_found k p [] q = refl
   begun_found k p (e ∷ es) q =
       let rest = begun_found k p es (All-tail KeyBelow e es q) in

@@ -15,7 +15,7 @@ use Rattle.eo_stack.specs.Reading.{begun, IsKnown, IsLocal, Remembers}
 use Rattle.eo_stack.specs.Scopes.{Bound, entered, IsScope}
 use Rattle.eo_stack.specs.declared.calls.CallKey.{CallKey}
 use Rattle.eo_stack.specs.declared.calls.LocalKey.{LocalKey}
-use Rattle.eo_stack.specs.declared.stack.Known as code_known
+use Rattle.eo_stack.specs.declared.stack.CallMemo as code_memo
 use Rattle.eo_stack.specs.contracts.calls.LocalKeyPartialEq.TheImpl as local_eq
 use Rattle.eo_eval.proofs.Entered.{entered_local}
 
@@ -54,11 +54,11 @@ if_some_weaker None P Q f h = h
 if_some_weaker (Some a) P Q f h = f a h
 
 -- What is remembered of a term, where it is evaluated.
-module _ (S : Signature) (most : ℕ) (ts : List Tree) (scope : Bound) (cs : List (CallKey × code_known.Known)) (es : List (ℕ × code_known.Known)) (ls : List (LocalKey × code_known.Known)) (id : ℕ) (h : Remembers S most ts cs es ls) where
+module _ (S : Signature) (most : ℕ) (ts : List Tree) (scope : Bound) (cs : List (CallKey × code_memo.CallMemo)) (es : List (ℕ × code_memo.CallMemo)) (ls : List (LocalKey × code_memo.CallMemo)) (id : ℕ) (h : Remembers S most ts cs es ls) where
   abbrev b : Begun
   b = begun ts cs
 
-  abbrev Term : ℕ × code_known.Known → Type 0
+  abbrev Term : ℕ × code_memo.CallMemo → Type 0
   Term e = (e.0 < length ts) × IsKnown ts b (evals S most (tree_at ts e.0)) e.1
 
   abbrev key : LocalKey
@@ -70,7 +70,7 @@ module _ (S : Signature) (most : ℕ) (ts : List Tree) (scope : Bound) (cs : Lis
       if_some_weaker (lookup (eqb id) es) (λ v. Term (id, v)) (IsKnown ts b (evals S most (entered ts scope id))) (λ v p. subst (λ t. IsKnown ts b (evals S most t) v) (sym same) p.1)
       (all_found eqb ids_exact Term es id h.terms)
 
-  pub term_remembered : (v : code_known.Known) → id < length ts → entered ts scope id ≡ tree_at ts id → IsKnown ts b (evals S most (entered ts scope id)) v → Remembers S most ts cs (insert_entry eqb es id v) ls
+  pub term_remembered : (v : code_memo.CallMemo) → id < length ts → entered ts scope id ≡ tree_at ts id → IsKnown ts b (evals S most (entered ts scope id)) v → Remembers S most ts cs (insert_entry eqb es id v) ls
   term_remembered v live same known = record {
     calls = h.calls;
     terms = all_inserted eqb ids_exact Term es id v h.terms (live, subst (λ t. IsKnown ts b (evals S most t) v) same known);
@@ -83,7 +83,7 @@ module _ (S : Signature) (most : ℕ) (ts : List Tree) (scope : Bound) (cs : Lis
       if_some_weaker (lookup (local_eq.ghosts.eq key) ls) (λ v. IsLocal S most ts b (key, v)) (IsKnown ts b (evals S most (entered ts scope id))) (λ v p. subst (λ t. IsKnown ts b (evals S most t) v) (sym (entered_local ts scope S b now id)) p.known)
       (all_found local_eq.ghosts.eq locals_exact (IsLocal S most ts b) ls key h.locals)
 
-  pub local_remembered : (v : code_known.Known) → id < length ts → IsScope S ts b scope → IsKnown ts b (evals S most (entered ts scope id)) v → Remembers S most ts cs es (insert_entry local_eq.ghosts.eq ls key v)
+  pub local_remembered : (v : code_memo.CallMemo) → id < length ts → IsScope S ts b scope → IsKnown ts b (evals S most (entered ts scope id)) v → Remembers S most ts cs es (insert_entry local_eq.ghosts.eq ls key v)
   local_remembered v live now known = record {
     calls = h.calls;
     terms = h.terms;

@@ -21,15 +21,15 @@ use Rattle.eo_stack.specs.Bodies.{IsFound, IsBody, chosen_case}
 use Rattle.eo_stack.specs.Evaluation.{Stuck, Tall, Call, call_eq, Begun, Ended, ends, on_body, body_of, eval, eval_with, call_within}
 use Rattle.eo_stack.specs.Machine.{IsBegun, Again, Frame, OfCall, Stacked, evals, calls, finish}
 use Rattle.eo_stack.specs.Reading.{waiting, told, call_at, read_call, begun, IsFrame, IsPlaced, Remembers, Scoped}
-use Rattle.eo_eval.specs.Ready.{Based, Stands, Ready, Calling, called_at, told_in, told_run}
+use Rattle.eo_eval.specs.Ready.{Based, Stands, Ready, Calling, called_at, outcome_from, told_run}
 use Rattle.eo_stack.specs.Scopes.{Bound, standing, entered, inner, outer, assignment_here, IsValueSlot, IsScope}
 use Rattle.eo_stack.specs.declared.calls.CallKey.{CallKey}
 use Rattle.eo_eval.specs.declared.machine.Machine.{Machine}
 use Rattle.eo_stack.specs.declared.stack.Frame as code_frame
 use Rattle.eo_stack.specs.declared.stack.Frame.TheVariants as frame
-use Rattle.eo_stack.specs.declared.stack.Known as code_known
-use Rattle.eo_stack.specs.declared.stack.Known.TheVariants as known
-use Rattle.eo_stack.specs.declared.stack.Now.TheVariants as next
+use Rattle.eo_stack.specs.declared.stack.CallMemo as code_memo
+use Rattle.eo_stack.specs.declared.stack.CallMemo.TheVariants as known
+use Rattle.eo_stack.specs.declared.stack.Control.TheVariants as next
 use Rattle.eo_eval.proofs.Called.{begun_set, keys_set, remembers_put}
 use Rattle.eo_eval.proofs.Entered.{assignment_is, body_none, body_some}
 use Rattle.eo_eval.proofs.Memory.{call_refl, steady_call}
@@ -45,10 +45,10 @@ begun_at (y ∷ b) (suc i) h = or_right (call_eq (call_at b i) y) (list_any (cal
     or_right true q h = refl
     or_right false q h = h
 
-pub begun_count : (ts : List Tree) (es : List (CallKey × code_known.Known)) → length (begun ts es) ≡ length es
+pub begun_count : (ts : List Tree) (es : List (CallKey × code_memo.CallMemo)) → length (begun ts es) ≡ length es
 begun_count ts es = length-map es (λ e. read_call ts e.0)
 
--- What stands for parameters where one more call waits for its body.
+-- The values of parameters where one more call waits for its body.
 module _ (scope : Bound) (here : ℕ) (more : List (Option ℕ)) where
   pub standing_inner : (ts : List Tree) → standing ts (inner scope here more) ≡ (λ n. option_map (tree_at ts) (option_flatten (slice_get more n)))
   standing_inner ts = let rest = drop-append_seam scope.slots more in λ i n. option_map (tree_at ts) (option_flatten (slice_get (rest i) n))
@@ -84,10 +84,10 @@ module _ (S : Signature) (most : ℕ) (ts : List Tree) (b : Begun) (scope : Boun
     under : waiting ts b inside (reverse (fs ++ f ∷ [])) vs ≡ OfCall x (entered ts inside i) ∷ ws
     under = ap (λ gs. waiting ts b inside gs vs) (sym top) ∙ ap (λ r. OfCall x (entered ts inside i) ∷ waiting ts b r (reverse fs) vs) (outer_inner scope here more)
 
-    pub found_told : told S most ts b inside (fs ++ f ∷ []) vs (next.Enter i l) ≡ finish S most ws (body_after l b)
+    pub found_told : told S most ts b inside (fs ++ f ∷ []) vs (next.Eval i l) ≡ finish S most ws (body_after l b)
     found_told = ap (λ us. finish S most us (eval S most l (entered ts inside i) b)) under ∙ ap (finish S most ws) (sym (body_is l b))
 
-    pub found_stands : All (IsValueSlot ts) more → IsScope S ts b inside → Stands S most ts b scope fs vs next.Deep → Stacked S most b ws (calls S most x) → Stands S most ts b inside (fs ++ f ∷ []) vs (next.Enter i l)
+    pub found_stands : All (IsValueSlot ts) more → IsScope S ts b inside → Stands S most ts b scope fs vs next.Deep → Stacked S most b ws (calls S most x) → Stands S most ts b inside (fs ++ f ∷ []) vs (next.Eval i l)
     found_stands values now s w = record {
       now_live = live;
       frames_live = All-push (IsFrame ts) fs f s.frames_live live;
@@ -126,16 +126,16 @@ module _ (k : Kept) (t : Terms) (typed : List (ℕ × ℕ)) (e : Machine) (place
   inside_calls : place < length b
   inside_calls = omega (arith, within, begun_count t.trees e.calls.entries)
 
-  -- A body is found, for whose parameters these terms stand.
+  -- A body is found, whose parameters have these values.
   module _ (later : Machine) (here : ℕ) (more : List (Option ℕ)) (i l kept : ℕ)
       (is : body_of sig (called_at t e place) ≡ Some (entered t.trees (inner e.scope here more) i)) (low : is_tall (entered t.trees (inner e.scope here more) i) ≡ false) (live : i < length t.trees)
       (fs : later.stack.frames.items ≡ e.stack.frames.items ++ frame.Body place i e.scope.base e.scope.here kept ∷ []) (vs : later.stack.values.items ≡ e.stack.values.items) (scope : later.scope ≡ inner e.scope here more) (cs : later.calls.entries ≡ e.calls.entries) where
-    run_told : told_in k t later (next.Enter i l) ≡ told_run k t e (called_at t e place) l
+    run_told : outcome_from k t later (next.Eval i l) ≡ told_run k t e (called_at t e place) l
     run_told =
-        (λ j. told sig calls_limit t.trees (begun t.trees (cs j)) (scope j) (fs j) (vs j) (next.Enter i l))
+        (λ j. told sig calls_limit t.trees (begun t.trees (cs j)) (scope j) (fs j) (vs j) (next.Eval i l))
         ∙ found_told sig calls_limit t.trees b e.scope e.stack.frames.items e.stack.values.items place inside_calls here more i l kept is low live
 
-    run_ready : later.terms.entries ≡ e.terms.entries → later.locals.entries ≡ e.locals.entries → All (IsValueSlot t.trees) more → IsScope sig t.trees b (inner e.scope here more) → Ready k t typed later (next.Enter i l)
+    run_ready : later.terms.entries ≡ e.terms.entries → later.locals.entries ≡ e.locals.entries → All (IsValueSlot t.trees) more → IsScope sig t.trees b (inner e.scope here more) → Ready k t typed later (next.Eval i l)
     run_ready es ls values now =
         let c = sym cs in
         let f = sym fs in
@@ -143,7 +143,7 @@ module _ (k : Kept) (t : Terms) (typed : List (ℕ × ℕ)) (e : Machine) (place
         let r = sym scope in
         record {
           held = held_same k t typed e later cs es ls h.held;
-          stands = transport (λ j. Stands sig calls_limit t.trees (begun t.trees (c j)) (r j) (f j) (v j) (next.Enter i l))
+          stands = transport (λ j. Stands sig calls_limit t.trees (begun t.trees (c j)) (r j) (f j) (v j) (next.Eval i l))
               (found_stands sig calls_limit t.trees b e.scope e.stack.frames.items e.stack.values.items place inside_calls here more i l kept is low live values now h.stands h.waits);
         }
 
@@ -159,7 +159,7 @@ module _ (k : Kept) (t : Terms) (typed : List (ℕ × ℕ)) (e : Machine) (place
     low_held : is_tall (entered t.trees (inner e.scope here s.values) i) ≡ false
     low_held = ap is_tall (sym stands_held) ∙ low
 
-    pub run_light_told : told_in k t later (next.Enter i l) ≡ told_run k t e (called_at t e place) l
+    pub run_light_told : outcome_from k t later (next.Eval i l) ≡ told_run k t e (called_at t e place) l
     run_light_told = run_told later here s.values i l kept body_held low_held found.live fs vs scope cs
 
     scope_held : IsScope sig t.trees b (inner e.scope here s.values)
@@ -169,7 +169,7 @@ module _ (k : Kept) (t : Terms) (typed : List (ℕ × ℕ)) (e : Machine) (place
           ∙ (sym (assignment_is sig (called_at t e place) (held t.trees s) (tree_at t.trees i) found.case) ∙ ap (assignment_here sig b) (sym at));
     }
 
-    pub run_light_ready : later.terms.entries ≡ e.terms.entries → later.locals.entries ≡ e.locals.entries → All (IsValueSlot t.trees) s.values → Ready k t typed later (next.Enter i l)
+    pub run_light_ready : later.terms.entries ≡ e.terms.entries → later.locals.entries ≡ e.locals.entries → All (IsValueSlot t.trees) s.values → Ready k t typed later (next.Eval i l)
     run_light_ready es ls values = run_ready later here s.values i l kept body_held low_held found.live fs vs scope cs es ls values scope_held
 
   -- One that was made.
@@ -184,10 +184,10 @@ module _ (k : Kept) (t : Terms) (typed : List (ℕ × ℕ)) (e : Machine) (place
     low_made : is_tall (entered t.trees (inner e.scope 0 []) i) ≡ false
     low_made = ap is_tall stands_none ∙ body.low
 
-    pub run_made_told : told_in k t later (next.Enter i l) ≡ told_run k t e (called_at t e place) l
+    pub run_made_told : outcome_from k t later (next.Eval i l) ≡ told_run k t e (called_at t e place) l
     run_made_told = run_told later 0 [] i l kept body_made low_made body.live fs vs scope cs
 
-    pub run_made_ready : later.terms.entries ≡ e.terms.entries → later.locals.entries ≡ e.locals.entries → Ready k t typed later (next.Enter i l)
+    pub run_made_ready : later.terms.entries ≡ e.terms.entries → later.locals.entries ≡ e.locals.entries → Ready k t typed later (next.Eval i l)
     run_made_ready es ls = run_ready later 0 [] i l kept body_made low_made body.live fs vs scope cs es ls (All-nil (IsValueSlot t.trees)) (record { begun = omega arith; agrees = standing_inner e.scope 0 [] t.trees })
 
   -- None is found.
@@ -199,7 +199,7 @@ module _ (k : Kept) (t : Terms) (typed : List (ℕ × ℕ)) (e : Machine) (place
     same : begun t.trees later.calls.entries ≡ b
     same = ap (begun t.trees) cs ∙ begun_set t.trees e.calls.entries place (known.Stuck 1)
 
-    pub run_none_told : (l : ℕ) → told_in k t later (next.Stuck 1) ≡ told_run k t e (called_at t e place) l
+    pub run_none_told : (l : ℕ) → outcome_from k t later (next.Stuck 1) ≡ told_run k t e (called_at t e place) l
     run_none_told l =
         (λ i. told sig calls_limit t.trees (same i) (scope i) (fs i) (vs i) (next.Stuck 1)) ∙ none_told sig calls_limit t.trees b e.scope e.stack.frames.items e.stack.values.items place inside_calls l none
 
@@ -216,7 +216,7 @@ module _ (k : Kept) (t : Terms) (typed : List (ℕ × ℕ)) (e : Machine) (place
           held = record {
             usable = h.held.usable;
             fit = h.held.fit;
-            keys_live = subst (All (λ (c : CallKey × code_known.Known). All (λ i. i < length t.trees) c.0.args)) c (keys_set (λ c. All (λ i. i < length t.trees) c.args) e.calls.entries place (known.Stuck 1) h.held.keys_live);
+            keys_live = subst (All (λ (c : CallKey × code_memo.CallMemo). All (λ i. i < length t.trees) c.0.args)) c (keys_set (λ c. All (λ i. i < length t.trees) c.args) e.calls.entries place (known.Stuck 1) h.held.keys_live);
             remembers = transport (λ i. Remembers sig calls_limit t.trees (c i) (m i) (n i))
                 (remembers_put sig calls_limit t.trees e.calls.entries e.terms.entries e.locals.entries place (known.Stuck 1) h.held.remembers (none_again sig calls_limit t.trees b e.scope e.stack.frames.items e.stack.values.items place inside_calls none));
           };

@@ -19,12 +19,12 @@ use Rattle.eo_stack.specs.declared.calls.CallKey.{CallKey}
 use Rattle.eo_eval.specs.declared.machine.Machine.{Machine}
 use Rattle.eo_stack.specs.declared.stack.Frame as code_frame
 use Rattle.eo_stack.specs.declared.stack.Frame.TheVariants as frame
-use Rattle.eo_stack.specs.declared.stack.Known as code_known
-use Rattle.eo_stack.specs.declared.stack.Now as code_now
-use Rattle.eo_stack.specs.declared.stack.Now.TheVariants as next
+use Rattle.eo_stack.specs.declared.stack.CallMemo as code_memo
+use Rattle.eo_stack.specs.declared.stack.Control as code_control
+use Rattle.eo_stack.specs.declared.stack.Control.TheVariants as next
 
 module _ (k : Kept) (t : Terms) (typed : List (ℕ × ℕ)) (e later : Machine) (cs : later.calls.entries ≡ e.calls.entries) where
-  abbrev KeyLive : CallKey × code_known.Known → Type 0
+  abbrev KeyLive : CallKey × code_memo.CallMemo → Type 0
   KeyLive c = All (λ i. i < length t.trees) c.0.args
 
   pub held_same : later.terms.entries ≡ e.terms.entries → later.locals.entries ≡ e.locals.entries → Held k t typed e → Held k t typed later
@@ -39,7 +39,7 @@ module _ (k : Kept) (t : Terms) (typed : List (ℕ × ℕ)) (e later : Machine) 
         remembers = transport (λ i. Remembers (signature t.trees k) calls_limit t.trees (p i) (q i) (r i)) h.remembers;
       }
 
-  pub stands_same : (fs gs : List code_frame.Frame) (vs us : List ℕ) (now : code_now.Now) → gs ≡ fs → us ≡ vs → later.scope ≡ e.scope → Stands (signature t.trees k) calls_limit t.trees (begun t.trees e.calls.entries) e.scope fs vs now → Stands (signature t.trees k) calls_limit t.trees (begun t.trees later.calls.entries) later.scope gs us now
+  pub stands_same : (fs gs : List code_frame.Frame) (vs us : List ℕ) (now : code_control.Control) → gs ≡ fs → us ≡ vs → later.scope ≡ e.scope → Stands (signature t.trees k) calls_limit t.trees (begun t.trees e.calls.entries) e.scope fs vs now → Stands (signature t.trees k) calls_limit t.trees (begun t.trees later.calls.entries) later.scope gs us now
   stands_same fs gs vs us now f v s h =
       let p = sym cs in
       let g = sym f in
@@ -60,7 +60,7 @@ module _ (k : Kept) (t : Terms) (typed : List (ℕ × ℕ)) (e later : Machine) 
         waits = transport (λ i. Stacked (signature t.trees k) calls_limit (begun t.trees (p i)) (waiting t.trees (begun t.trees (p i)) (r i) (reverse (g i)) (u i)) (calls (signature t.trees k) calls_limit x)) h.waits;
       }
 
--- what stands for parameters is right for the last call
+-- the values of parameters are right for the last call
 pub scope_of : (S : Signature) (ts : List Tree) (b : Begun) (scope : Bound) (fs : List code_frame.Frame) → Scoped S ts b scope fs → IsScope S ts b scope
 scope_of S ts b scope [] h = h
 scope_of S ts b scope (frame.Body place body base here kept ∷ fs) h = h.0

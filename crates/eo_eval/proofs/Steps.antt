@@ -8,7 +8,7 @@ use Rattle.eo_term.specs.Tree.{Tree, Var, App, Arr, Op, Trees, NoTree, More, tru
 use Rattle.eo_term.specs.Arguments.{from, count_of, argument_at}
 use Rattle.eo_sig.specs.Signature.{Signature}
 use Rattle.eo_stack.specs.Evaluation.{Outcome, Value, Stuck, Deep, Calls, Range, Tall, Call, Begun, Ended, Eval, ends, on_outcome, on_value, value_or_none, or_none, are_equal, eval_with, eval_all_with, on_body, body_of, call_within}
-use Rattle.eo_stack.specs.Machine.{parts_of, Wait, Parts, Choice, Tested, Left, Right, Require, Required, Handed, made, rest_with, resume_with, Family, IsBegun, Covers, Comes, Again, Frame, OfNode, OfCall, evals, calls, resume, finish, Stacked}
+use Rattle.eo_stack.specs.Machine.{parts_of, Wait, Parts, Choice, Tested, EqLeft, EqRight, RequireLeft, RequireRight, Tail, made, rest_with, resume_with, Family, IsBegun, Covers, Comes, Again, Frame, OfNode, OfCall, evals, calls, resume, finish, Stacked}
 use Rattle.eo_eval.proofs.Memory.{steady_call}
 
 -- one after another is associative
@@ -99,10 +99,10 @@ module _ (S : Signature) (call : Call → Eval Tree) where
   whole_op o ts c h = refl
 
   -- from the first to the second
-  pub left_right : (o : Outcome Tree) (u : Option Tree) (y : Tree) (c : Begun) → value_or_none o ≡ Value u → resume_with S call (Left y) (o, c) ≡ resume_with S call (Right u) (eval_with S call y c)
+  pub left_right : (o : Outcome Tree) (u : Option Tree) (y : Tree) (c : Begun) → value_or_none o ≡ Value u → resume_with S call (EqLeft y) (o, c) ≡ resume_with S call (EqRight u) (eval_with S call y c)
   left_right o u y c h = ap (λ r. on_outcome r (λ u b. on_value (or_none (eval_with S call y) b) (λ v. ends (Value (truth (are_equal u v))))) c) h
 
-  pub require_required : (o : Outcome Tree) (u : Option Tree) (y t : Tree) (c : Begun) → value_or_none o ≡ Value u → resume_with S call (Require y t) (o, c) ≡ resume_with S call (Required u t) (eval_with S call y c)
+  pub require_required : (o : Outcome Tree) (u : Option Tree) (y t : Tree) (c : Begun) → value_or_none o ≡ Value u → resume_with S call (RequireLeft y t) (o, c) ≡ resume_with S call (RequireRight u t) (eval_with S call y c)
   require_required o u y t c h = ap (λ r. on_outcome r (λ u b. on_value (or_none (eval_with S call y) b) (λ v. if are_equal u v then eval_with S call t else ends Stuck)) c) h
 
   -- an outcome that ends all is handed on by whatever waits
@@ -121,23 +121,23 @@ module _ (S : Signature) (call : Call → Eval Tree) where
   resume_stops Tested Calls c h = refl
   resume_stops Tested Range c h = refl
   resume_stops Tested Tall c h = refl
-  resume_stops (Left y) Deep c h = refl
-  resume_stops (Left y) Calls c h = refl
-  resume_stops (Left y) Range c h = refl
-  resume_stops (Left y) Tall c h = refl
-  resume_stops (Right u) Deep c h = refl
-  resume_stops (Right u) Calls c h = refl
-  resume_stops (Right u) Range c h = refl
-  resume_stops (Right u) Tall c h = refl
-  resume_stops (Require y t) Deep c h = refl
-  resume_stops (Require y t) Calls c h = refl
-  resume_stops (Require y t) Range c h = refl
-  resume_stops (Require y t) Tall c h = refl
-  resume_stops (Required u t) Deep c h = refl
-  resume_stops (Required u t) Calls c h = refl
-  resume_stops (Required u t) Range c h = refl
-  resume_stops (Required u t) Tall c h = refl
-  resume_stops Handed o c h = refl
+  resume_stops (EqLeft y) Deep c h = refl
+  resume_stops (EqLeft y) Calls c h = refl
+  resume_stops (EqLeft y) Range c h = refl
+  resume_stops (EqLeft y) Tall c h = refl
+  resume_stops (EqRight u) Deep c h = refl
+  resume_stops (EqRight u) Calls c h = refl
+  resume_stops (EqRight u) Range c h = refl
+  resume_stops (EqRight u) Tall c h = refl
+  resume_stops (RequireLeft y t) Deep c h = refl
+  resume_stops (RequireLeft y t) Calls c h = refl
+  resume_stops (RequireLeft y t) Range c h = refl
+  resume_stops (RequireLeft y t) Tall c h = refl
+  resume_stops (RequireRight u t) Deep c h = refl
+  resume_stops (RequireRight u t) Calls c h = refl
+  resume_stops (RequireRight u t) Range c h = refl
+  resume_stops (RequireRight u t) Tall c h = refl
+  resume_stops Tail o c h = refl
 
 module _ (S : Signature) (most : ℕ) where
   -- and so by all that waits

@@ -15,7 +15,7 @@ use Rattle.eo_lists.specs.Lists.{list_value}
 use Rattle.eo_lists.proofs.Values.{list_value_value}
 use Rattle.eo_type.specs.Types.{TypeOutcome, Typed, Untyped, TypeRange, TypeTall, typed_answer, chosen, value_type}
 use Rattle.eo_eval.proofs.OperatorValues.{value_type_value, tree_op_values}
-use Rattle.eo_stack.specs.Evaluation.{Outcome, Value, Stuck, Deep, Calls, Range, Tall, Call, Begun, Eval, ends, on_outcome, on_value, or_none, node, are_equal, type_value, answer_value, value_or, operator_value, eval_with, eval_all_with, begin, on_body, body_of, call_within, eval, eval0}
+use Rattle.eo_stack.specs.Evaluation.{Outcome, Value, Stuck, Deep, Calls, Range, Tall, Call, Begun, Eval, ends, on_outcome, on_value, or_none, node, are_equal, typed_outcome, answer_value, value_or, operator_value, eval_with, eval_all_with, begin, on_body, body_of, call_within, eval, eval0}
 use Rattle.eo_eval.proofs.Yields.{Yields, has_value, value_inj, ends_yields, none_yields, bind_yields}
 use Rattle.eo_eval.specs.Outcomes.{MayBeValue}
 use Rattle.eo_stack.specs.Reading.{outcome_in, OutcomeBelow}
@@ -46,7 +46,7 @@ module _ (S : Signature) (terms : (f : ℕ) (n : Tree) → terminator S f ≡ So
   same_value : (t : Tree) → is_value t ≡ true → GivesValue (Value t)
   same_value t h u e = subst (λ (x : Tree). is_value x ≡ true) (value_inj t u e) h
 
-  type_values : (o : TypeOutcome Tree) → ((u : Tree) → o ≡ Typed u → is_value u ≡ true) → GivesValue (type_value o)
+  type_values : (o : TypeOutcome Tree) → ((u : Tree) → o ≡ Typed u → is_value u ≡ true) → GivesValue (typed_outcome o)
   type_values (Typed t) h = same_value t (h t refl)
   type_values Untyped h = λ u e. clash (ap has_value e)
   type_values TypeRange h = λ u e. clash (ap has_value e)

@@ -5,7 +5,7 @@ use Rattle.eo_term.specs.Tree.{Tree}
 use Rattle.eo_term.specs.Arguments.{count_of, argument_at}
 use Rattle.eo_sig.specs.Signature.{Signature}
 use Rattle.eo_stack.specs.Evaluation.{Outcome, Value, Deep, Call, Begun, call_within}
-use Rattle.eo_stack.specs.Machine.{parts_of, Wait, Parts, Handed, rest_with, Family, Covers, Comes, Again, Frame, OfNode, OfCall, evals, calls, resume, finish, Stacked}
+use Rattle.eo_stack.specs.Machine.{parts_of, Wait, Parts, Tail, rest_with, Family, Covers, Comes, Again, Frame, OfNode, OfCall, evals, calls, resume, finish, Stacked}
 use Rattle.eo_stack.specs.Reading.{IsWhole, Given}
 use Rattle.eo_eval.proofs.Steps.{next_part, onward, begins, called}
 
@@ -48,7 +48,7 @@ module _ (S : Signature) (most : ℕ) (b : Begun) (ws : List Frame) where
       (comes_same (evals S most t) (rest t vs) (λ j c. resume S most j (Parts t vs) (evals S most p j c)) d comes (next_waits t p vs is more), s)
 
   -- one whose result is that of a call: it waits, and the call is what is evaluated
-  pub waits_handed : (t : Tree) (vs : List Tree) (d k : ℕ) (x : Call) → Stacked S most b ws (evals S most t) → Comes (evals S most t) (rest t vs) d b → ((j : ℕ) (c : Begun) → rest t vs j c ≡ calls S most x j c) → Stacked S most b (OfNode t Handed d k ∷ ws) (calls S most x)
+  pub waits_handed : (t : Tree) (vs : List Tree) (d k : ℕ) (x : Call) → Stacked S most b ws (evals S most t) → Comes (evals S most t) (rest t vs) d b → ((j : ℕ) (c : Begun) → rest t vs j c ≡ calls S most x j c) → Stacked S most b (OfNode t Tail d k ∷ ws) (calls S most x)
   waits_handed t vs d k x s comes h = (comes_same (evals S most t) (rest t vs) (calls S most x) d comes h, s)
 
   -- any other node that begins to wait

@@ -1,4 +1,4 @@
--- What an evaluation answers.
+-- What an evaluation returns.
 use Rattle.std.specs.Prelude.{◌≡◌, ℕ, ◌<◌, true, false, length, Result, Ok, Err}
 use Rattle.eo_term.specs.Growth.{tree_in}
 use Rattle.eo_term.specs.Terms.{Terms}
@@ -24,12 +24,12 @@ abbrev pub MayBeValue : Terms → code_outcome.Outcome → Type 0
 MayBeValue t (outcome.Value i) = IsValueOf t i
 MayBeValue t _ = Unit {0}
 
--- an evaluation that ends so is told to end so
+-- an evaluation that ends so is said to end so
 pub record HasEnded (t : Terms) (told : code_outcome.Outcome) (o : Outcome Tree) : Type 0 where
   pub outcome : o ≡ outcome_in t.trees told
   pub value : MayBeValue t told
 
--- it is told how the evaluation ends, unless there is no memory left
+-- the result is how the evaluation ends, unless there is no memory left
 abbrev pub GivesOutcome : Terms → Result code_outcome.Outcome EvalRefused → Outcome Tree → Type 0
 GivesOutcome t (Ok told) o = HasEnded t told o
 GivesOutcome t (Err e) o = Unit {0}

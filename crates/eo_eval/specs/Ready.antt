@@ -8,20 +8,20 @@ use Rattle.eo_type.specs.Known.{Fit}
 use Rattle.eo_stack.specs.Evaluation.{Outcome, Value, Stuck, Ended, Begun, Call, Eval, on_body, body_of, call_within, eval}
 use Rattle.eo_term.specs.Arguments.{argument_at, count_of}
 use Rattle.eo_stack.specs.Machine.{parts_of, Family, Frame, Again, Comes, Stacked, evals, calls, finish, rest_with, resume, resume_with}
-use Rattle.eo_stack.specs.declared.stack.Now.TheVariants as next
+use Rattle.eo_stack.specs.declared.stack.Control.TheVariants as next
 use Rattle.eo_sig.specs.Signature.{Signature}
 use Rattle.eo_stack.specs.declared.stack.Frame.TheVariants as frame
 use Rattle.eo_term.specs.Tree.{Tree}
 use Rattle.eo_stack.specs.Scopes.{Bound, none_bound, entered, IsValueSlot}
-use Rattle.eo_stack.specs.Reading.{call_at, is_par, node_of, deepest_of, left_of, wait_of, result_of, depth_of, outcome_in, OutcomeBelow, waiting, Scoped, told, Waits, begun, Remembers, IsFrame, IsPlaced, NowBelow}
-use Rattle.eo_stack.specs.declared.stack.Now as code_now
+use Rattle.eo_stack.specs.Reading.{call_at, is_par, node_of, deepest_of, left_of, wait_of, result_of, depth_of, outcome_in, OutcomeBelow, waiting, Scoped, told, Waits, begun, Remembers, IsFrame, IsPlaced, IsResult, ControlBelow}
+use Rattle.eo_stack.specs.declared.stack.Control as code_control
 use Rattle.eo_stack.specs.declared.stack.Frame as code_frame
 use Rattle.eo_eval.specs.declared.machine.Machine.{Machine}
 use Rattle.eo_stack.specs.declared.Outcome as code_outcome
 
 -- what the definition makes of all that a machine holds and of what it does next
-abbrev pub told_in : Kept → Terms → Machine → code_now.Now → Ended Tree
-told_in k t e now = told (signature t.trees k) calls_limit t.trees (begun t.trees e.calls.entries) e.scope e.stack.frames.items e.stack.values.items now
+abbrev pub outcome_from : Kept → Terms → Machine → code_control.Control → Ended Tree
+outcome_from k t e now = told (signature t.trees k) calls_limit t.trees (begun t.trees e.calls.entries) e.scope e.stack.frames.items e.stack.values.items now
 
 -- where each node that collects has its values, which are fewer than its parts
 abbrev pub Based : List Tree → List code_frame.Frame → List ℕ → Type 0
@@ -30,8 +30,8 @@ Based ts (frame.Parts i base d k ∷ fs) vs = ((base ≤ length vs) × (length (
 Based ts (f ∷ fs) vs = Based ts fs vs
 
 -- What waits, and the values that are collected, are right for what is done next.
-pub record Stands (S : Signature) (most : ℕ) (ts : List Tree) (b : Begun) (s : Bound) (fs : List code_frame.Frame) (vs : List ℕ) (now : code_now.Now) : Type 0 where
-  pub now_live : NowBelow (length ts) now
+pub record Stands (S : Signature) (most : ℕ) (ts : List Tree) (b : Begun) (s : Bound) (fs : List code_frame.Frame) (vs : List ℕ) (now : code_control.Control) : Type 0 where
+  pub now_live : ControlBelow (length ts) now
   pub frames_live : All (IsFrame ts) fs
   pub placed : All (IsPlaced (length b)) fs
   pub values_live : All (λ i. i < length ts) vs
@@ -56,21 +56,45 @@ pub record Held (k : Kept) (t : Terms) (typed : List (ℕ × ℕ)) (e : Machine)
   pub keys_live : All (λ c. All (λ i. i < length t.trees) c.0.args) e.calls.entries
   pub remembers : Remembers (signature t.trees k) calls_limit t.trees e.calls.entries e.terms.entries e.locals.entries
 
-pub record Ready (k : Kept) (t : Terms) (typed : List (ℕ × ℕ)) (e : Machine) (now : code_now.Now) : Type 0 where
+pub record Ready (k : Kept) (t : Terms) (typed : List (ℕ × ℕ)) (e : Machine) (now : code_control.Control) : Type 0 where
   pub held : Held k t typed e
   pub stands : Stands (signature t.trees k) calls_limit t.trees (begun t.trees e.calls.entries) e.scope e.stack.frames.items e.stack.values.items now
 
+-- What an evaluation goes on with: the definition makes this of all that is held and of what is done next, and all is right for it.
+pub record Goes (k : Kept) (t : Terms) (typed : List (ℕ × ℕ)) (e : Machine) (o : Ended Tree) (now : code_control.Control) : Type 0 where
+  pub told : outcome_from k t e now ≡ o
+  pub ready : Ready k t typed e now
+
+-- what waits and the values of parameters are as they were
+pub record SameWork (old new : Machine) : Type 0 where
+  pub frames : new.stack.frames.items ≡ old.stack.frames.items
+  pub values : new.stack.values.items ≡ old.stack.values.items
+  pub scope : new.scope ≡ old.scope
+
+-- all but what the patterns of the last call hold is as it was
+pub record SameButHeld (old new : Machine) : Type 0 where
+  pub stack : new.stack ≡ old.stack
+  pub scope : new.scope ≡ old.scope
+  pub calls : new.calls ≡ old.calls
+  pub terms : new.terms ≡ old.terms
+  pub locals : new.locals ≡ old.locals
+
 -- The same, where the last thing that waits was taken off.
 
-abbrev pub told_popped : Kept → Terms → Machine → code_frame.Frame → code_now.Now → Ended Tree
-told_popped k t e f now = told (signature t.trees k) calls_limit t.trees (begun t.trees e.calls.entries) e.scope (e.stack.frames.items ++ f ∷ []) e.stack.values.items now
+abbrev pub outcome_of_frame : Kept → Terms → Machine → code_frame.Frame → code_control.Control → Ended Tree
+outcome_of_frame k t e f now = told (signature t.trees k) calls_limit t.trees (begun t.trees e.calls.entries) e.scope (e.stack.frames.items ++ f ∷ []) e.stack.values.items now
 
-pub record PoppedReady (k : Kept) (t : Terms) (typed : List (ℕ × ℕ)) (e : Machine) (f : code_frame.Frame) (now : code_now.Now) : Type 0 where
+pub record PoppedReady (k : Kept) (t : Terms) (typed : List (ℕ × ℕ)) (e : Machine) (f : code_frame.Frame) (now : code_control.Control) : Type 0 where
   pub held : Held k t typed e
   pub stands : Stands (signature t.trees k) calls_limit t.trees (begun t.trees e.calls.entries) e.scope (e.stack.frames.items ++ f ∷ []) e.stack.values.items now
 
--- What is remembered of an evaluation answers so, where so many calls may open.
-abbrev pub Recalls : List Tree → Begun → Family → ℕ → code_now.Now → Type 0
+-- what was taken off is given a result
+pub record Given (k : Kept) (t : Terms) (typed : List (ℕ × ℕ)) (e : Machine) (f : code_frame.Frame) (now : code_control.Control) : Type 0 where
+  pub result : IsResult now
+  pub ready : PoppedReady k t typed e f now
+
+-- What is remembered of an evaluation gives that result, where so many calls may open.
+abbrev pub Recalls : List Tree → Begun → Family → ℕ → code_control.Control → Type 0
 Recalls ts b F left (next.Value v d) = (v < length ts) × (Again F (Value (tree_at ts v)) d b × (d ≤ left))
 Recalls ts b F left (next.Stuck d) = Again F Stuck d b × (d ≤ left)
 Recalls ts b F left next.Deep = (o : Outcome Tree) × ((d : ℕ) × (Again F o d b × (left < d)))
@@ -85,12 +109,12 @@ HasNoValues (frame.Body place body base here kept) = ⊥
 HasNoValues _ = Unit {0}
 
 -- a node that waited for this result ends so
-pub record Concludes (k : Kept) (t : Terms) (e : Machine) (f : code_frame.Frame) (now : code_now.Now) (o : code_outcome.Outcome) : Type 0 where
+pub record Concludes (k : Kept) (t : Terms) (e : Machine) (f : code_frame.Frame) (now : code_control.Control) (o : code_outcome.Outcome) : Type 0 where
   pub live : OutcomeBelow (length t.trees) o
   pub ends : (call : Call → Eval Tree) (c : Begun) → resume_with (signature t.trees k) call (wait_of t.trees e.scope e.stack.values.items f) (result_of t.trees now, c) ≡ (outcome_in t.trees o, c)
 
 -- with this result it goes on to wait for another term
-pub record Proceeds (S : Signature) (most : ℕ) (ts : List Tree) (s : Bound) (f : code_frame.Frame) (now : code_now.Now) (g : code_frame.Frame) (p l : ℕ) : Type 0 where
+pub record Proceeds (S : Signature) (most : ℕ) (ts : List Tree) (s : Bound) (f : code_frame.Frame) (now : code_control.Control) (g : code_frame.Frame) (p l : ℕ) : Type 0 where
   pub node : node_of g ≡ node_of f
   pub depth : deepest_of g ≡ max (deepest_of f) (depth_of now)
   pub frame : IsFrame ts g
@@ -126,8 +150,8 @@ rest_of k t e i base left =
     rest_with S (call_within S calls_limit left) (entered t.trees e.scope i) (map (tree_at t.trees) (drop base e.stack.values.items))
 
 -- what the definition makes of all that waits and of that node
-abbrev pub told_rest : Kept → Terms → Machine → ℕ → ℕ → ℕ → Ended Tree
-told_rest k t e i base left =
+abbrev pub outcome_of_parts : Kept → Terms → Machine → ℕ → ℕ → ℕ → Ended Tree
+outcome_of_parts k t e i base left =
     finish (signature t.trees k) calls_limit (waiting_for t e base) (rest_of k t e i base left (begun t.trees e.calls.entries))
 
 -- All is right for a node whose first parts have these values, for which so many calls had to be allowed to open.
@@ -176,3 +200,8 @@ pub record Calling (k : Kept) (t : Terms) (typed : List (ℕ × ℕ)) (e : Machi
   pub held : Held k t typed e
   pub stands : Stands (signature t.trees k) calls_limit t.trees (begun t.trees e.calls.entries) e.scope e.stack.frames.items e.stack.values.items next.Deep
   pub waits : Stacked (signature t.trees k) calls_limit (begun t.trees e.calls.entries) (waiting_in t e) (calls (signature t.trees k) calls_limit x)
+
+-- The same for the call that was begun at this place.
+pub record CallingAt (k : Kept) (t : Terms) (typed : List (ℕ × ℕ)) (e : Machine) (i : ℕ) : Type 0 where
+  pub place : i < length e.calls.entries
+  pub calling : Calling k t typed e (called_at t e i)

@@ -1,9 +1,8 @@
 //! The evaluator.
 ghost use Rattle.std.specs.Prelude.{◌≡◌, ◌<◌, length, OnErr};
-ghost use Rattle.eo_sig.specs.Growth.{GrowsUnder};
 ghost use Rattle.eo_sig.specs.Reading.{signature};
 ghost use Rattle.eo_sig.specs.Usable.{IsUsable};
-ghost use Rattle.eo_type.specs.Known.{Fit, StillFit};
+ghost use Rattle.eo_type.specs.Known.{Fit, Extends};
 ghost use Rattle.eo_eval.specs.Outcomes.{GivesOutcome, outcome_of};
 
 use crate::machine::Machine;
@@ -17,7 +16,7 @@ use std::marker::Model;
 /// Why it is not known how evaluation ends.
 #[derive(Debug, Drop)]
 pub enum EvalRefused {
-    /// Want of memory.
+    /// Out of memory.
     Memory(AllocError),
 }
 
@@ -66,9 +65,9 @@ impl Evaluator {
     /// put in it may be too tall.
     /// At most [`CALL_DEPTH`] calls are open at once, and at most [`CALLS`] different ones are
     /// begun. A call that was finished is not evaluated again in the same evaluation. A term that
-    /// is a value is answered at once, without memory.
+    /// is a value is returned at once, without memory.
     ///
-    /// Want of memory is the only refusal. It leaves the table as it was, and of the types those of
+    /// Out of memory is the only refusal. It leaves the table as it was, and of the types those of
     /// terms that are there. The terms that were there, and the types that were kept, stay in either
     /// case.
     ///
@@ -86,14 +85,13 @@ impl Evaluator {
         requires fit { Fit sig.now table.old types.old }
         ensures gives { GivesOutcome table.new result (outcome_of sig.now table.old id) }
         ensures refused { OnErr result (table.new ≡ table.old) }
-        ensures fits { StillFit sig.now table.new types.old types.new }
-        ensures grows { GrowsUnder sig.now table.old table.new }
+        ensures extends { Extends sig.now table.old types.old table.new types.new }
     {
         if table.is_value(id) {
             return Ok(Outcome::Value(id));
         }
         let mark = table.mark();
-        match self.evaluated(sig, table, types, id) {
+        match self.evaluate_or_leave(sig, table, types, id) {
             Ok(outcome) => Ok(outcome),
             Err(e) => {
                 types.undo(table, mark);
@@ -103,7 +101,7 @@ impl Evaluator {
     }
 
     // The same for any term, but that a refused call leaves the terms that it made.
-    fn evaluated(
+    fn evaluate_or_leave(
         &mut self,
         sig: &Signature,
         table: &mut Table,
@@ -114,8 +112,7 @@ impl Evaluator {
         requires usable { IsUsable (signature table.old.trees sig.now) }
         requires fit { Fit sig.now table.old types.old }
         ensures gives { GivesOutcome table.new result (outcome_of sig.now table.old id) }
-        ensures fits { StillFit sig.now table.new types.old types.new }
-        ensures grows { GrowsUnder sig.now table.old table.new }
+        ensures extends { Extends sig.now table.old types.old table.new types.new }
     {
         let result = self.machine.evaluate(sig, table, types, id);
         self.machine.clear();

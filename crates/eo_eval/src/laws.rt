@@ -1,4 +1,4 @@
-//! What holds of evaluation. A call costs nothing: it tells a proof what its clause says.
+//! What holds of evaluation. A call costs nothing: it gives a proof what its clause says.
 ghost use Rattle.std.specs.Prelude.{◌≡◌, ℕ, true};
 ghost use Rattle.eo_term.specs.Tree.{Tree, is_value};
 ghost use Rattle.eo_sig.specs.Signature.{Signature};

@@ -66,7 +66,7 @@ absent_len p (x ∷ xs) h = by (p x) h (absent_len p xs)
     by true e rest = absurd (false≢true (sym e))
     by false e rest = ap (λ n. 1 + n) (rest e) ∙ omega arith
 
--- a path that is not there comes behind all others
+-- a path that is not there comes after all others
 module _ (paths : List (List ℕ)) (path : List ℕ) (absent : position (bytes_eq path) paths ≡ None) where
   not_any : list_any (bytes_eq path) paths ≡ false
   not_any = sym (is_some-position (bytes_eq path) paths) ∙ ap is_some absent
@@ -74,7 +74,7 @@ module _ (paths : List (List ℕ)) (path : List ℕ) (absent : position (bytes_e
   last_place : position_or_len (bytes_eq path) paths ≡ length paths
   last_place = absent_len (bytes_eq path) paths not_any
 
-  -- the table with the path, behind the others
+  -- the table with the path, after the others
   pub with_path-new : with_path paths path ≡ paths ++ path ∷ []
   with_path-new = ap (λ b. if b then paths else paths ++ path ∷ []) not_any
 

@@ -41,7 +41,7 @@ module _ {V : Type 0} (items : V → List ℕ) where
   abbrev file_of : List (List ℕ) → V × ℕ → List ℕ × List ℕ
   file_of contents e = (items e.0, bytes_at contents e.1)
 
-  -- a look-up by hash finds the file that is told
+  -- a look-up by hash finds the file of the definition
   pub file_at-told : (contents : List (List ℕ)) (places : List (V × ℕ)) (path : List ℕ)
       → option_map (bytes_at contents) (lookup (λ k. bytes_eq path (items k)) places) ≡ file_at (map (λ e. (items e.0, bytes_at contents e.1)) places) path
   file_at-told contents [] path = refl
@@ -157,7 +157,7 @@ unread-opened contents files file start =
 
 -- opening a file
 module _ {V : Type 0} (items : V → List ℕ) (places : List (V × ℕ)) (contents : List (List ℕ)) (files : List OpenFile) (room : ℕ) (path : List ℕ) where
-  -- where no place is found, no file is told
+  -- where no place is found, there is no file
   pub absent : lookup (λ k. bytes_eq path (items k)) places ≡ None → file_at (map (λ (e : V × ℕ). (items e.0, bytes_at contents e.1)) places) path ≡ None
   absent p = sym (file_at-told items contents places path) ∙ ap (option_map (bytes_at contents)) p
 
@@ -165,7 +165,7 @@ module _ {V : Type 0} (items : V → List ℕ) (places : List (V × ℕ)) (conte
   after-absent p = λ i. record { told = map (λ (e : V × ℕ). (items e.0, bytes_at contents e.1)) places; unread = option_to_list (sym (absent p) i) ++ reverse (map (rest_of contents) files) }
 
   module _ (place : ℕ) (found : lookup (λ k. bytes_eq path (items k)) places ≡ Some place) where
-    -- the file that is told
+    -- the file of the definition
     pub present : file_at (map (λ (e : V × ℕ). (items e.0, bytes_at contents e.1)) places) path ≡ Some (bytes_at contents place)
     present = sym (file_at-told items contents places path) ∙ ap (option_map (bytes_at contents)) found
 

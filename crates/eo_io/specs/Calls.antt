@@ -16,7 +16,7 @@ pub record Plan : Type 0 where
 abbrev pub first_plan : Plan
 first_plan = record { piece = 2 ^ 64 - 1; failing = []; made = 0; faults = 0 }
 
--- a count goes up by one, and stands still at its greatest value
+-- a count goes up by one, but not above its greatest value
 abbrev pub one_more : ℕ → ℕ
 one_more count = min (count + 1) (2 ^ 64 - 1)
 

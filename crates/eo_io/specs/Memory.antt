@@ -41,7 +41,7 @@ files_after_read files buffer = record {
   plan = after_call (fails_next files.plan) files.plan;
 }
 
--- how a call goes by the plan: what it answers, and the files that it leaves
+-- how a call goes by the plan: what it returns, and the files that it leaves
 pub record OpensByPlan (old : MemoryFiles) (path : List ℕ) (answer : Opened) (new : MemoryFiles) : Type 0 where
   pub answers : answer ≡ open_answer old path
   pub leaves : new ≡ files_after_open old path

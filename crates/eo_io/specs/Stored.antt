@@ -8,7 +8,7 @@ use Rattle.eo_io.specs.Library.{Files, file_at}
 pub record Stored : Type 0 where
   -- the files, no two of one path
   pub told : Files
-  -- the unread rests of the open files, the one opened last standing first
+  -- the unread rests of the open files, that of the file opened last first
   pub unread : List (List ℕ)
 
 -- no files
@@ -27,7 +27,7 @@ IsFileOf old new path bytes = (p : List ℕ) → file_at new p ≡ (if bytes_eq 
 abbrev pub opened_by : Stored → List ℕ → Opened
 opened_by stored path = if is_some (file_at stored.told path) then opened.Ready else opened.Absent
 
--- a file that is opened stands first, and is unread
+-- a file that is opened comes first, and is unread
 abbrev pub after_open : Stored → List ℕ → Stored
 after_open stored path = record { told = stored.told; unread = option_to_list (file_at stored.told path) ++ stored.unread }
 

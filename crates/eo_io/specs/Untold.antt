@@ -1,4 +1,4 @@
--- A library that tells no content of its files.
+-- A library of whose files nothing is known.
 use Rattle.std.specs.Prelude.{ℕ}
 
 pub record Untold : Type 0 where

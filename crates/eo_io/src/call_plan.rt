@@ -1,4 +1,4 @@
-//! How the calls of the library and the sink in memory go.
+//! Which calls of the library and the sink in memory fail, and how much each moves.
 ghost use Rattle.std.specs.Prelude.{◌≡◌, ◌≤◌, ◌-◌, ◌^◌, OnOk, OnErr};
 ghost use Rattle.eo_io.specs.Calls.{first_plan, with_piece, with_failing, fails_next, after_call};
 

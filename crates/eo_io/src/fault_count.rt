@@ -4,7 +4,7 @@ ghost use Rattle.eo_io.specs.Calls.{one_more};
 
 use std::marker::Model;
 
-/// How often something has failed. The count stands still at 2^64 - 1.
+/// How often something has failed. The count does not rise above 2^64 - 1.
 #[derive(Drop)]
 pub(crate) struct FaultCount {
     faults: u64,

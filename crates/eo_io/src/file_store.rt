@@ -10,7 +10,7 @@ use std::alloc::{AllocError, Global};
 use std::hash::{BuildHasherDefault, DefaultHasher};
 use std::marker::Model;
 
-/// An open file: where its bytes stand, and how many of them are read.
+/// An open file: where its bytes are, and how many of them are read.
 #[derive(Clone, Copy)]
 pub(crate) struct OpenFile {
     place: usize,
@@ -21,13 +21,13 @@ pub(crate) struct OpenFile {
 #[derive(Drop)]
 pub(crate) struct FileStore {
     alloc: Global,
-    /// Where the bytes of each path's file stand. Files choose the paths, so they are hashed by
+    /// Where the bytes of each path's file are. Files choose the paths, so they are hashed by
     /// SipHash.
     places: IndexMap<Vec<u8>, usize, BuildHasherDefault<DefaultHasher>>,
     /// The bytes of each file that was ever added, so that an open file stays as it is where
     /// another takes its path.
     contents: Vec<Vec<u8>>,
-    /// The open files, the one opened last standing last.
+    /// The open files, in the order in which they were opened.
     opened: Vec<OpenFile>,
 }
 
@@ -56,7 +56,7 @@ impl FileStore {
         })
     }
 
-    /// Adds a file, in place of the one with its path. Open files stay as they are. `Err` is want
+    /// Adds a file, in place of the one with its path. Open files stay as they are. `Err` is out
     /// of memory, and the store is as before.
     pub(crate) fn add(&mut self, path: &[u8], bytes: &[u8]) -> Result<(), AllocError>
         ensures told { OnOk result (self.new.told ≡ with_file self.old.told path.now bytes.now) }
@@ -72,7 +72,7 @@ impl FileStore {
         Ok(())
     }
 
-    /// Opens the file with the path, and answers whether there is one.
+    /// Opens the file with the path, and returns whether there is one.
     pub(crate) fn open(&mut self, path: &[u8]) -> bool
         requires { length self.old.unread < 18 }
         ensures found { result ≡ is_some (file_at self.old.told path.now) }
@@ -86,7 +86,7 @@ impl FileStore {
     }
 
     /// Reads at most so many bytes of the file opened last into the front of the buffer, and
-    /// answers how many it read.
+    /// returns how many it read.
     pub(crate) fn read(&mut self, buf: &mut [u8], most: usize) -> usize
         requires { self.old.unread ≢ [] }
         ensures length { result ≡ read_length self.old (length buf.old) most }

@@ -39,12 +39,12 @@ fn fold(alloc: Global, from: &[u8], name: &[u8]) -> Result<Option<Text>, AllocEr
 {
     let path = seen_from(alloc, from, name)?;
     match str::from_utf8(&path) {
-        Ok(path) => folded(alloc, path),
+        Ok(path) => fold_utf8(alloc, path),
         Err(_) => Ok(None),
     }
 }
 
-/// The path as the file that names it means it.
+/// The path joined to the folder of the file that names it.
 fn seen_from(alloc: Global, from: &[u8], name: &[u8]) -> Result<Vec<u8>, AllocError>
     ensures { IfOk result (λ path. path.items ≡ seen_from from.now name.now) }
 {
@@ -82,14 +82,14 @@ fn folder_len(path: &[u8]) -> usize
 }
 
 /// A path that is UTF-8, folded; `None` where no part stays, or it is too long.
-fn folded(alloc: Global, path: &str) -> Result<Option<Text>, AllocError>
+fn fold_utf8(alloc: Global, path: &str) -> Result<Option<Text>, AllocError>
     ensures { IfOk result (λ folded. folded ≡ path_of_parts (is_absolute path.now) (parts_of path.now)) }
 {
     let parts = parts_of(alloc, path)?;
     if parts.is_empty() {
         return Ok(None);
     }
-    let joined = joined(alloc, &parts, is_absolute(path.as_bytes()))?;
+    let joined = join_parts(alloc, &parts, is_absolute(path.as_bytes()))?;
     if joined.len() > PATH_LIMIT {
         return Ok(None);
     }
@@ -98,7 +98,7 @@ fn folded(alloc: Global, path: &str) -> Result<Option<Text>, AllocError>
 
 /// The parts with a slash between them, and one before them where the path begins at the root.
 #[tactic(auto, using(crate::proofs::FoldingLemmas::parts_joined))]
-fn joined(alloc: Global, parts: &[&str], is_absolute: bool) -> Result<String, AllocError>
+fn join_parts(alloc: Global, parts: &[&str], is_absolute: bool) -> Result<String, AllocError>
     ensures { IfOk result (λ path. string_bytes path ≡ root is_absolute ++ join_with_byte 47 (map (λ part. part.now) parts.now)) }
 {
     let mut path = String::from_str(alloc, root(is_absolute))?;
@@ -106,7 +106,7 @@ fn joined(alloc: Global, parts: &[&str], is_absolute: bool) -> Result<String, Al
     Ok(path)
 }
 
-/// What stands before the parts.
+/// What comes before the parts: a slash where the path begins at the root.
 fn root(is_absolute: bool) -> &'static str
     ensures { result.now ≡ root is_absolute }
 {
@@ -126,7 +126,7 @@ fn parts_of(alloc: Global, path: &str) -> Result<Vec<&str>, AllocError>
     Ok(parts)
 }
 
-/// What stands between the slashes.
+/// The pieces between the slashes.
 fn pieces(alloc: Global, path: &str) -> Result<Vec<&str>, AllocError>
     ensures { IfOk result (λ pieces. map (λ piece. piece.now) pieces.items ≡ slice_split is_slash path.now) }
 {

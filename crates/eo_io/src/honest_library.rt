@@ -9,7 +9,7 @@ use std::alloc::{AllocError, Global};
 use std::marker::Model;
 
 /// A library that holds its files in memory and never fails: each file that was added can be
-/// opened, and a read gives as much as the buffer takes.
+/// opened, and a read returns as much as the buffer takes.
 #[derive(Drop)]
 pub struct HonestLibrary {
     files: FileStore,
@@ -34,7 +34,7 @@ impl HonestLibrary {
         })
     }
 
-    /// Adds a file, in place of the one with its path. Open files stay as they are. `Err` is want
+    /// Adds a file, in place of the one with its path. Open files stay as they are. `Err` is out
     /// of memory, and the library is as before.
     pub fn add(&mut self, path: &[u8], bytes: &[u8]) -> Result<(), AllocError>
         ensures told { OnOk result (self.new.told ≡ with_file self.old.told path.now bytes.now) }
@@ -53,7 +53,7 @@ impl Library for HonestLibrary {
 
     ghost faults = { λ _. 0 };
 
-    /// It answers `Ready` exactly where there is a file with the path.
+    /// It returns `Ready` exactly where there is a file with the path.
     fn open(&mut self, path: &[u8]) -> Opened
         requires { length (map Some self.old.unread) < 18 }
         ensures same { Some self.new.told ≡ Some self.old.told }
@@ -69,7 +69,7 @@ impl Library for HonestLibrary {
         }
     }
 
-    /// It gives as much as the buffer and what is unread of the file let it.
+    /// It returns as much as the buffer and the unread rest of the file allow.
     fn read(&mut self, buf: &mut [u8]) -> Got
         requires is_open { map Some self.old.unread ≢ [] }
         requires room { buf.old ≢ [] }

@@ -29,7 +29,7 @@ pub use writing::write_all;
 /// How many files of a library may be open at once.
 pub const OPEN_FILES: usize = 18;
 
-/// What opening a file answers.
+/// What opening a file returns.
 #[derive(Clone, Copy, Debug, PartialEq, Eq)]
 pub enum Opened {
     /// The file is open, as the last one.
@@ -40,7 +40,7 @@ pub enum Opened {
     Failed,
 }
 
-/// What reading answers.
+/// What reading returns.
 #[derive(Clone, Copy, Debug, PartialEq, Eq)]
 pub enum Got {
     /// How many bytes of the file the buffer now has at its front, 0 at its end.
@@ -49,7 +49,7 @@ pub enum Got {
     Failed,
 }
 
-/// What writing answers.
+/// What writing returns.
 #[derive(Clone, Copy, Debug, PartialEq, Eq)]
 pub enum Put {
     /// How many bytes of the piece were written, from its front.
@@ -75,11 +75,11 @@ pub enum PathRefused {
 /// It counts its faults. The count never falls, and is at most 2^64 - 1. It is said to have risen
 /// where it is larger than before, or is 2^64 - 1.
 pub trait Library {
-    /// The files that it tells, if it tells any. No call changes them.
+    /// Its files, if they are known. No call changes them.
     ghost told: { Self → Option Files };
 
-    /// The unread rests of its open files, the file opened last standing first. A library that
-    /// tells its files tells the rests of the files that it opens.
+    /// The unread rests of its open files, that of the file opened last first. Where the files are
+    /// known, so are the rests of the files that it opens.
     ghost open_files: { Self → List Rest };
 
     /// How often it has failed.
@@ -87,9 +87,9 @@ pub trait Library {
 
     /// Opens a file, of which fewer than 18 may be open.
     ///
-    /// - `Ready`: it is now the last open file, and unread. Where the library tells its files, it
-    ///   is one of those told.
-    /// - `Absent`: where the library tells its files, it is none of those told; else the count of
+    /// - `Ready`: it is now the last open file, and unread. Where the library's files are known, it
+    ///   is one of them.
+    /// - `Absent`: where the library's files are known, it is none of them; else the count of
     ///   faults rose.
     /// - `Failed`: the count of faults rose.
     ///
@@ -105,7 +105,7 @@ pub trait Library {
     /// Reads from the file opened last into the front of a buffer that is not empty.
     ///
     /// - `Bytes(n)`: the next n bytes of the file, at most as many as the buffer holds. n is 0
-    ///   exactly where the file is read to its end, as far as the library tells its rest.
+    ///   exactly where the file is read to its end, if its rest is known.
     /// - `Failed`: the count of faults rose, and nothing of the file is read.
     fn read(&mut self, buf: &mut [u8]) -> Got
         requires is_open { open_files self.old ≢ [] }
@@ -129,13 +129,13 @@ pub trait Library {
 ///
 /// It counts its faults, as a library does.
 pub trait Sink {
-    /// The bytes written to it, if it tells them.
+    /// The bytes written to it, if they are known.
     ghost written: { Self → Option (List ℕ) };
 
     /// How often it has failed.
     ghost faults: { Self → ℕ };
 
-    /// Writes a front of the piece behind what is written.
+    /// Appends the first bytes of the piece to what is written.
     ///
     /// - `Took(n)`: the first n bytes, n being at most the piece's length. Where n is 0 though the
     ///   piece is not empty, the count of faults rose.

@@ -42,7 +42,7 @@ impl MemoryLibrary {
         })
     }
 
-    /// Adds a file, in place of the one with its path. Open files stay as they are. `Err` is want
+    /// Adds a file, in place of the one with its path. Open files stay as they are. `Err` is out
     /// of memory, and the library is as before.
     pub fn add(&mut self, path: &[u8], bytes: &[u8]) -> Result<(), AllocError>
         ensures told { OnOk result (self.new.stored.told ≡ with_file self.old.stored.told path.now bytes.now) }
@@ -54,7 +54,7 @@ impl MemoryLibrary {
         self.files.add(path, bytes)
     }
 
-    /// Lets a read give at most n bytes, n at least 1.
+    /// Lets a read return at most n bytes, n at least 1.
     pub fn piece(&mut self, n: usize)
         requires { 1 ≤ n }
         ensures { self.new ≡ with_plan (with_piece n self.old.plan) self.old }
@@ -101,8 +101,8 @@ impl Library for MemoryLibrary {
         }
     }
 
-    /// It fails exactly where its number was given to `fail`. Else it gives as much as the buffer,
-    /// `piece` and what is unread of the file let it.
+    /// It fails exactly where its number was given to `fail`. Else it returns as much as the buffer,
+    /// `piece` and the unread rest of the file allow.
     fn read(&mut self, buf: &mut [u8]) -> Got
         requires is_open { map Some self.old.stored.unread ≢ [] }
         requires room { buf.old ≢ [] }

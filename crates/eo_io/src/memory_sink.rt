@@ -30,7 +30,7 @@ impl Model for MemorySink {
 }
 
 impl MemorySink {
-    /// A sink that takes so many bytes in all, whose room it takes at once. `Err` is want of
+    /// A sink that takes so many bytes in all, whose room it takes at once. `Err` is out of
     /// memory.
     pub fn new(alloc: Global, room: usize) -> Result<MemorySink, AllocError>
         ensures { IfOk result (λ sink. sink ≡ first_written room) }
@@ -72,7 +72,7 @@ impl Sink for MemorySink {
     ghost faults = { λ s. s.plan.faults };
 
     /// A write fails exactly where its number was given to `fail`, or the room is used up and the
-    /// piece is not empty. Each other takes as much as the room and `piece` let it.
+    /// piece is not empty. Each other takes as much as the room and `piece` allow.
     fn write(&mut self, bytes: &[u8]) -> Put
         ensures writes { Writes result bytes.now (Some self.old.bytes) (Some self.new.bytes) }
         ensures cause { WriteHasCause result bytes.now self.old.plan.faults self.new.plan.faults }

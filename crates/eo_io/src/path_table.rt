@@ -36,7 +36,7 @@ impl Paths {
         }
     }
 
-    /// Adds a path, unless it is there, and answers its number. `Err`: out of memory, and the
+    /// Adds a path, unless it is there, and returns its number. `Err`: out of memory, and the
     /// table is as before.
     pub fn add(&mut self, path: &[u8]) -> Result<usize, AllocError>
         ensures number { IfOk result (λ n. slice_get self.new n ≡ Some path.now) }

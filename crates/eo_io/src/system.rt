@@ -1,4 +1,4 @@
-//! The system's files and its standard output. What they hold, no contract tells.
+//! The system's files and its standard output. No contract says what they hold.
 ghost use Rattle.std.specs.Prelude.{◌≡◌, IfOk};
 
 use crate::fault_count::FaultCount;
@@ -11,12 +11,12 @@ use std::rt::Files;
 
 /// The system's files.
 ///
-/// - A path that is no UTF-8 is no file: `open` answers `Absent`.
-/// - Where the system says that a file or a folder on its path is missing, `open` answers
-///   `Absent`. At any other error, as want of leave to read, it answers `Failed`.
+/// - A path that is not UTF-8 names no file: `open` returns `Absent`.
+/// - Where the system says that a file or a folder on its path is missing, `open` returns
+///   `Absent`. At any other error, such as a missing permission, it returns `Failed`.
 /// - The system may open a folder. Reading it fails.
 ///
-/// Each `Absent` and each `Failed` raises the count of faults, which stands still at 2^64 - 1.
+/// Each `Absent` and each `Failed` raises the count of faults, up to 2^64 - 1.
 #[derive(Drop)]
 pub struct DiskLibrary<R: Files + Drop> {
     system: R,
@@ -95,10 +95,10 @@ impl<R: Files + Drop> Library for DiskLibrary<R> {
     }
 }
 
-/// The standard output. It is not buffered: what a write took is with the system.
+/// The standard output. It is not buffered: the system has what a write took.
 ///
 /// Each `Failed`, and each write that takes nothing of a piece that is not empty, raises the count
-/// of faults, which stands still at 2^64 - 1.
+/// of faults, up to 2^64 - 1.
 #[derive(Drop)]
 pub struct StdSink<P: Print + Drop> {
     out: P,

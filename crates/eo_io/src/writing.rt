@@ -6,10 +6,10 @@ ghost use Rattle.eo_io.specs.Sink.{Adds, AddsFront};
 
 use crate::{Put, Sink};
 
-/// Writes all the bytes, in as many writes as it takes, and answers whether it could.
+/// Writes all the bytes, in as many writes as it takes, and returns whether it could.
 ///
 /// It gives up at the first write that fails or that takes nothing, so only where the sink's count
-/// of faults rose. Then a front of the bytes is written.
+/// of faults rose. Then the first of the bytes are written, or none.
 pub fn write_all<W: Sink>(out: &mut W, bytes: &[u8]) -> bool
     ensures all { OnTrue result (Adds bytes.now (W.written out.old) (W.written out.new)) }
     ensures front { OnFalse result (AddsFront bytes.now (W.written out.old) (W.written out.new)) }

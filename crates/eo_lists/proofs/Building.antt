@@ -62,7 +62,7 @@ pub spell_append : (f n : Tree) (xs ys : List Tree) → spell f (spell f n ys) x
 spell_append f n [] ys = refl
 spell_append f n (x ∷ xs) ys = ap (link f x) (spell_append f n xs ys)
 
--- built from the front, the items stand in reverse
+-- built from the front, the items are in reverse
 fold_reverse_aux : (f n : Tree) (xs ys : List Tree) → fold (onto f) (spell f n ys) xs ≡ spell f n (reverse_aux xs ys)
 fold_reverse_aux f n [] ys = refl
 fold_reverse_aux f n (x ∷ xs) ys = fold_reverse_aux f n xs (x ∷ ys)

@@ -46,7 +46,7 @@ filter_none (x ∷ xs) = ap (λ ys. x ∷ ys) (filter_none xs)
 abbrev is_new : List ℕ → ℕ → Bool
 is_new found x = not (list_any (nat_eq x) found)
 
--- of what stands after an item that is among these, that item is not new
+-- of what is after an item that is among these, that item is not new
 new_later : (found : List ℕ) (x : ℕ) → is_new found x ≡ false → (y : ℕ) → is_new found y ≡ (not (nat_eq x y) && is_new found y)
 new_later found x old y = by_test (nat_eq x y) refl
   where
@@ -54,7 +54,7 @@ new_later found x old y = by_test (nat_eq x y) refl
     by_test true e = ap (is_new found) (sym (eqb-true x y e)) ∙ old
     by_test false e = refl
 
--- nor is it once it was put behind these
+-- nor is it once it was put after these
 new_behind : (found : List ℕ) (x y : ℕ) → is_new (found ++ x ∷ []) y ≡ (not (nat_eq x y) && is_new found y)
 new_behind found x y = ap not (list_any-append (nat_eq y) found (x ∷ []) ∙ ap (λ b. list_any (nat_eq y) found || (b || false)) turned) ∙ by_test (nat_eq x y) (list_any (nat_eq y) found)
   where

@@ -1,4 +1,4 @@
--- Items before a list that stays as it stands: behind an item that is erased, and behind nothing.
+-- Items before a list that stays as it is: after an item that is erased, and after nothing.
 use Rattle.std.specs.Prelude.{◌≡◌, ℕ, Bool, true, false, if◌then◌else◌, List, [], ◌∷◌, ◌++◌, map, Option, Some, None, Ok, option_map, option_and_then, refl}
 use Rattle.std.proofs.Common.{sym, ap, ◌∙◌}
 use Rattle.std.proofs.lemmas.List.{append-nil}

@@ -2,12 +2,12 @@
 use Rattle.std.specs.Prelude.{◌≡◌, pos, negsuc, true, false, codes, List, [], ◌∷◌, ◌++◌, Some, None, refl}
 use Rattle.eo_term.specs.declared.OpName.{OpName}
 use Rattle.eo_term.specs.Tree.{Tree, Con, Num, Arr, truth, bool_tree}
-use Rattle.eo_sig.specs.Signature.{Signature, IsConstant, RightNil, first_signature}
+use Rattle.eo_sig.specs.Signature.{Signature, IsConstant, From, RightNil, first_signature}
 use Rattle.eo_lists.specs.Lists.{spell, list_value}
 
 -- or is constant 4; p, q and r are any other trees
 abbrev S : Signature
-S = first_signature ++ IsConstant (record { name = codes "or"; parameters = []; type = Arr bool_tree (Arr bool_tree bool_tree); attribute = RightNil (truth false); from_reference = false }) ∷ []
+S = first_signature ++ IsConstant (record { name = codes "or"; parameters = []; type = Arr bool_tree (Arr bool_tree bool_tree); attribute = RightNil (truth false); from_reference = false }) (From 1) ∷ []
 
 abbrev or_of : List Tree → Tree
 or_of ts = spell (Con 4) (truth false) ts

@@ -1,4 +1,4 @@
--- What the program answers, against the definitions of lists.
+-- What the program returns, by the definitions of lists.
 use Rattle.std.specs.Prelude.{◌≡◌, ℕ, ◌<◌, true, List, length, Option, Some, None, Result, Ok, Err}
 use Rattle.eo_term.specs.declared.OpName.{OpName}
 use Rattle.eo_term.specs.declared.table.TermRefused.{TermRefused}
@@ -14,7 +14,7 @@ abbrev pub IsListOperator : OpName → Type 0
 IsListOperator o = (operator o).group ≡ OnLists
 
 -- the value is the tree of a term that is there
-pub record IsValueOf (t : Terms) (o : Option Tree) (i : ℕ) : Type 0 where
+pub record IsTreeOf (t : Terms) (o : Option Tree) (i : ℕ) : Type 0 where
   pub live : i < length t.trees
   pub value : o ≡ Some (tree_in t i)
 
@@ -29,9 +29,9 @@ abbrev pub IsRefusedFor : TermRefused → Option Tree → Type 0
 IsRefusedFor refused.Tall o = IsTooTall o
 IsRefusedFor (refused.Memory e) o = Unit {0}
 
--- A call answers this value of an operator, or that there is none, or refuses it.
+-- A call returns this value of an operator, or that there is none, or refuses it.
 abbrev pub GivesList : Terms → Result (Option ℕ) TermRefused → Option Tree → Type 0
-GivesList t (Ok (Some i)) o = IsValueOf t o i
+GivesList t (Ok (Some i)) o = IsTreeOf t o i
 GivesList t (Ok None) o = o ≡ None
 GivesList t (Err e) o = IsRefusedFor e o
 

@@ -1,17 +1,18 @@
--- What the parts of the program answer: terms taken apart and made, items by their ids, and counts of them.
-use Rattle.std.specs.Prelude.{◌≡◌, if◌then◌else◌, ℕ, suc, nat_eq, nat_le, ◌<◌, Bool, List, ◌++◌, length, All, Option, Some, None, option_map}
+-- What the parts of the program return: terms taken apart and made, items by their ids, and counts of them.
+use Rattle.std.specs.Prelude.{◌≡◌, if◌then◌else◌, ℕ, suc, nat_eq, nat_le, ◌<◌, Bool, List, ◌++◌, length, All, Option, Some, None, option_map, Result}
 use Rattle.std.specs.List.{list_all}
 use Rattle.std.specs.Map.{lookup}
 use Rattle.std.specs.Option.{option_map_or}
 use Rattle.eo_term.specs.declared.OpName.{OpName}
-use Rattle.eo_term.specs.Growth.{tree_in, trees_in}
+use Rattle.eo_term.specs.declared.table.TermRefused.{TermRefused}
+use Rattle.eo_term.specs.Growth.{tree_in, trees_in, Grows}
 use Rattle.eo_term.specs.Terms.{Terms}
 use Rattle.eo_term.specs.Tree.{Tree, App, tree_eq}
 use Rattle.eo_sig.specs.Reading.{Kept, signature}
 use Rattle.eo_lists.specs.declared.spelling.Link.{Link}
 use Rattle.eo_lists.specs.declared.spelling.Spelling.{Spelling}
 use Rattle.eo_lists.specs.Lists.{link, spell, spelled, terminator_of_tree, by_operator}
-use Rattle.eo_lists.specs.Outcomes.{IsValueOf}
+use Rattle.eo_lists.specs.Outcomes.{IsTreeOf, GivesList}
 
 -- the terminator of a term that is a constant, if it has one
 abbrev pub terminator_in : Kept → Terms → ℕ → Option Tree
@@ -19,13 +20,18 @@ terminator_in k t i = terminator_of_tree (signature t.trees k) (tree_in t i)
 
 -- the id of the tree, if there is one
 abbrev pub GivesTree : Terms → Option ℕ → Option Tree → Type 0
-GivesTree t (Some i) o = IsValueOf t o i
+GivesTree t (Some i) o = IsTreeOf t o i
 GivesTree t None o = o ≡ None
 
 -- the constant and its terminator are terms that are there
 pub record IsSpelling (t : Terms) (s : Spelling) : Type 0 where
   pub fun : s.fun < length t.trees
   pub end : s.end < length t.trees
+
+-- they are, and a term that may spell a list
+pub record IsOver (t : Terms) (s : Spelling) (i : ℕ) : Type 0 where
+  pub form : IsSpelling t s
+  pub list : i < length t.trees
 
 -- the list that a term spells
 abbrev pub spelled_in : Terms → Spelling → ℕ → Option (List Tree)
@@ -38,6 +44,11 @@ put_in t s is i = option_map (λ ys. spell (tree_in t s.fun) (tree_in t s.end) (
 -- the value of an operator, by its arguments after the constant
 abbrev pub by_operator_in : Terms → Spelling → OpName → List ℕ → Option Tree
 by_operator_in t s op is = by_operator (tree_in t s.fun) (tree_in t s.end) op (trees_in t is)
+
+-- a call returns the value of an operator, by its arguments after the constant, and the table has grown
+pub record Operates (old : Terms) (s : Spelling) (op : OpName) (is : List ℕ) (new : Terms) (result : Result (Option ℕ) TermRefused) : Type 0 where
+  pub gives : GivesList new result (by_operator_in old s op is)
+  pub grows : Grows old new
 
 -- items that are terms, and that a term spells
 pub record AreItems (t : Terms) (s : Spelling) (i : ℕ) (is : List ℕ) : Type 0 where

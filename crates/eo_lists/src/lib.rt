@@ -21,14 +21,14 @@ use eo_term::{Id, OpName, Table, TermRefused};
 pub use joining::spell_list;
 use std::alloc::Global;
 
-/// The value of an operator on lists, as the Ethos manual has them; `None`, where it is stuck: its
-/// first argument is no constant with a terminator, a list is wanted of a term that spells none, or
+/// The value of an operator on lists, as in the Ethos manual; `None`, where it is stuck: its
+/// first argument is no constant with a terminator, an argument that has to be a list spells none, or
 /// `eo::list_nth` finds no item.
 ///
 /// `Tall`: the value would be too tall. `Memory`: out of memory. A refused call leaves the table as
 /// it was. The spine of a list is walked once, and the cost is that of a look-up by hash for each
-/// item that stands before a new rest: what spells the items behind an erased one, or a list before
-/// an empty one, is taken as it stands.
+/// item that is before a new rest: what spells the items after an erased one, or a list before
+/// an empty one, is taken as it is.
 pub fn list_op(
     alloc: Global,
     sig: &Signature,

@@ -7,7 +7,7 @@ ghost use Rattle.eo_term.specs.Growth.{Grows, IsTerm, tree_in, trees_in};
 ghost use Rattle.eo_term.specs.Builds.{Builds};
 ghost use Rattle.eo_lists.specs.Lists.{item_at};
 ghost use Rattle.eo_lists.specs.Outcomes.{IsListOperator, GivesList};
-ghost use Rattle.eo_lists.specs.Parts.{IsSpelling, GivesTree, by_operator_in, put_in};
+ghost use Rattle.eo_lists.specs.Parts.{IsSpelling, IsOver, Operates, GivesTree, by_operator_in, put_in};
 
 use crate::build::{build, build_reversed, put_before};
 use crate::items::{first_of_each, is_included, place_of};
@@ -47,11 +47,9 @@ pub(crate) fn operate(
 
 // The item before the list.
 fn cons(table: &mut Table, form: &Spelling, item: Id, list: Id) -> Result<Option<Id>, TermRefused>
-    requires form { IsSpelling table.old form.now }
     requires item { item < length table.old.trees }
-    requires list { list < length table.old.trees }
-    ensures gives { GivesList table.new result (by_operator_in table.old form.now name.Cons (item ∷ list ∷ [])) }
-    ensures grows { Grows table.old table.new }
+    requires list { IsOver table.old form.now list }
+    ensures { Operates table.old form.now name.Cons (item ∷ list ∷ []) table.new result }
 {
     if length_of(table, form, list).is_none() {
         return Ok(None);
@@ -62,10 +60,8 @@ fn cons(table: &mut Table, form: &Spelling, item: Id, list: Id) -> Result<Option
 
 // How many items the list has.
 fn list_len(table: &mut Table, form: &Spelling, list: Id) -> Result<Option<Id>, TermRefused>
-    requires form { IsSpelling table.old form.now }
-    requires list { list < length table.old.trees }
-    ensures gives { GivesList table.new result (by_operator_in table.old form.now name.ListLen (list ∷ [])) }
-    ensures grows { Grows table.old table.new }
+    requires { IsOver table.old form.now list }
+    ensures { Operates table.old form.now name.ListLen (list ∷ []) table.new result }
 {
     let Some(length) = length_of(table, form, list) else {
         return Ok(None);
@@ -74,7 +70,7 @@ fn list_len(table: &mut Table, form: &Spelling, list: Id) -> Result<Option<Id>, 
 }
 
 // The items of the first list before those of the second. Where the second is empty, the first is the
-// value as it stands.
+// value as it is.
 fn list_concat(
     alloc: Global,
     table: &mut Table,
@@ -82,11 +78,9 @@ fn list_concat(
     first: Id,
     second: Id,
 ) -> Result<Option<Id>, TermRefused>
-    requires form { IsSpelling table.old form.now }
-    requires first { first < length table.old.trees }
+    requires first { IsOver table.old form.now first }
     requires second { second < length table.old.trees }
-    ensures gives { GivesList table.new result (by_operator_in table.old form.now name.ListConcat (first ∷ second ∷ [])) }
-    ensures grows { Grows table.old table.new }
+    ensures { Operates table.old form.now name.ListConcat (first ∷ second ∷ []) table.new result }
 {
     if table.is_same(second, form.end) {
         return Ok(itself(table, form, first));
@@ -105,11 +99,9 @@ fn list_nth(
     list: Id,
     place: Id,
 ) -> Result<Option<Id>, TermRefused>
-    requires form { IsSpelling table.old form.now }
-    requires list { list < length table.old.trees }
+    requires list { IsOver table.old form.now list }
     requires place { place < length table.old.trees }
-    ensures gives { GivesList table.new result (by_operator_in table.old form.now name.ListNth (list ∷ place ∷ [])) }
-    ensures grows { Grows table.old table.new }
+    ensures { Operates table.old form.now name.ListNth (list ∷ place ∷ []) table.new result }
 {
     let Some(found) = items(alloc, table, form, list)? else {
         return Ok(None);
@@ -125,11 +117,9 @@ fn list_find(
     list: Id,
     item: Id,
 ) -> Result<Option<Id>, TermRefused>
-    requires form { IsSpelling table.old form.now }
-    requires list { list < length table.old.trees }
+    requires list { IsOver table.old form.now list }
     requires item { item < length table.old.trees }
-    ensures gives { GivesList table.new result (by_operator_in table.old form.now name.ListFind (list ∷ item ∷ [])) }
-    ensures grows { Grows table.old table.new }
+    ensures { Operates table.old form.now name.ListFind (list ∷ item ∷ []) table.new result }
 {
     table.laws();
     let Some(found) = items(alloc, table, form, list)? else {
@@ -148,10 +138,8 @@ fn list_rev(
     form: &Spelling,
     list: Id,
 ) -> Result<Option<Id>, TermRefused>
-    requires form { IsSpelling table.old form.now }
-    requires list { list < length table.old.trees }
-    ensures gives { GivesList table.new result (by_operator_in table.old form.now name.ListRev (list ∷ [])) }
-    ensures grows { Grows table.old table.new }
+    requires { IsOver table.old form.now list }
+    ensures { Operates table.old form.now name.ListRev (list ∷ []) table.new result }
 {
     let Some(found) = items(alloc, table, form, list)? else {
         return Ok(None);
@@ -160,8 +148,8 @@ fn list_rev(
     answer(made)
 }
 
-// The list without the first item that is this one. What spells the items behind it is taken as it
-// stands.
+// The list without the first item that is this one. What spells the items after it is taken as it
+// is.
 fn list_erase(
     alloc: Global,
     table: &mut Table,
@@ -169,11 +157,9 @@ fn list_erase(
     list: Id,
     item: Id,
 ) -> Result<Option<Id>, TermRefused>
-    requires form { IsSpelling table.old form.now }
-    requires list { list < length table.old.trees }
+    requires list { IsOver table.old form.now list }
     requires item { item < length table.old.trees }
-    ensures gives { GivesList table.new result (by_operator_in table.old form.now name.ListErase (list ∷ item ∷ [])) }
-    ensures grows { Grows table.old table.new }
+    ensures { Operates table.old form.now name.ListErase (list ∷ item ∷ []) table.new result }
 {
     let mut front = Ids::new(alloc);
     let mut rest = list;
@@ -197,10 +183,8 @@ fn list_setof(
     form: &Spelling,
     list: Id,
 ) -> Result<Option<Id>, TermRefused>
-    requires form { IsSpelling table.old form.now }
-    requires list { list < length table.old.trees }
-    ensures gives { GivesList table.new result (by_operator_in table.old form.now name.ListSetof (list ∷ [])) }
-    ensures grows { Grows table.old table.new }
+    requires { IsOver table.old form.now list }
+    ensures { Operates table.old form.now name.ListSetof (list ∷ []) table.new result }
 {
     table.laws();
     let Some(found) = items(alloc, table, form, list)? else {
@@ -219,11 +203,9 @@ fn list_minclude(
     first: Id,
     second: Id,
 ) -> Result<Option<Id>, TermRefused>
-    requires form { IsSpelling table.old form.now }
-    requires first { first < length table.old.trees }
+    requires first { IsOver table.old form.now first }
     requires second { second < length table.old.trees }
-    ensures gives { GivesList table.new result (by_operator_in table.old form.now name.ListMinclude (first ∷ second ∷ [])) }
-    ensures grows { Grows table.old table.new }
+    ensures { Operates table.old form.now name.ListMinclude (first ∷ second ∷ []) table.new result }
 {
     table.laws();
     let Some(there) = items(alloc, table, form, first)? else {
@@ -238,8 +220,7 @@ fn list_minclude(
 
 // The list itself, where the term spells one.
 fn itself(table: &Table, form: &Spelling, list: Id) -> Option<Id>
-    requires form { IsSpelling table.now form.now }
-    requires list { list < length table.now.trees }
+    requires { IsOver table.now form.now list }
     ensures { GivesTree table.now result (put_in table.now form.now [] list) }
 {
     if length_of(table, form, list).is_none() {
@@ -255,9 +236,8 @@ fn put_items(
     items: &[Id],
     list: Id,
 ) -> Result<Option<Id>, TermRefused>
-    requires form { IsSpelling table.old form.now }
     requires items { All (λ i. i < length table.old.trees) items.now }
-    requires list { list < length table.old.trees }
+    requires list { IsOver table.old form.now list }
     ensures gives { GivesList table.new result (put_in table.old form.now items.now list) }
     ensures grows { Grows table.old table.new }
 {
@@ -268,7 +248,7 @@ fn put_items(
     answer(made)
 }
 
-// The item at the place that the term tells.
+// The item at the place that the term gives.
 fn item_at(table: &Table, items: &[Id], place: Id) -> Option<Id>
     requires items { All (λ i. i < length table.now.trees) items.now }
     requires place { place < length table.now.trees }

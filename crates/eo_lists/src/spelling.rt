@@ -1,7 +1,7 @@
 //! How lists are spelled, and what a term spells.
 ghost use Rattle.std.specs.Prelude.{◌≡◌, ◌<◌, length, option_map, IfOk};
 ghost use Rattle.eo_sig.specs.Reading.{IsBelow};
-ghost use Rattle.eo_lists.specs.Parts.{GivesTree, IsSpelling, Reads, Unlinks, spelled_in, terminator_in};
+ghost use Rattle.eo_lists.specs.Parts.{GivesTree, IsOver, Reads, Unlinks, spelled_in, terminator_in};
 
 use eo_sig::{Attribute, Signature};
 use eo_term::{Id, Ids, Node, Table};
@@ -46,8 +46,7 @@ pub(crate) fn items(
     form: &Spelling,
     list: Id,
 ) -> Result<Option<Ids>, AllocError>
-    requires form { IsSpelling table.now form.now }
-    requires list { list < length table.now.trees }
+    requires { IsOver table.now form.now list }
     ensures { IfOk result (λ o. Reads table.now form.now list o) }
 {
     let mut found = Ids::new(alloc);
@@ -64,8 +63,7 @@ pub(crate) fn items(
 
 /// How many items that list has.
 pub(crate) fn length_of(table: &Table, form: &Spelling, list: Id) -> Option<usize>
-    requires form { IsSpelling table.now form.now }
-    requires list { list < length table.now.trees }
+    requires { IsOver table.now form.now list }
     ensures { result ≡ option_map length (spelled_in table.now form.now list) }
 {
     let mut count = 0;
@@ -80,7 +78,7 @@ pub(crate) fn length_of(table: &Table, form: &Spelling, list: Id) -> Option<usiz
     Some(count)
 }
 
-/// The first item and the rest, where the constant stands before them.
+/// The first item and the rest, where the constant is applied to them.
 pub(crate) fn unlink(table: &Table, fun: Id, list: Id) -> Option<Link>
     requires fun { fun < length table.now.trees }
     requires list { list < length table.now.trees }

@@ -10,12 +10,12 @@ characters-skip zero bytes = refl
 characters-skip (suc skip) [] = refl
 characters-skip (suc skip) (b ∷ bytes) = characters-skip skip bytes
 
--- a character and what comes behind it
+-- a character and what comes after it
 pub characters-first : (b : ℕ) (bytes : List ℕ) (c more : ℕ) → character_at b bytes ≡ Some (spelled c more)
     → characters 0 (b ∷ bytes) ≡ option_map (λ (cs : List ℕ). c ∷ cs) (characters 0 (drop more bytes))
 characters-first b bytes c more is = rw (is, characters-skip more bytes) refl
 
--- the same behind other characters
+-- the same after other characters
 pub characters-next : (front : List ℕ) (b : ℕ) (bytes : List ℕ) (c more : ℕ) → character_at b bytes ≡ Some (spelled c more)
     → option_map (λ (cs : List ℕ). front ++ cs) (characters 0 (b ∷ bytes)) ≡ option_map (λ (cs : List ℕ). (front ++ c ∷ []) ++ cs) (characters 0 (drop more bytes))
 characters-next front b bytes c more is =

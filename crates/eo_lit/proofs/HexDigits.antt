@@ -15,7 +15,7 @@ use Rattle.std.specs.Result.{result_ok}
 digit_below_hex : (b : ℕ) → digit_below 16 b ≡ hex_digit_value b
 digit_below_hex b = grind (arith, nat_tests)
 
--- the number of some bytes, the highest first, behind a number
+-- the number of some bytes, the highest first, after a number
 abbrev pub bytes_number : ℕ → List ℕ → ℕ
 bytes_number n [] = n
 bytes_number n (b ∷ bytes) = bytes_number (n * 256 + b) bytes

@@ -67,7 +67,7 @@ escape-digits c ds rest small some few all is =
 
 -- ---- one character
 
--- the spelling of the first character, and what comes behind it
+-- the spelling of the first character, and what comes after it
 abbrev IsSpelled : ℕ → List ℕ → Type 0
 IsSpelled c rest = characters 0 (character_spelling c ++ rest) ≡ option_map (λ cs. c ∷ cs) (characters 0 rest)
 

@@ -12,8 +12,8 @@ fn digit_in(base: u8, digit: u8) -> Option<u8>
     (value < base).then_some(value)
 }
 
-/// The value of digits in a base of at most ten, and of one digit more behind them, where it has
-/// at most 128 bits.
+/// The value of digits in a base of at most ten with one more digit after them, where it has at
+/// most 128 bits.
 fn with_digit(base: u8, value: u128, digit: u8) -> Option<u128>
     requires { base ≤ 10 }
     ensures { result ≡ next_value base value digit }

@@ -19,7 +19,7 @@ pub(crate) fn hexadecimal(digits: &[u8]) -> Option<u128>
     Some(u128::from_be_bytes(bytes))
 }
 
-/// The digits behind as many zeros as make them 32.
+/// The digits after as many zeros as make them 32.
 fn zeros_before(digits: &[u8]) -> [u8; DIGITS]
     requires { length digits.now ≤ 32 }
     ensures { result ≡ replicate (32 - length digits.now) 48 ++ digits.now }

@@ -44,7 +44,7 @@ pub struct BadLiteral;
 /// Why a string literal was not read.
 #[derive(Debug, Drop, Error)]
 pub enum StringRefused {
-    /// It holds a byte that may not stand in a string used as a term, or a quote that is not
+    /// It holds a byte that is not allowed in a string used as a term, or a quote that is not
     /// doubled.
     #[error("a byte that may not stand in a string used as a term")]
     Bad,

@@ -33,7 +33,7 @@ fn value_of(word: &[u8]) -> Option<LitRead>
     }
 }
 
-/// The value of what stands behind a `#`.
+/// The value of what follows a `#`.
 fn hash_value(rest: &[u8]) -> Option<LitRead>
     ensures value { option_map lit result ≡ hash_literal rest.now }
     ensures well_formed { IfSome result IsLiteral }

@@ -10,7 +10,7 @@ use eo_base::{Chars, Text};
 use std::alloc::{AllocError, Global};
 use std::fmt::Write;
 
-/// A spelling of the literal: plain digits for a number, behind a `-` where it is below 0, and
+/// A spelling of the literal: plain digits for a number, after a `-` where it is below 0, and
 /// `#b` with a digit for each bit for a bit string, which has at least one bit. It reads back as
 /// the same literal. Refused only where no memory is left.
 #[tactic(auto, unfolding(crate::specs::Spelling::literal_spelling))]

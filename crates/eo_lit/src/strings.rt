@@ -61,7 +61,7 @@ pub fn string_bytes(alloc: Global, body: &[u8]) -> Result<Vec<u8>, AllocError>
     Ok(bytes)
 }
 
-/// What comes behind this byte: a quote takes the one behind it with it.
+/// What comes after this byte: a quote takes the quote after it with it.
 fn behind(first: u8, after: &[u8]) -> &[u8]
     ensures same { without_doubles (first == 34) after.now ≡ without_doubles false result.now }
     ensures shorter { length result.now ≤ length after.now }
@@ -92,7 +92,7 @@ fn character_at(first: u8, after: &[u8]) -> Option<Spelled>
     }
 }
 
-/// The quote that two quotes stand for, behind the first.
+/// The quote that two quotes spell, after the first of them.
 fn doubled_quote(after: &[u8]) -> Option<Spelled>
     ensures value { option_map (λ s. spelled s.character s.more) result ≡ character_at 34 after.now }
     ensures within { IfSome result (λ s. (s.character ≤ greatest_character) × (s.more ≤ length after.now)) }
@@ -106,14 +106,14 @@ fn doubled_quote(after: &[u8]) -> Option<Spelled>
     }
 }
 
-/// The character of an escape, behind its backslash.
+/// The character of an escape, after its backslash.
 fn escape(after: &[u8]) -> Option<Spelled>
     ensures value { option_map (λ s. spelled s.character s.more) result ≡ escape after.now }
     ensures within { IfSome result (λ s. (s.character ≤ greatest_character) × (s.more ≤ length after.now)) }
 {
     match after {
         [b'u', b'{', inside @ ..] => {
-            let digits = braced(inside)?;
+            let digits = braced_digits(inside)?;
             character_of(digits, 3 + digits.len())
         }
         [b'u', digits @ ..] if digits.len() >= 4 => character_of(&digits[..4], 5),
@@ -123,7 +123,7 @@ fn escape(after: &[u8]) -> Option<Spelled>
 
 /// The digits up to a `}`, of which there are at most five.
 #[tactic(auto, using(crate::proofs::Escapes::braced_position))]
-fn braced(inside: &[u8]) -> Option<&[u8]>
+fn braced_digits(inside: &[u8]) -> Option<&[u8]>
     ensures value { option_map (λ digits. digits.now) result ≡ braced 6 inside.now }
     ensures within { IfSome result (λ digits. (length digits.now ≤ 5) × (length digits.now < length inside.now)) }
 {
@@ -139,7 +139,7 @@ fn closing_brace(inside: &[u8]) -> Option<usize>
     inside.iter().take(6).position(|b| *b == b'}')
 }
 
-/// The character with this number, which so many bytes behind the first spell.
+/// The character with this number, which is spelled by so many bytes after the first.
 fn character_of(digits: &[u8], more: usize) -> Option<Spelled>
     requires { length digits.now ≤ 5 }
     ensures value { option_map (λ s. spelled s.character s.more) result ≡ character_of digits.now more }

@@ -204,7 +204,7 @@ may_fail F status.WriteFault due w x (inl h) = inl h
 may_fail F status.WriteFault due w x (inr (inl h)) = absurd h.0
 may_fail F status.WriteFault due w x (inr (inr h)) = inr (inr h)
 
--- what was written ends a bench, whatever the library tells
+-- what was written ends a bench, whether files are known or not
 pub bench_ends_as : (F : Type 0) (told : Option Files) (s : Status) (n : ℕ) (w x : Option (List ℕ)) → Ends ⊥ s (bench_due n) w x → EndsAs F told s (Some (Bench n)) w x
 unfolding due
 bench_ends_as F None s n w x h = tt

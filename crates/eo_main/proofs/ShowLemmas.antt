@@ -1,4 +1,4 @@
--- How the run of a name ends, by what is answered for it.
+-- How the run of a name ends, by the result for it.
 use Rattle.std.proofs.Common.{◌≡◌, ◌≢◌, ℕ, zero, suc, true, false, List, [], ◌∷◌, Option, None, Some, refl, sym, ◌∙◌, ap, subst, arith, true≢false}
 use Rattle.std.specs.Prelude.{Bool, map, take, if◌then◌else◌, Result, Ok, Err, IsSome, slice_get}
 use Rattle.eo_base.specs.Causes.{Rose}

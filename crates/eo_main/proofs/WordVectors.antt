@@ -7,7 +7,7 @@ use Rattle.eo_main.specs.CommandLine.{request}
 use Rattle.eo_main.specs.declared.Request.{Request}
 use Rattle.eo_main.specs.declared.Request.TheVariants.{Check, Load, Bench, Show, Trim, Prove}
 
--- the words behind the program's name are read so
+-- the words after the program's name are read so
 abbrev Reads : List Text → Option Request → Type 0
 Reads words reading = request (codes "ethos" ∷ words) ≡ reading
 

@@ -79,7 +79,7 @@ program =
 
 -- ---- what the words ask for
 
--- a flag's value is the text `true` where it stands among the words
+-- a flag's value is the text `true` where it is among the words
 abbrev pub is_set : Text → List Row → Bool
 is_set name rows = option_map_or (λ value. bytes_eq value (codes "true")) (first_of name rows) false
 
@@ -108,11 +108,11 @@ abbrev pub bench_limit : ℕ
 bench_limit = 100000
 
 -- a number from 1 to the limit, in digits without sign and without a leading zero
-abbrev pub size_of : Text → Option ℕ
-size_of word = option_and_then (λ n. if nat_le 1 n && nat_le n bench_limit then Some n else None) (numeral word)
+abbrev pub bench_size : Text → Option ℕ
+bench_size word = option_and_then (λ n. if nat_le 1 n && nat_le n bench_limit then Some n else None) (numeral word)
 
 abbrev pub bench_of : List Row → Option Request
-bench_of rows = option_and_then (λ word. option_map Bench (size_of word)) (first_of (codes "N") rows)
+bench_of rows = option_and_then (λ word. option_map Bench (bench_size word)) (first_of (codes "N") rows)
 
 abbrev pub show_of : List Row → Option Request
 show_of rows = option_and_then (λ file. option_map (Show file) (first_of (codes "NAME") rows)) (first_of (codes "FILE") rows)
@@ -120,7 +120,7 @@ show_of rows = option_and_then (λ file. option_map (Show file) (first_of (codes
 abbrev pub prove_of : List Row → Option Request
 prove_of rows = option_and_then (λ reference. option_map (Prove reference) (first_of (codes "PROOF") rows)) (first_of (codes "reference") rows)
 
--- by the name of the command that stands among the words, and what was found for it
+-- what is asked for, by the name of the command among the words and what was found for it
 abbrev pub request_of : Text × List Row → Option Request
 request_of found =
     if bytes_eq found.0 (codes "check") then check_of found.1

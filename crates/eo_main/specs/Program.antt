@@ -22,7 +22,7 @@ use Rattle.eo_main.specs.Ends.{Ends, EndsInFull}
 use Rattle.eo_main.specs.declared.Request.{Request}
 use Rattle.eo_main.specs.declared.Request.TheVariants.{Check, Load, Bench, Show, Trim, Prove}
 
--- A correct bench tells how many commands were accepted, and how many different trees are alive at the end of its run.
+-- A correct bench says how many commands were accepted, and how many different trees are alive at the end of its run.
 abbrev pub correct_bench : ℕ → Ran → Due
 correct_bench n (Ok p) = record { status = status.Ok; text = bench_text n p.state.commands (live_count p.state) }
 correct_bench n (Err stopped) = verdict_due (Refused stopped.refusal)
@@ -70,26 +70,26 @@ may_write_proof status.Refused reading = false
 may_write_proof s (Some (Trim job)) = true
 may_write_proof s reading = false
 
--- The run ends as is due for the reading of its words, where files are told. The library failed only if `failed` holds.
+-- The run ends as is due for the reading of its words, where files are known. The library failed only if `failed` holds.
 abbrev pub EndsAs : (failed : Type 0) → Option Files → Status → Option Request → (before after : Option (List ℕ)) → Type 0
 EndsAs failed told s reading before after = IfSome told (λ files. Ends failed s (due files reading) before after)
 
--- Where files are told and no call of the sink failed, all that is due is written, unless there is no memory left.
+-- Where files are known and no call of the sink failed, all that is due is written, unless there is no memory left.
 abbrev pub Completes : Option Files → Status → Option Request → (before after : Option (List ℕ)) → (sink_before sink_now : ℕ) → Type 0
 Completes told s reading before after sink_before sink_now = (Rose sink_before sink_now → ⊥) → IfSome told (λ files. EndsInFull s (due files reading) before after)
 
--- A check that ends with status 0, where files are told, refutes what its reference file asserts.
+-- A check that ends with status 0, where files are known, refutes what its reference file asserts.
 abbrev pub OkRefutes : Option Files → Status → Option Request → Type 0
 OkRefutes told s reading = (job : CheckJob) → reading ≡ Some (Check job) → s ≡ status.Ok → IfSome told (λ files. Refutes files job)
 
--- In a closed check, where files are told, the proof declares no program and no rule.
+-- In a closed check, where files are known, the proof declares no program and no rule.
 abbrev pub ClosedKeeps : Option Files → Option Request → Type 0
 ClosedKeeps told reading = (job : CheckJob) → reading ≡ Some (Check job) → IfSome told (λ files. ClosedKeepsRules files job)
 
--- What a trim writes that ends with status 0, where files are told, is a proof by the needed commands alone, which stays correct.
+-- What a trim that ends with status 0 writes, where files are known, is a proof by the needed commands alone, which stays correct.
 abbrev pub OkShortens : Option Files → Status → Option Request → (before after : Option (List ℕ)) → Type 0
 OkShortens told s reading before after = (job : CheckJob) → reading ≡ Some (Trim job) → WritesShorter told s job before after
 
--- A proof of validity that ends with status 0, where files are told, leaves no valuation that makes all that was asserted true.
+-- A proof of validity that ends with status 0, where files are known, leaves no valuation that makes all that was asserted true.
 abbrev pub OkLeavesNoModel : Option Files → Status → Option Request → Type 0
 OkLeavesNoModel told s reading = (reference proof : List ℕ) → reading ≡ Some (Prove reference proof) → LeavesNoModel told s reference proof

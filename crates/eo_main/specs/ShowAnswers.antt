@@ -1,4 +1,4 @@
--- What is answered for the value of a name.
+-- The result for the value of a name.
 use Rattle.std.specs.Prelude.{◌≡◌, ◌≢◌, ℕ, List, Option, IfSome, Result, Ok, Err, ⊤}
 use Rattle.eo_base.specs.Checks.{Checked}
 use Rattle.eo_base.specs.declared.FaultName.TheVariants.{FileAbsent}
@@ -22,7 +22,7 @@ pub record AreLines (lines : List ℕ) : Type 0 where
   pub tree : Tree
   pub are : lines ≡ shown_by signature macros tree
 
--- the lines of a value, or an answer that is no verdict but a refusal
+-- the lines of a value, or a result that is no verdict but a refusal
 abbrev pub IsShowAnswer : List (List ℕ) → Result (List ℕ) Verdict → Type 0
 IsShowAnswer paths (Ok lines) = AreLines lines
 IsShowAnswer paths (Err v) = IsStop paths v
@@ -31,7 +31,7 @@ abbrev pub ShowHasCause : {F : Type 0} → Result (List ℕ) Verdict → Option 
 ShowHasCause (Ok lines) told before now = ⊤
 ShowHasCause (Err v) told before now = AnswerHasCause v told before now
 
--- The lines or the refusal are what is due, but for a fault of reading and for being out of memory.
+-- The lines or the refusal are what is due, but for a read fault and for being out of memory.
 abbrev pub AnswersDue : List (List ℕ) → Result (List ℕ) Verdict → Due → Type 0
 AnswersDue paths (Ok lines) due = due ≡ lines_due lines
 AnswersDue paths (Err (answer.Refused fault)) due = (refusal : Refusal) × (due ≡ verdict_due (Refused refusal)) × Denotes paths fault refusal
@@ -39,7 +39,7 @@ AnswersDue paths (Err answer.ReadFault) due = ⊤
 AnswersDue paths (Err answer.OutOfMemory) due = ⊤
 AnswersDue paths (Err v) due = ⊥
 
--- where files are told
+-- where files are known
 abbrev pub AnswersShow : Option Files → (file name : List ℕ) → List (List ℕ) → Result (List ℕ) Verdict → Type 0
 AnswersShow told file name paths r = IfSome told (λ files. AnswersDue paths r (show_due files file name))
 
@@ -50,7 +50,7 @@ AnswersNamed place (Err (answer.Refused fault)) m = (m ≡ Err fault.name) × (f
 AnswersNamed place (Err answer.OutOfMemory) m = ⊤
 AnswersNamed place (Err v) m = ⊥
 
--- what is due for what is answered
+-- what is due for what is returned
 abbrev pub show_answer_due : List (List ℕ) → Result (List ℕ) Verdict → Due
 show_answer_due paths (Ok lines) = lines_due lines
 show_answer_due paths (Err v) = answer_due paths v

@@ -1,4 +1,4 @@
--- What is due for what is answered for a trimmed proof, and for a proof that assertions have no model.
+-- What is due for the results of `trim` and of `prove`.
 use Rattle.std.specs.Prelude.{◌≡◌, ℕ, List, Option, IfSome}
 use Rattle.eo_base.specs.declared.Status.{Status}
 use Rattle.eo_base.specs.declared.Status.TheVariants as status
@@ -24,10 +24,10 @@ abbrev pub prove_answer_due : List (List ℕ) → ProveEnd → Due
 prove_answer_due paths proved.Valid = valid_due
 prove_answer_due paths (proved.Other v) = answer_due paths v
 
--- With status 0, where files are told, just the needed commands are written, and with them in the proof's place the check is correct.
+-- With status 0, where files are known, just the needed commands are written, and with them in the proof's place the check is correct.
 abbrev pub WritesShorter : Option Files → Status → CheckJob → (before after : Option (List ℕ)) → Type 0
 WritesShorter told s job before after = s ≡ status.Ok → IfSome told (λ files. (bytes : List ℕ) × Adds bytes before after × IsShorter files job bytes)
 
--- With status 0, where files are told, no valuation makes all that the reference file asserts true.
+-- With status 0, where files are known, no valuation makes all that the reference file asserts true.
 abbrev pub LeavesNoModel : Option Files → Status → (reference proof : List ℕ) → Type 0
 LeavesNoModel told s reference proof = s ≡ status.Ok → IfSome told (λ files. IsRefuted files reference proof)

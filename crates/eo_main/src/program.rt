@@ -37,9 +37,9 @@ pub const OUT_OF_MEMORY: &[u8] = b"out of memory\n";
 /// made in memory, and `show FILE NAME` runs a signature file and shows the value of a name.
 /// `trim [--include=F] [--reference=F] [--closed] PROOF` checks a proof, and writes it without the
 /// commands that its refutation does not need; `prove --reference=F PROOF` checks a proof after the
-/// suite, closed, and that its rules keep truth. Then the line of the verdict is written, for a
+/// suite, closed, and that its rules preserve truth. Then the line of the verdict is written, for a
 /// correct bench as `bench 10: correct, 33 commands, 99 terms`, for a value the lines that it is
-/// shown by, for a correct proof that is trimmed its bytes, and for one whose rules keep truth
+/// shown by, for a correct proof that is trimmed its bytes, and for one whose rules preserve truth
 /// `valid`.
 ///
 /// - `Ok`, `Incomplete`, `Refused`: exactly as the verdict of the files, and for a value as its name
@@ -49,7 +49,7 @@ pub const OUT_OF_MEMORY: &[u8] = b"out of memory\n";
 ///   With `Ok` of `trim` just the commands that the refutation needs are written, and the check of the
 ///   job is correct with them in the proof's place, where they are no longer than a file may be.
 ///   `Refused` of a correct proof: of `trim`, where its file was opened in another place too, and of
-///   `prove`, where a step used a rule that does not keep truth. With `Ok` of `prove`, where `valid`
+///   `prove`, where a step used a rule that does not preserve truth. With `Ok` of `prove`, where `valid`
 ///   is written, no valuation makes all that the reference file asserts true.
 /// - `Usage`: exactly where the words have no reading; the usage line is written.
 /// - `ReadFault`: only where the library's count of faults rose; `read fault` is written. Words that
@@ -96,9 +96,9 @@ pub fn ethos_main<L: Library, W: Sink>(
     }
 }
 
-/// A law: where files are told and no call of the library or of the sink failed, a run that ends as
+/// A law: where files are known and no call of the library or of the sink failed, a run that ends as
 /// `ethos_main` says writes all that is due, with its status, unless there is no memory left. A call
-/// costs nothing: it tells a proof this.
+/// costs nothing: it gives a proof this fact.
 pub fn completeness_law()
     ensures { (told : Option Files) (s : status) (r : Option reading) (before after : Option (List ℕ)) (l m k n : ℕ) →
         EndsAs (Rose l m) told s r before after → EndHasCause s l m k n → (Rose l m → ⊥) → Completes told s r before after k n }

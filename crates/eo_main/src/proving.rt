@@ -1,4 +1,4 @@
-//! Whether assertions have no model, by a proof whose steps keep truth, and the line of it.
+//! Whether assertions have no model, by a proof whose steps preserve truth, and its line.
 ghost use Rattle.std.specs.Prelude.{◌≡◌, ◌≢◌, ◌≤◌, [], Some};
 ghost use Rattle.eo_base.specs.Causes.{Rose};
 ghost use Rattle.eo_run.specs.Answer.{WritesDue};

@@ -65,7 +65,7 @@ fn lines_of_name<L: Library>(
     }
 }
 
-/// The lines of the value that a name has in a session that is not ended, and is let go. A fault of
+/// The lines of the value that a name has in a session that is not ended, and is dropped. A fault of
 /// it has this place.
 fn lines_at_end(
     alloc: Global,
@@ -145,7 +145,7 @@ fn refused_at(name: FaultName, place: &Place) -> Verdict
     })
 }
 
-/// Writes the lines, or the line of a verdict, and answers the status that goes with it.
+/// Writes the lines, or the line of a verdict, and returns the status that goes with it.
 #[tactic(auto, using(crate::proofs::InRange::stop_in_range))]
 fn print_shown<W: Sink>(out: &mut W, shown: &Result<ShownBytes, Verdict>, paths: &Paths) -> Status
     requires { IsShowAnswer paths.now shown.now }

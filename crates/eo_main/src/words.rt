@@ -7,7 +7,7 @@ ghost use Rattle.eo_main.specs.Words.{rows_in};
 use crate::Request;
 use clap::error::ErrorKind;
 use clap::{Arg, ArgAction, ArgMatches, Command};
-use eo_base::{Text, both};
+use eo_base::{Text, ok_with};
 use eo_lit::read_numeral;
 use eo_run::CheckJob;
 use std::alloc::{AllocError, Global};
@@ -74,14 +74,14 @@ fn with_job<'a>(
 ) -> Result<Command<'a>, AllocError>
     ensures { IfOk result (λ with. app_of with ≡ with_subcommand (app_of command.entry) (line.taking_job name.entry.now).top) }
 {
-    let begun = Command::new(alloc, name).arg(valued(alloc, "include"));
-    let (begun, above) = both(begun, command)?;
-    let referring = begun.arg(valued(alloc, "reference"));
-    let (referring, above) = both(referring, above)?;
+    let begun = Command::new(alloc, name).arg(value_option(alloc, "include"));
+    let (begun, above) = ok_with(begun, command)?;
+    let referring = begun.arg(value_option(alloc, "reference"));
+    let (referring, above) = ok_with(referring, above)?;
     let closing = referring.arg(flag(alloc, "closed"));
-    let (closing, above) = both(closing, above)?;
+    let (closing, above) = ok_with(closing, above)?;
     let whole = closing.arg(positional(alloc, "PROOF"));
-    let (job, above) = both(whole, above)?;
+    let (job, above) = ok_with(whole, above)?;
     above.subcommand(job)
 }
 
@@ -95,7 +95,7 @@ fn with_command<'a>(
     ensures { IfOk result (λ with. app_of with ≡ with_subcommand (app_of command.entry) (line.taking name.entry.now word.entry.now).top) }
 {
     let below = Command::new(alloc, name).arg(positional(alloc, word));
-    let (below, above) = both(below, command)?;
+    let (below, above) = ok_with(below, command)?;
     above.subcommand(below)
 }
 
@@ -104,9 +104,9 @@ fn with_show<'a>(alloc: Global, command: Command<'a>) -> Result<Command<'a>, All
     ensures { IfOk result (λ with. app_of with ≡ with_subcommand (app_of command.entry) line.show_command.top) }
 {
     let begun = Command::new(alloc, "show").arg(positional(alloc, "FILE"));
-    let (begun, above) = both(begun, command)?;
+    let (begun, above) = ok_with(begun, command)?;
     let whole = begun.arg(positional(alloc, "NAME"));
-    let (show, above) = both(whole, above)?;
+    let (show, above) = ok_with(whole, above)?;
     above.subcommand(show)
 }
 
@@ -115,14 +115,14 @@ fn with_prove<'a>(alloc: Global, command: Command<'a>) -> Result<Command<'a>, Al
     ensures { IfOk result (λ with. app_of with ≡ with_subcommand (app_of command.entry) line.prove_command.top) }
 {
     let begun = Command::new(alloc, "prove").arg(required_valued(alloc, "reference"));
-    let (begun, above) = both(begun, command)?;
+    let (begun, above) = ok_with(begun, command)?;
     let whole = begun.arg(positional(alloc, "PROOF"));
-    let (prove, above) = both(whole, above)?;
+    let (prove, above) = ok_with(whole, above)?;
     above.subcommand(prove)
 }
 
 /// `--name=VALUE` or `--name VALUE`
-fn valued<'a>(alloc: Global, name: &'a str) -> Arg<'a>
+fn value_option<'a>(alloc: Global, name: &'a str) -> Arg<'a>
     ensures rule { rule_of result ≡ line.valued name.entry.now }
     ensures local { result.global ≡ false }
 {
@@ -134,7 +134,7 @@ fn required_valued<'a>(alloc: Global, name: &'a str) -> Arg<'a>
     ensures rule { rule_of result ≡ line.required_valued name.entry.now }
     ensures local { result.global ≡ false }
 {
-    valued(alloc, name).required(true)
+    value_option(alloc, name).required(true)
 }
 
 /// `--name`
@@ -201,7 +201,7 @@ fn bench_of(found: &ArgMatches<'_>) -> Option<Request>
     ensures { result ≡ line.bench_of (rows_in found.now) }
 {
     let word = value_of(found, "N")?;
-    Some(Request::Bench(size_of(word.as_bytes())?))
+    Some(Request::Bench(bench_size(word.as_bytes())?))
 }
 
 fn show_of(alloc: Global, found: &ArgMatches<'_>) -> Result<Option<Request>, AllocError>
@@ -257,8 +257,8 @@ fn proof_of(
 }
 
 /// The size of a bench, where it has these digits.
-fn size_of(digits: &[u8]) -> Option<u32>
-    ensures { result ≡ line.size_of digits.now }
+fn bench_size(digits: &[u8]) -> Option<u32>
+    ensures { result ≡ line.bench_size digits.now }
 {
     let n = read_numeral(digits)?;
     if n < 1 || n > BENCH_LIMIT {
@@ -299,7 +299,7 @@ fn text_of(alloc: Global, found: &ArgMatches<'_>, name: &str) -> Result<Option<T
     }
 }
 
-/// Whether a flag stands among the words: `clap` gives it the text `true` then, and else `false`.
+/// Whether a flag is among the words: `clap` gives it the text `true` if it is, and else `false`.
 fn is_set(found: &ArgMatches<'_>, name: &str) -> bool
     ensures { result ≡ line.is_set name.now (rows_in found.now) }
 {

@@ -13,7 +13,7 @@ use Rattle.indexmap.specs.Layout.{set_value_at}
 use Rattle.eo_names.specs.Folding.{folded, folded_within, by_attribute, attribute_at, least, applied_to_two}
 use Rattle.eo_names.specs.Binders.{variable_list, variable, variables_of}
 use Rattle.eo_names.specs.Grouped.{if_low}
-use Rattle.eo_names.specs.Readers.{◌>>=◌, read, built, give, unless, with_labels}
+use Rattle.eo_names.specs.Readers.{◌>>=◌, read, built, give, unless, with_named_terms}
 use Rattle.eo_names.specs.Contexts.{is_list, Local}
 use Rattle.eo_names.specs.Names.{Binding, read_pairs, BindingsBelow, with_term, with_terms}
 use Rattle.eo_names.proofs.FoldLemmas.{tall_second, tall_left, tall_right}
@@ -24,7 +24,7 @@ pub length_pairs : (ts : List Tree) (bs : List Binding) → length (read_pairs t
 length_pairs ts [] = refl
 length_pairs ts (b ∷ bs) = ap suc (length_pairs ts bs)
 
--- the variable at a place, before those behind it
+-- the variable at a place, before those after it
 variable_before : (ts : List Tree) (bs : List Binding) (i : ℕ) (name : List ℕ) (ty : ℕ) → slice_get bs i ≡ Some (name, ty)
     → variables_of (read_pairs ts (drop i bs)) ≡ Var name (tree_at ts ty) ∷ variables_of (read_pairs ts (drop (suc i) bs))
 variable_before ts [] zero name ty e = cc
@@ -48,7 +48,7 @@ type_at n (b ∷ bs) zero name ty h e =
     subst (λ (c : Binding). c.1 < n) same (All-head (λ (c : Binding). c.1 < n) b bs h)
 type_at n (b ∷ bs) (suc i) name ty h e = type_at n bs i name ty (All-tail (λ (c : Binding). c.1 < n) b bs h) e
 
--- none are left behind the last one
+-- none are left after the last one
 pub no_variable : (ts : List Tree) (bs : List Binding) (i : ℕ) → length bs ≤ i → variables_of (read_pairs ts (drop i bs)) ≡ []
 no_variable ts [] zero l = refl
 no_variable ts [] (suc i) l = refl
@@ -100,16 +100,16 @@ as_many ts us bs is e =
 
 -- ---- the list of the variables
 
-read_built : (x : Checked Tree) → (read x >>= built) [] ≡ with_labels [] (if_low x)
+read_built : (x : Checked Tree) → (read x >>= built) [] ≡ with_named_terms [] (if_low x)
 read_built (Ok t) = by (is_tall t)
   where
-    by : (b : Bool) → unless (not b) TermHeight (give t) [] ≡ with_labels [] (if b then Err TermHeight else Ok t)
+    by : (b : Bool) → unless (not b) TermHeight (give t) [] ≡ with_named_terms [] (if b then Err TermHeight else Ok t)
     by true = refl
     by false = refl
 read_built (Err fault) = refl
 
 module _ (S : Signature) (ls : List Local) (k : ℕ) where
-  pub seen_list : (ps : List (List ℕ × Tree)) → variable_list S (is_list ls) k (map variable ps) [] ≡ with_labels [] (if_low (folded S (is_list ls) k (variables_of ps)))
+  pub seen_list : (ps : List (List ℕ × Tree)) → variable_list S (is_list ls) k (map variable ps) [] ≡ with_named_terms [] (if_low (folded S (is_list ls) k (variables_of ps)))
   seen_list ps = read_built (folded S (is_list ls) k (variables_of ps))
 
   opened : (us : List Tree) → folded S (is_list ls) k us ≡ folded_within (suc k) S (is_list ls) k us
@@ -120,7 +120,7 @@ module _ (S : Signature) (ls : List Local) (k : ℕ) where
   length_trees ps = length-map (map variable ps) (λ (v : List ℕ × Tree). v.1) ∙ length-map ps variable
 
   pub list_few : (ps : List (List ℕ × Tree)) → length ps < least (attribute_at S k) → variable_list S (is_list ls) k (map variable ps) [] ≡ Err BadArity
-  list_few ps l = seen_list ps ∙ ap (λ r. with_labels [] (if_low r)) (opened (variables_of ps)) ∙ ap (with_labels []) (too_few S (is_list ls) k (variables_of ps) k (omega (arith, length_trees ps)))
+  list_few ps l = seen_list ps ∙ ap (λ r. with_named_terms [] (if_low r)) (opened (variables_of ps)) ∙ ap (with_named_terms []) (too_few S (is_list ls) k (variables_of ps) k (omega (arith, length_trees ps)))
 
   -- one variable that is too tall
   one_by : (fold_by : ℕ → List Tree → Checked Tree) (f : Tree) (a : Attribute) (name : List ℕ) (ty : Tree) → least a ≤ 1 → is_tall (Var name ty) ≡ true → if_low (by_attribute fold_by (is_list ls) f a (Var name ty ∷ [])) ≡ Err TermHeight
@@ -144,7 +144,7 @@ module _ (S : Signature) (ls : List Local) (k : ℕ) where
   tall_within (p ∷ q ∷ ps) l e = folded_tall S (is_list ls) (suc k) k (variables_of (p ∷ q ∷ ps)) (omega arith) e
 
   pub list_tall : (ps : List (List ℕ × Tree)) → least (attribute_at S k) ≤ length ps → list_any is_tall (variables_of ps) ≡ true → variable_list S (is_list ls) k (map variable ps) [] ≡ Err TermHeight
-  list_tall ps l e = seen_list ps ∙ ap (λ r. with_labels [] (if_low r)) (opened (variables_of ps)) ∙ ap (with_labels []) (tall_within ps l e)
+  list_tall ps l e = seen_list ps ∙ ap (λ r. with_named_terms [] (if_low r)) (opened (variables_of ps)) ∙ ap (with_named_terms []) (tall_within ps l e)
 
 -- ---- the code
 

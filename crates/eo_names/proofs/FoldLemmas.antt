@@ -80,7 +80,7 @@ pub tall_onto : (b : Bool) (f a rest : Tree) → is_tall rest ≡ true → is_ta
 tall_onto true f a rest e = higher rest (list_onto true f a rest) (omega arith) e
 tall_onto false f a rest e = tall_right f a rest e
 
--- local names stand for the same over a table that has grown
+-- local names mean the same over a table that has grown
 pub locals_grown : (ls : List LocalName) (ts us : List Tree) (n : ℕ) → AreBelow n ls → ((i : ℕ) → i < n → tree_at us i ≡ tree_at ts i) → read_locals us ls ≡ read_locals ts ls
 locals_grown [] ts us n b same = refl
 locals_grown (l ∷ ls) ts us n b same =

@@ -17,13 +17,13 @@ use Rattle.eo_term.specs.Builds.{TallWhere, Builds}
 use Rattle.eo_pattern.specs.Matching.{Assignment, put}
 use Rattle.eo_pattern.specs.Steps.{IsMade}
 use Rattle.eo_names.specs.Gives.{GivesTree, GivesTerm, GivesTurn}
-use Rattle.eo_names.specs.Readers.{with_labels}
+use Rattle.eo_names.specs.Readers.{with_named_terms}
 use Rattle.eo_names.specs.Refused.{told, of_term}
 use Rattle.eo_names.specs.Worlds.{World, turned_in}
 
 -- ---- terms that may be too tall
 
--- a term with what stands for its parameters put in
+-- a term with the values of its parameters substituted
 pub builds_put : (σ : Assignment) (ts : List Tree) (k : ℕ) (new : Terms) (r : Result ℕ TermRefused) → IfOk r (IsMade σ ts k new.trees) → (IsTall r → is_tall (put σ (tree_at ts k)) ≡ true) → Builds new r (put σ (tree_at ts k))
 builds_put σ ts k new (Ok i) h t = record { live = h.live; tree = h.tree }
 builds_put σ ts k new (Err term.Tall) h t = t tt
@@ -41,6 +41,6 @@ turn_fault w t (Ok a) k us e q h = absurd q
 turn_fault w t (Err x) k us e q h = subst (λ y. (turns : ℕ) → Tells told y (turned_in w (suc turns) k us)) (sym q) h
 
 -- the same with no label
-pub labelled : (t : Terms) (r : Result ℕ ElabRefused) (o : Checked Tree) → GivesTree t r o → GivesTerm t r (with_labels [] o)
-labelled t (Ok i) o h = record { live = h.live; is = ap (with_labels []) h.is }
-labelled t (Err e) o h = tells_through told (with_labels []) (λ x. refl) e o h
+pub labelled : (t : Terms) (r : Result ℕ ElabRefused) (o : Checked Tree) → GivesTree t r o → GivesTerm t r (with_named_terms [] o)
+labelled t (Ok i) o h = record { live = h.live; is = ap (with_named_terms []) h.is }
+labelled t (Err e) o h = tells_through told (with_named_terms []) (λ x. refl) e o h

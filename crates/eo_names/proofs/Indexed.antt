@@ -1,4 +1,4 @@
--- The names of a block added to what names stand for, and taken away.
+-- The names of a block added to what names mean, and taken away.
 use Rattle.std.proofs.Common.{◌≡◌, ℕ, zero, suc, ◌+◌, ◌-◌, ◌<◌, Bool, true, false, cond, drop, arith, sym, List, [], ◌∷◌, ◌++◌, map, Some, is_some, slice_get, refl, ap, subst, ◌∙◌}
 use Rattle.std.specs.Prelude.{option_map, IfSome, if◌then◌else◌}
 use Rattle.std.specs.List.{find}

@@ -88,7 +88,7 @@ module _ (f : Tree) where
     abbrev vs : List Tree
     vs = map (tree_at ts) args
 
-    -- the pairs with the argument at place i, before those of the arguments behind it
+    -- the pairs with the argument at place i, before those of the arguments after it
     pub pairs_at : (i a : ℕ) → i < length args → a ≡ get_or args i a → all_pairs f (drop i vs) ≡ map (applied_to_two f (tree_at ts a)) (map (tree_at ts) (drop (i + 1) args)) ++ all_pairs f (drop (i + 1) vs)
     pairs_at i a l e =
         let more : suc i ≡ i + 1 = omega arith in

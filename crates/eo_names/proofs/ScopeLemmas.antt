@@ -15,7 +15,7 @@ module _ (ls : List LocalName) where
   abbrev pub inside : List Binding → List LocalName
   inside bs = map binding_local bs ++ ls
 
-  -- none of them stands for a list
+  -- none of them represents a list
   pub list_inside : (ts : List Tree) (t : Tree) (bs : List Binding) → is_list (read_locals ts (inside bs)) t ≡ is_list (read_locals ts ls) t
   list_inside ts (Con k) bs = refl
   list_inside ts (Num z) bs = refl

@@ -10,8 +10,8 @@ use Rattle.eo_term.specs.Tree.{Tree, More, to_trees}
 use Rattle.eo_term.specs.Terms.{tree_at, trees_at}
 use Rattle.eo_pattern.specs.Matching.{assign}
 use Rattle.eo_pattern.specs.Matching.{put}
-use Rattle.eo_names.specs.declared.usage.Use.{Use}
-use Rattle.eo_names.specs.declared.usage.Use.TheVariants as use_
+use Rattle.eo_names.specs.declared.usage.Head.{Head}
+use Rattle.eo_names.specs.declared.usage.Head.TheVariants as use_
 use Rattle.eo_names.specs.Folding.{applied}
 use Rattle.eo_names.specs.Contexts.{Context, Local}
 use Rattle.eo_names.specs.Readers.{built}
@@ -60,8 +60,8 @@ all_held ts args i l σ h =
     λ k j. (h j ∙ (λ m. slice_get (whole m) j)) k
 
 -- what is made of arguments over a table that has grown
-pub made_grown : (ts us : List Tree) (n : ℕ) (c : Context) (ls : List Local) (u : Use) (args : List Tree) → UseBelow n u → ((i : ℕ) → i < n → tree_at us i ≡ tree_at ts i) → made_of ts c ls u args [] ≡ made_of us c ls u args []
-made_grown ts us n c ls (use_.Plainly f) args h g = ap (λ t. built (applied t args) []) (sym (g f h))
+pub made_grown : (ts us : List Tree) (n : ℕ) (c : Context) (ls : List Local) (u : Head) (args : List Tree) → UseBelow n u → ((i : ℕ) → i < n → tree_at us i ≡ tree_at ts i) → made_of ts c ls u args [] ≡ made_of us c ls u args []
+made_grown ts us n c ls (use_.Apply f) args h g = ap (λ t. built (applied t args) []) (sym (g f h))
 made_grown ts us n c ls use_.Underscore args h g = refl
 made_grown ts us n c ls use_.Arrow args h g = refl
 made_grown ts us n c ls (use_.Fold k) args h g = refl

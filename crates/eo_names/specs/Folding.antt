@@ -18,12 +18,12 @@ applied_to_two f a b = App (App f a) b
 abbrev pub list_concat : Tree → Tree → Tree → Tree
 list_concat f a rest = Op (OpCode.Builtin OpName.ListConcat) (to_trees (f ∷ a ∷ rest ∷ []))
 
--- An argument before the rest of a list. One that stands for a list itself is joined to it.
+-- An argument before the rest of a list. One that represents a list itself is joined to it.
 abbrev pub list_onto : (is_list : Bool) → Tree → Tree → Tree → Tree
 list_onto true f a rest = list_concat f a rest
 list_onto false f a rest = applied_to_two f a rest
 
--- the last argument: one that stands for a list is the tail
+-- the last argument: one that represents a list is the tail
 abbrev pub last_onto : (is_list : Bool) → Tree → Tree → Tree → Tree
 last_onto true f a nil = a
 last_onto false f a nil = applied_to_two f a nil
@@ -78,7 +78,7 @@ attribute_at S f = option_map_or (λ c. c.attribute) (constant_at S f) Plain
 abbrev pub joined_by : (ℕ → List Tree → Checked Tree) → Tree → ℕ → (items args : List Tree) → Checked Tree
 joined_by fold_by f g items args = if length args == 2 then Ok (applied f args) else fold_by g items
 
--- f with an attribute on arguments; `is_list` tells which arguments stand for lists, and `fold_by` folds another constant
+-- f with an attribute on arguments; `is_list` says which arguments represent lists, and `fold_by` folds another constant
 abbrev pub by_attribute : (ℕ → List Tree → Checked Tree) → (Tree → Bool) → Tree → Attribute → List Tree → Checked Tree
 by_attribute fold_by is_list f Plain args = Ok (applied f args)
 by_attribute fold_by is_list f (RightNil nil) args = Ok (right_nil is_list f nil args)

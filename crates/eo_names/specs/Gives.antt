@@ -1,4 +1,4 @@
--- What calls answer, against the definitions: terms of a table, or the fault.
+-- What calls return, by the definitions: terms of a table, or the fault.
 use Rattle.std.specs.Prelude.{◌≡◌, ℕ, suc, ◌-◌, ◌<◌, List, [], length, Result, Ok, Err, ◌++◌}
 use Rattle.std.specs.List.{list_any}
 use Rattle.eo_base.specs.Answers.{Gives, Tells}
@@ -19,7 +19,7 @@ use Rattle.eo_names.specs.Worlds.{World, Read, turns_in, turned_in, grouped_in, 
 
 -- ---- terms that may be too tall
 
--- trees behind those that ids had
+-- trees after those that ids had
 abbrev pub AddsAll : (old new : Terms) → (before after : List ℕ) → Result (Unit {0}) TermRefused → List Tree → Type 0
 AddsAll old new before after r us = OrTall (λ (x : Unit {0}). AreTerms new (trees_in old before ++ us) after) (list_any is_tall us) r
 

@@ -37,7 +37,7 @@ names_in bs name = list_any (λ (b : Binding). bytes_eq b.0 name) bs
 abbrev pub read_pairs : List Tree → List Binding → List (List ℕ × Tree)
 read_pairs ts bs = map (λ (b : Binding). (b.0, tree_at ts b.1)) bs
 
--- where trees stay, one name more is read behind those that were there
+-- where trees stay, one more name is read after those that were there
 abbrev pub ReadsOneMore : List Binding → List ℕ → ℕ → List Binding → Type 0
 ReadsOneMore old name id new =
     (n : ℕ) (ts us : List Tree) → BindingsBelow n old → SameTrees n ts us → read_pairs us new ≡ read_pairs ts old ++ (name, tree_at us id) ∷ []

@@ -7,7 +7,7 @@ use Rattle.eo_term.specs.declared.table.TermRefused.TheVariants as term
 use Rattle.eo_names.specs.declared.refused.ElabRefused.{ElabRefused}
 use Rattle.eo_names.specs.declared.refused.ElabRefused.TheVariants as refused
 
--- the fault that it tells; out of memory tells none
+-- its fault; out of memory has none
 abbrev pub told : ElabRefused → Option FaultName
 told refused.BadLiteral = Some fault.BadLiteral
 told refused.BadCommand = Some fault.BadCommand

@@ -1,27 +1,26 @@
--- What names stand for in a scope, over a table and a signature: the definitions at the code's own values.
+-- What names mean in a scope, over a table and a signature: the definitions applied to the code's own values.
 use Rattle.std.specs.Prelude.{ℕ, Bool, List, [], map, fold, Option, option_map, slice_get}
 use Rattle.eo_base.specs.Checks.{Checked}
 use Rattle.eo_sig.specs.declared.records.Attribute.{Attribute}
 use Rattle.eo_sig.specs.Reading.{Kept, signature, macros, read_attribute}
-use Rattle.eo_sig.specs.Signature.{lookup}
 use Rattle.eo_term.specs.Growth.{tree_in, trees_in}
 use Rattle.eo_term.specs.Terms.{Terms}
 use Rattle.eo_term.specs.Tree.{Tree}
 use Rattle.eo_names.specs.declared.locals.LocalName.{LocalName}
 use Rattle.eo_names.specs.declared.scope.Scope.{Scope}
-use Rattle.eo_names.specs.declared.usage.Use.{Use}
+use Rattle.eo_names.specs.declared.usage.Head.{Head}
 use Rattle.eo_names.specs.Binders.{variable, variable_list}
 use Rattle.eo_names.specs.Contexts.{Context, Local, is_list}
 use Rattle.eo_names.specs.Folding.{applied_to_two, list_onto, last_onto, right_nil, by_attribute, folded, folded_within}
 use Rattle.eo_names.specs.Grouped.{grouped, joined_items, if_low}
-use Rattle.eo_names.specs.Meanings.{Meant, meant, global_meant, macro_meant, or_nothing}
+use Rattle.eo_names.specs.Meanings.{Resolved, meant, meant_before, macro_meant, or_nothing}
 use Rattle.eo_names.specs.Names.{Binding, read_locals, read_pairs}
-use Rattle.eo_names.specs.Readers.{Label}
+use Rattle.eo_names.specs.Readers.{NamedTerm}
 use Rattle.eo_names.specs.Ready.{context}
 use Rattle.eo_names.specs.Scopes.{bound_in}
 use Rattle.eo_names.specs.Usage.{made_of}
 
--- what names stand for, and before them the names that are local
+-- what names mean, and before them the names that are local
 pub record World : Type 0 where
   pub names : Context
   pub locals : List Local
@@ -34,19 +33,19 @@ world t k s = world_of t k (bound_in s)
 
 -- what is read, or the first fault
 abbrev pub Read : Type 0 → Type 0
-Read A = Checked (A × List Label)
+Read A = Checked (A × List NamedTerm)
 
--- what a name stands for, over any trees; the same of one that is not local, and of a macro by its number
-abbrev pub meant_over : List Tree → Kept → Scope → List ℕ → Meant
+-- what a name means, over any trees; the same as the head of so many arguments, and of a macro by its number
+abbrev pub meant_over : List Tree → Kept → Scope → List ℕ → Resolved
 meant_over ts k s name = meant (context ts k) (read_locals ts (bound_in s)) name
 
-abbrev pub global_meant_over : List Tree → Kept → List ℕ → Meant
-global_meant_over ts k name = global_meant (context ts k) (lookup (signature ts k) (macros ts k) name)
+abbrev pub meant_before_over : List Tree → Kept → Scope → List ℕ → ℕ → Resolved
+meant_before_over ts k s name n = meant_before (context ts k) n (read_locals ts (bound_in s)) name
 
-abbrev pub macro_meant_over : List Tree → Kept → ℕ → Meant
+abbrev pub macro_meant_over : List Tree → Kept → ℕ → Resolved
 macro_meant_over ts k n = or_nothing (option_map macro_meant (slice_get (macros ts k) n))
 
--- which trees stand for lists in a scope
+-- which trees represent lists in a scope
 abbrev pub lists_in : Terms → Scope → Tree → Bool
 lists_in t s = is_list (read_locals t.trees (bound_in s))
 
@@ -54,7 +53,7 @@ lists_in t s = is_list (read_locals t.trees (bound_in s))
 abbrev pub seen_in : Terms → List Binding → List (List ℕ × Tree)
 seen_in t bs = read_pairs t.trees bs
 
--- arguments behind a first one, grouped from the left
+-- arguments after a first one, grouped from the left
 abbrev pub left_in : Terms → (f first : ℕ) → List ℕ → Tree
 left_in t f first args = fold (applied_to_two (tree_in t f)) (tree_in t first) (trees_in t args)
 
@@ -95,7 +94,7 @@ module _ (w : World) where
   turned_in turns k us = if_low (turns_in turns k us)
 
   -- what is made of arguments
-  abbrev pub made_in : Terms → Use → List Tree → Read Tree
+  abbrev pub made_in : Terms → Head → List Tree → Read Tree
   made_in t u args = made_of t.trees w.names w.locals u args []
 
   -- the list of the variables that these names and types become

@@ -17,7 +17,7 @@ use crate::ElabRefused;
 use crate::fold::{apply_constant, apply_to_all};
 use crate::folding::fold_constant;
 use crate::scope::Scope;
-use crate::usage::Use;
+use crate::usage::Head;
 use eo_pattern::{Subst, substitute};
 use eo_sig::SignatureView;
 use eo_term::{HEIGHT_LIMIT, Id, Node, OpCode, Table, TermRefused, builds_law};
@@ -32,9 +32,9 @@ use std::alloc::Global;
 /// - `Memory`: out of memory.
 ///
 /// A refused call leaves the table as it was.
-pub fn use_arguments(
+pub fn apply_head(
     alloc: Global,
-    used: Use,
+    used: Head,
     args: &[Id],
     scope: &Scope<'_>,
     sig: &SignatureView<'_>,
@@ -61,7 +61,7 @@ pub fn use_arguments(
 // The same, but that a refused call leaves the terms that it made.
 fn use_or_leave(
     alloc: Global,
-    used: Use,
+    used: Head,
     args: &[Id],
     scope: &Scope<'_>,
     sig: &SignatureView<'_>,
@@ -74,7 +74,7 @@ fn use_or_leave(
     ensures gives { GivesTerm table.new result (made_in (world table.old sig.now scope.now) table.old used (trees_in table.old args.now)) }
     ensures grows { Grows table.old table.new }
 {
-    if let Use::Fold(k) = used {
+    if let Head::Fold(k) = used {
         return fold_constant(alloc, k, args, scope, sig, table);
     }
     let made = use_plainly(alloc, used, args, table)?;
@@ -83,7 +83,7 @@ fn use_or_leave(
 }
 
 // The same, where a constant that folds its arguments is applied to them one after another.
-fn use_plainly(alloc: Global, used: Use, args: &[Id], table: &mut Table) -> Result<Id, TermRefused>
+fn use_plainly(alloc: Global, used: Head, args: &[Id], table: &mut Table) -> Result<Id, TermRefused>
     requires args { All (λ a. a < length table.old.trees) args.now }
     requires below { UseBelow (length table.old.trees) used }
     requires suits { Suits used (length args.now) }
@@ -91,13 +91,13 @@ fn use_plainly(alloc: Global, used: Use, args: &[Id], table: &mut Table) -> Resu
     ensures grows { Grows table.old table.new }
 {
     match used {
-        Use::Plainly(f) => apply_to_all(table, f, args),
-        Use::Underscore => apply_to_all(table, args[0], &args[1..]),
-        Use::Arrow => arrow_or_leave(table, args),
-        Use::Fold(k) => apply_constant(table, k, args),
-        Use::Bind { binder, .. } => apply_constant(table, binder, args),
-        Use::Macro(tree) => put_in(alloc, tree, args, table),
-        Use::Operator(code) => apply_operator(table, code, args),
+        Head::Apply(f) => apply_to_all(table, f, args),
+        Head::Underscore => apply_to_all(table, args[0], &args[1..]),
+        Head::Arrow => arrow_or_leave(table, args),
+        Head::Fold(k) => apply_constant(table, k, args),
+        Head::Bind { binder, .. } => apply_constant(table, binder, args),
+        Head::Macro(tree) => put_in(alloc, tree, args, table),
+        Head::Operator(code) => apply_operator(table, code, args),
     }
 }
 
@@ -153,7 +153,7 @@ fn arrow_or_leave(table: &mut Table, types: &[Id]) -> Result<Id, TermRefused>
     Ok(made)
 }
 
-// The term with the arguments put in for its parameters, of which there are at most 64.
+// The term with the arguments substituted for its parameters, of which there are at most 64.
 fn put_in(alloc: Global, tree: Id, args: &[Id], table: &mut Table) -> Result<Id, TermRefused>
     requires tree { tree < length table.old.trees }
     requires args { All (λ a. a < length table.old.trees) args.now }

@@ -59,7 +59,7 @@ pub(crate) fn apply_constant(table: &mut Table, k: usize, args: &[Id]) -> Result
     apply_to_all(table, f, args)
 }
 
-/// The arguments grouped from the left behind a first one.
+/// The arguments grouped from the left, after a first one.
 pub(crate) fn group_left(
     table: &mut Table,
     f: Id,
@@ -99,7 +99,7 @@ pub(crate) fn group_right(table: &mut Table, f: Id, args: &[Id]) -> Result<Id, T
 }
 
 /// The arguments, of which there is at least one, grouped from the right before a terminator. One
-/// that stands for a list is joined to the rest, and in the last place it is the rest.
+/// that represents a list is joined to the rest, and in the last place it is the rest.
 pub(crate) fn group_list(
     table: &mut Table,
     scope: &Scope<'_>,

@@ -1,4 +1,4 @@
-//! What each name stands for by the innermost binding of it.
+//! What each name means by the innermost binding of it.
 ghost use Rattle.std.specs.Prelude.{◌≡◌, ◌++◌, ◌≤◌, List, [], drop, length, map, OnOk, OnErr};
 ghost use Rattle.eo_names.specs.declared.locals.LocalName.{LocalName};
 ghost use Rattle.eo_names.specs.Names.{binding_local};
@@ -12,14 +12,14 @@ use std::alloc::{AllocError, Global};
 use std::hash::{BuildHasherDefault, DefaultHasher};
 use std::marker::Model;
 
-/// What each name stands for by the innermost binding of it, and what it stood for before. A name is
+/// What each name means by the innermost binding of it, and what it meant before. A name is
 /// found by its hash, which is SipHash, since a file chooses the names.
 #[derive(Drop)]
 pub(crate) struct Innermost {
     alloc: Global,
-    // A name of which all bindings were left stands for nothing.
+    // A name of which all bindings were left has no meaning.
     terms: IndexMap<Name, Option<Id>, BuildHasherDefault<DefaultHasher>>,
-    // What the name of each binding stood for before it, the innermost last.
+    // What the name of each binding meant before it, the innermost last.
     hidden: Vec<Option<Id>>,
 }
 
@@ -33,7 +33,7 @@ impl Model for Innermost {
 }
 
 impl Innermost {
-    /// No name stands for anything. No memory is taken.
+    /// No name means anything. No memory is taken.
     pub(crate) fn new(alloc: Global) -> Innermost
         ensures { IsIndex [] result }
     {
@@ -44,7 +44,7 @@ impl Innermost {
         }
     }
 
-    /// The term that the name stands for.
+    /// The term that the name means.
     pub(crate) fn find(&self, name: &[u8]) -> Option<Id>
         ensures { result ≡ term_in self.now name.now }
     {
@@ -54,8 +54,8 @@ impl Innermost {
         self.terms.get(NameRef(name)).copied().flatten()
     }
 
-    /// Inside of a block these names stand for its terms. `Err`: out of memory, and all stays as
-    /// it is.
+    /// From here on, inside a block, these names mean its terms. `Err`: out of memory, and all stays
+    /// as it is.
     pub(crate) fn enter(&mut self, names: &Bindings) -> Result<(), AllocError>
         ensures entered { (ls : List LocalName) → IsIndex ls self.old → OnOk result (IsIndex (map binding_local names.now ++ ls) self.new) }
         ensures err { (ls : List LocalName) → IsIndex ls self.old → OnErr result (IsIndex ls self.new) }
@@ -72,7 +72,7 @@ impl Innermost {
         Ok(())
     }
 
-    /// The names from a place on stand again for what they stood for before.
+    /// The names from a place on mean again what they meant before.
     pub(crate) fn leave(&mut self, names: &Bindings, from: usize)
         requires { from ≤ length names.now }
         ensures { (ls : List LocalName) → IsIndex (map binding_local (drop from names.now) ++ ls) self.old → IsIndex ls self.new }
@@ -82,7 +82,7 @@ impl Innermost {
         }
     }
 
-    // Lets the name stand for a term. `Err`: out of memory, and all stays as it is.
+    // Gives the name a term as its meaning. `Err`: out of memory, and all stays as it is.
     fn bind(&mut self, name: &[u8], id: Id) -> Result<(), AllocError>
         ensures bound { OnOk result (Binds self.old name.now id self.new) }
         ensures err { OnErr result (self.new ≡ self.old) }
@@ -94,7 +94,7 @@ impl Innermost {
         Ok(())
     }
 
-    // Lets the name stand for what was hidden last.
+    // Gives the name back the meaning that was hidden last.
     fn unbind(&mut self, name: &[u8])
         ensures { Unbinds self.old name.now self.new }
     {

@@ -15,7 +15,7 @@ use std::marker::Model;
 /// one look-up by its hash, however many they are.
 #[derive(Drop)]
 pub struct Blocks {
-    // The innermost stands last.
+    // The innermost is last.
     list: Vec<Bindings>,
     innermost: Innermost,
 }
@@ -63,7 +63,7 @@ impl Blocks {
         }
     }
 
-    /// The term that the name stands for, by the innermost one that binds it.
+    /// The term that the name means, by the innermost one that binds it.
     pub(crate) fn find(&self, name: &[u8]) -> Option<Id>
         ensures value { (ts : List Tree) → option_map (tree_at ts) result ≡ local_named (read_locals ts (bound_by self.now)) name.now }
         ensures live { (n : ℕ) → AreBelow n (bound_by self.now) → IfSome result (λ i. i < n) }

@@ -5,14 +5,14 @@ ghost use Rattle.eo_names.specs.declared.locals.LocalName.{LocalName};
 ghost use Rattle.eo_names.specs.Laws.{NamesStay, UseStays, IsInside};
 ghost use Rattle.eo_names.specs.Names.{Binding};
 
-use crate::Use;
+use crate::Head;
 use eo_sig::growth_law;
 
-/// A law: names stand for the same where the table grows, and of arguments the same is made; and
-/// what names stand for inside a `let` or a binder. A call costs nothing: it tells a proof this.
+/// A law: names mean the same where the table grows, and the same is made from arguments; and what
+/// names mean inside a `let` or a binder. A call costs nothing: it gives a proof these facts.
 pub fn names_law()
     ensures stays { (k : Kept) (ls : List LocalName) → NamesStay k ls }
-    ensures uses { (u : Use) → UseStays u }
+    ensures uses { (u : Head) → UseStays u }
     ensures inside { (bs : List Binding) (ls : List LocalName) → IsInside bs ls }
 {
     growth_law();

@@ -1,5 +1,5 @@
-//! What names stand for where a term stands, and what is made of arguments: constants folded over
-//! them by their attributes, macros, operators and function types.
+//! What names mean at the place of a term, and applications: constants folded over their
+//! arguments by their attributes, macros, operators and function types.
 #![tactic(auto)]
 
 mod arguments;
@@ -17,13 +17,13 @@ mod scope;
 mod symbols;
 mod usage;
 
-pub use arguments::{function_type, use_arguments};
+pub use arguments::{apply_head, function_type};
 pub use attributes::{attribute_of, least_of};
 pub use binders::bind;
 pub use inside::Blocks;
 pub use laws::names_law;
 pub use locals::{Bindings, LocalName, Locals};
 pub use refused::ElabRefused;
-pub use scope::{Scope, Setting};
-pub use symbols::{Meant, Word, name_meant, word_of};
-pub use usage::Use;
+pub use scope::{FileKind, Scope};
+pub use symbols::{Resolved, Word, head_meant, resolve_name, word_of};
+pub use usage::Head;

@@ -16,19 +16,19 @@ use std::alloc::{AllocError, Global};
 use std::hash::{BuildHasherDefault, DefaultHasher};
 use std::marker::Model;
 
-/// A name that stands for a term.
+/// A name that means a term.
 #[derive(Debug, Drop)]
 pub struct LocalName {
     /// The name, of any bytes.
     pub name: Name,
     /// The term.
     pub id: Id,
-    /// Whether the term stands for a list of arguments.
+    /// Whether the term represents a list of arguments.
     pub list: bool,
 }
 
 impl LocalName {
-    // Whether it stands for this term, and for a list of arguments.
+    // Whether it means this term, and a list of arguments.
     fn is_list_at(&self, table: &Table, id: Id) -> bool
         requires own { self.now.id < length table.now.trees }
         requires live { id < length table.now.trees }
@@ -49,7 +49,7 @@ impl LocalName {
 #[derive(Drop)]
 pub struct Locals {
     alloc: Global,
-    // The name added last stands first.
+    // The name added last comes first.
     names: Vec<LocalName>,
 }
 
@@ -73,7 +73,7 @@ impl Locals {
         }
     }
 
-    /// Adds a name for a term, before all others. Where `list` is set, the term stands for a list
+    /// Adds a name for a term, before all others. Where `list` is set, the term represents a list
     /// of arguments. `Err`: out of memory, and the names stay as they are.
     pub fn add(&mut self, name: &[u8], id: Id, list: bool) -> Result<(), AllocError>
         ensures added { OnOk result (self.new ≡ local name.now id list ∷ self.old) }
@@ -84,7 +84,7 @@ impl Locals {
         Ok(())
     }
 
-    /// The term that the name stands for.
+    /// The term that the name means.
     pub(crate) fn find(&self, name: &[u8]) -> Option<Id>
         ensures value { (ts : List Tree) → option_map (tree_at ts) result ≡ local_named (read_locals ts self.now) name.now }
         ensures live { (n : ℕ) → AreBelow n self.now → IfSome result (λ i. i < n) }
@@ -97,7 +97,7 @@ impl Locals {
         None
     }
 
-    /// Whether the term is a parameter that stands for a list of arguments.
+    /// Whether the term is a parameter that represents a list of arguments.
     pub(crate) fn is_list(&self, table: &Table, id: Id) -> bool
         requires live { id < length table.now.trees }
         requires below { AreBelow (length table.now.trees) self.now }
@@ -109,7 +109,7 @@ impl Locals {
         }
     }
 
-    // Whether a name that stands for a list of arguments stands for this term.
+    // Whether a name that represents a list of arguments means this term.
     fn has_list(&self, table: &Table, id: Id) -> bool
         requires live { id < length table.now.trees }
         requires below { AreBelow (length table.now.trees) self.now }
@@ -217,7 +217,7 @@ impl Bindings {
         Ok(())
     }
 
-    /// Drops the names behind the first n.
+    /// Drops the names after the first n.
     pub fn truncate(&mut self, n: usize)
         ensures { self.new ≡ take n self.old }
     {

@@ -11,7 +11,7 @@ pub enum ElabRefused {
     BadCommand,
     /// A name that is taken, reserved, or given twice.
     Redeclared,
-    /// A symbol that stands for nothing, a keyword in a term's place, or a joining constant that
+    /// A symbol without a meaning, a keyword where a term is expected, or a joining constant that
     /// is no constant.
     UnknownSymbol,
     /// A wrong number of arguments.
@@ -22,7 +22,7 @@ pub enum ElabRefused {
     Parameters,
     /// A terminator that is no value, or a type that holds what no declared type may.
     BadPattern,
-    /// Want of memory.
+    /// Out of memory.
     Memory(AllocError),
 }
 

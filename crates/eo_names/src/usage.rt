@@ -3,9 +3,9 @@ use eo_term::{Id, OpCode};
 
 /// How a head uses its arguments.
 #[derive(Clone, Copy)]
-pub enum Use {
+pub enum Head {
     /// The term is applied to them, one after another.
-    Plainly(Id),
+    Apply(Id),
     /// The first is applied to the others, one after another.
     Underscore,
     /// They are the types of a function type.
@@ -14,7 +14,7 @@ pub enum Use {
     Fold(usize),
     /// The constant is applied to a list of variables, made by another constant, and to the rest.
     Bind { binder: usize, collector: usize },
-    /// They stand for the parameters of the term.
+    /// They are the values of the parameters of the term.
     Macro(Id),
     /// They are the arguments of an operator or a program.
     Operator(OpCode),

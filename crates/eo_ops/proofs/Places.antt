@@ -10,7 +10,7 @@ use Rattle.eo_ops.specs.Places.{place_range}
 use Rattle.eo_ops.proofs.Numbers.{length-bits_of}
 use Rattle.eo_ops.proofs.Bits.{take-bits, drop-bits, bit_string_bits}
 
--- a part is what stands between its places
+-- a part is what is between its places
 pub part_range : {X : Type 0} (xs : List X) (i j : ℤ) → part xs i j ≡ slice_range xs (place_range (length xs) i j).0 (place_range (length xs) i j).1
 part_range xs (pos i) (pos j) =
     elim (cases_lt i (length xs)) [
@@ -55,13 +55,13 @@ part_bits w a i j start end is ordered within =
     ap (take (end - start)) (drop-bits start w a (omega arith)) ∙ take-bits (end - start) (w - start) (a / 2 ^ start) (omega arith) in
     ap bit_string (between ∙ bits) ∙ bit_string_bits (end - start) (a / 2 ^ start)
 
--- the empty string stands at the first place
+-- the empty string is at the first place
 pub place_of_empty : (t s : List ℕ) → length t ≡ 0 → place_of t s ≡ Some 0
 place_of_empty [] [] h = refl
 place_of_empty [] (c ∷ s) h = refl
 place_of_empty (x ∷ t) s h = absurd (omega arith)
 
--- what is found behind a place where the string does not stand
+-- what is found after a place where the string is not
 pub place_of_skips : (t s : List ℕ) (k : ℕ) → k < length s → starts_with nat_eq (drop k s) t ≡ false → place_of t (drop k s) ≡ option_map suc (place_of t (drop (k + 1) s))
 place_of_skips t s k h e =
     let split = drop_more s k 0 h in

@@ -1,4 +1,4 @@
--- What an operator answers, against its value.
+-- What an operator returns, by its value.
 use Rattle.std.specs.Prelude.{◌≡◌, IsTrue}
 use Rattle.eo_ops.specs.declared.OpResult.{OpResult}
 use Rattle.eo_ops.specs.declared.OpResult.TheVariants.{Value, Stuck, NumberRange, Memory}

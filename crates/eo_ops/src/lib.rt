@@ -33,7 +33,7 @@ pub enum Lit {
     Str(Chars),
 }
 
-/// What an operator answers.
+/// What an operator returns.
 #[derive(Debug, Drop)]
 pub enum OpResult {
     /// Its value.

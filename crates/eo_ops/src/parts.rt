@@ -66,10 +66,10 @@ fn concat_strings(alloc: Global, s: &Chars, t: &Chars) -> OpResult
     if s.len() + t.len() > CHARACTERS {
         return OpResult::NumberRange;
     }
-    string(appended(alloc, s, t))
+    string(append_chars(alloc, s, t))
 }
 
-fn appended(alloc: Global, s: &[u32], t: &[u32]) -> Result<Chars, AllocError>
+fn append_chars(alloc: Global, s: &[u32], t: &[u32]) -> Result<Chars, AllocError>
     requires s_characters { AreCharacters s.now }
     requires t_characters { AreCharacters t.now }
     ensures { IfOk result (λ characters. characters ≡ s.now ++ t.now) }
@@ -114,7 +114,7 @@ fn extract_string(alloc: Global, s: &Chars, first: i128, last: i128) -> OpResult
 }
 
 /// Where the places from `first` to `last` begin and end, of those that a list of this length has.
-/// The end is the place behind the last one.
+/// The end is the place after the last one.
 fn places(len: usize, first: i128, last: i128) -> (usize, usize)
     ensures value { result ≡ place_range len first last }
     ensures order { result.0 ≤ result.1 }

@@ -18,7 +18,7 @@ pub(crate) fn find(args: &[Lit]) -> OpResult
     }
 }
 
-/// The first place of `s` where `t` stands.
+/// The first place of `s` at which `t` occurs.
 fn first_place(s: &[u32], t: &[u32]) -> Option<usize>
     ensures { result ≡ place_of t.now s.now }
 {

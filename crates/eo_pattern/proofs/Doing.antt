@@ -81,7 +81,7 @@ occurs_append : (i : ℕ) (ps vs : List Tree) → occurs_in i (ps ++ vs) ≡ (oc
 occurs_append i [] vs = refl
 occurs_append i (p ∷ ps) vs = ap (λ b. occurs i p || b) (occurs_append i ps vs) ∙ sym (or_assoc (occurs i p) (occurs_in i ps) (occurs_in i vs))
 
--- first patterns, and others behind them
+-- first patterns, and others after them
 
 pub matches_append : (σ τ ρ : Assignment) (ps ts vs ws : List Tree) → Matches σ ps ts τ → Matches τ vs ws ρ → Matches σ (ps ++ vs) (ts ++ ws) ρ
 matches_append σ τ ρ ps ts vs ws m n = record {
@@ -199,7 +199,7 @@ closes_append ts σ ps us (x ∷ xs) ys h g = (
       (subst (λ (vs : List Tree). Closes ts σ (ps ++ (patterns_of ts x ++ patterns_left ts xs)) vs ys) (sym (append_assoc us (terms_of ts x) (terms_left ts xs))) g)),
 )
 
--- what closes the tasks behind patterns does so behind others that lead there
+-- what closes the tasks after patterns does so after others that lead there
 pub closes_on : (t : Terms) (s : Slots) (σ τ : Assignment) (ps us qs vs : List Tree) → length qs ≡ length vs → ((ρ : Assignment) → Matches τ qs vs ρ → Matches σ ps us ρ) → (ws : List Task) → AreLive t s ws → Closes t.trees σ ps us ws → Closes t.trees τ qs vs ws
 closes_on t s σ τ ps us qs vs same f [] live h = tt
 closes_on t s σ τ ps us qs vs same f (w ∷ ws) live h = (one w h.0, closes_on t s σ τ (ps ++ patterns_of t.trees w) (us ++ terms_of t.trees w) (qs ++ patterns_of t.trees w) (vs ++ terms_of t.trees w) even next ws live.1 h.1)
@@ -339,7 +339,7 @@ args_become t s p u n before after pair args e r room =
       less = omega (arith, small);
     }
 
--- the argument at a place, and then those behind it
+-- the argument at a place, and then those after it
 pub next_becomes : (t : Terms) (s : Slots) (p u i n a b : ℕ) (before after : ToDo) → ArePairs t s p u n → i < n → (ps us : Trees) → arguments_of (tree_at t.trees p) ≡ ps → arguments_of (tree_at t.trees u) ≡ us → from i ps ≡ More (argument_at ps i) (from (i + 1) ps) → from i us ≡ More (argument_at us i) (from (i + 1) us) → tree_at t.trees a ≡ argument_at ps i → tree_at t.trees b ≡ argument_at us i → a < p → b < u → after.tasks ≡ task.Pair a b ∷ (task.Args p u (i + 1) n ∷ before.tasks) → after.room ≡ before.room → length before.tasks + 2 * height (tree_at t.trees p) ≤ before.room + 2 → Becomes 0 t s (task.Args p u i n) before s after
 next_becomes t s p u i n a b before after pairs l ps us d g f h ea eb la lb e r room =
     let ts = t.trees in

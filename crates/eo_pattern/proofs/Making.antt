@@ -16,7 +16,7 @@ pub tall_exit : {X : Type 0} (r : Result X TermRefused) (e : TermRefused) (t u :
 tall_exit (Ok x) e t u q s f h = absurd h
 tall_exit (Err d) e t u q s f h = ap is_tall (sym s) ∙ f (subst (λ x. IsTall {X = ℕ} (Err x)) q h)
 
--- what a refusal tells, where there was none
+-- what a refusal says, where there was none
 pub not_refused : {X E : Type 0} (r : Result X E) (P : Type 0) → is_err r ≡ false → OnErr r P
 not_refused (Ok x) P e = tt
 not_refused (Err d) P e = absurd (true≢false e)

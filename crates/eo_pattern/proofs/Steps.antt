@@ -358,7 +358,7 @@ holds_grown s old new h g = record {
 pub put_later : (s : Slots) (old new : Terms) (k : ℕ) → AreBelow (length old.trees) s → Since old new → k < length old.trees → put (held new.trees s) (tree_at new.trees k) ≡ put (held old.trees s) (tree_at old.trees k)
 put_later s old new k h g l = λ i. put ((holds_grown s old new h g).held i) (g.tree k l i)
 
--- what a memo tells stays
+-- what a memo has stays
 pub puts_grown : (s : Slots) (old new : Terms) (m : List (ℕ × ℕ)) → AreBelow (length old.trees) s → Since old new → TellsOnly (IsPut (held old.trees s) old.trees) m → TellsOnly (IsPut (held new.trees s) new.trees) m
 puts_grown s old new m h g t =
     let same = (holds_grown s old new h g).held in
@@ -395,7 +395,7 @@ module _ (s : Slots) (old mid new : Terms) (id k : ℕ) (b : AreBelow (length ol
         tree = p.tree ∙ sym (put_later s mid new k below w live);
       })
 
--- what a memo tells of a term
+-- what a memo has for a term
 pub told_put : (σ : Assignment) (ts : List Tree) (m : List (ℕ × ℕ)) (k : ℕ) (o : Option ℕ) → o ≡ told m k → TellsOnly (IsPut σ ts) m → IfSome o (λ v. v < length ts) × (IfSome o (λ v. tree_at ts v ≡ put σ (tree_at ts k)) × IfNone o (told m k ≡ None))
 told_put σ ts m k None e h = (tt, (tt, sym e))
 told_put σ ts m k (Some v) e h = let p = h k v (sym e) in (p.made, (p.tree, tt))

@@ -1,11 +1,11 @@
--- What a search for a match is given, what it answers, and the pairs that were matched before.
+-- What a search for a match is given, what it returns, and the pairs that were matched before.
 use Rattle.std.specs.Prelude.{◌≡◌, ℕ, ◌<◌, Bool, true, not, ◌&&◌, ◌||◌, nat_le, List, [], ◌∷◌, length, All, Some, slice_get}
 use Rattle.eo_term.specs.Tree.{Tree, height, is_plain, occurs_in, to_list}
 use Rattle.eo_term.specs.Terms.{Terms, tree_at}
 use Rattle.eo_term.specs.Growth.{tree_in, trees_in}
 use Rattle.eo_term.specs.Arguments.{arguments_of, count_of}
 use Rattle.eo_pattern.specs.Matching.{Assignment, Matches}
-use Rattle.eo_pattern.specs.Slots.{Slots, HasPars, held}
+use Rattle.eo_pattern.specs.Slots.{Slots, AreBelow, HasPars, held}
 use Rattle.eo_pattern.specs.Pairs.{Remembered}
 
 -- the arguments of an operator of a table
@@ -23,6 +23,11 @@ pub record IsPair (t : Terms) (s : Slots) (p u : ℕ) : Type 0 where
   pub pattern : p < length t.trees
   pub term : u < length t.trees
   pub room : HasPars s (tree_in t p)
+
+-- the same where the values of parameters are there too
+pub record MayMatch (t : Terms) (s : Slots) (p u : ℕ) : Type 0 where
+  pub pair : IsPair t s p u
+  pub below : AreBelow (length t.trees) s
 
 -- a pattern and a term that are there, with so many arguments each, and a place for each parameter of the pattern's
 pub record ArePairs (t : Terms) (s : Slots) (p u n : ℕ) : Type 0 where
@@ -56,6 +61,6 @@ pub record IsKept (pairs : Remembered) (p t : ℕ) : Type 0 where
   pub used : pairs.used ≡ true
   pub entry : slice_get pairs.entries p ≡ Some (record { round = pairs.round; term = t })
 
--- each pattern that is kept becomes its term as σ stands
+-- each pattern that is kept becomes its term by σ
 pub record AreMatched (ts : List Tree) (σ : Assignment) (pairs : Remembered) : Type 0 where
   pub each : (p t : ℕ) → IsKept pairs p t → Matches σ (tree_at ts p ∷ []) (tree_at ts t ∷ []) σ

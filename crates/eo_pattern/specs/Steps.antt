@@ -3,19 +3,19 @@ use Rattle.std.specs.Prelude.{◌≡◌, ℕ, ◌<◌, ◌≤◌, true, false, L
 use Rattle.eo_term.specs.declared.OpCode.{OpCode}
 use Rattle.eo_term.specs.Arguments.{arguments_of, count_of}
 use Rattle.eo_term.specs.Tree.{Tree, Op, is_tall}
-use Rattle.eo_term.specs.Memo.{told}
+use Rattle.eo_term.specs.Memo.{told, TellsOnly}
 use Rattle.eo_term.specs.Terms.{Terms, tree_at, HasArity}
 use Rattle.eo_term.specs.Growth.{tree_in}
 use Rattle.eo_pattern.specs.Matching.{Assignment, put}
-use Rattle.eo_pattern.specs.Slots.{Slots, held}
+use Rattle.eo_pattern.specs.Slots.{Slots, AreBelow, IsAssigned, IsPut, held}
 use Rattle.eo_term.specs.declared.walk.Step.{Step}
 use Rattle.eo_term.specs.declared.walk.Step.TheVariants as step
 
--- the term with what stands for its parameters put in, as a tree
+-- the term with the values of its parameters substituted, as a tree
 abbrev pub put_in : Terms → Slots → ℕ → Tree
 put_in t s i = put (held t.trees s) (tree_in t i)
 
--- over the trees new, the term v is the term k of the trees ts with what stands for its parameters put in, and it is not too tall
+-- over the trees new, the term v is the term k of the trees ts with the values of its parameters substituted, and it is not too tall
 pub record IsMade (σ : Assignment) (ts : List Tree) (k : ℕ) (new : List Tree) (v : ℕ) : Type 0 where
   pub live : v < length new
   pub tree : tree_at new v ≡ put σ (tree_at ts k)
@@ -28,7 +28,14 @@ pub record IsOperator (t : Tree) (c : OpCode) (n : ℕ) : Type 0 where
   pub arity : HasArity c n
   pub small : n ≤ 64
 
--- the term p is older than the term k, the memo does not tell of it, and where it becomes too tall, so does k
+-- What is held is to be put in for the parameters of a term: both are there, these are the parameters that have values, and the memo tells what terms become.
+pub record IsPutting (t : Terms) (s : Slots) (set : ℕ) (m : List (ℕ × ℕ)) (k : ℕ) : Type 0 where
+  pub live : k < length t.trees
+  pub below : AreBelow (length t.trees) s
+  pub assigned : IsAssigned set s
+  pub memo : TellsOnly (IsPut (held t.trees s) t.trees) m
+
+-- the term p is older than the term k, the memo has nothing for it, and where it becomes too tall, so does k
 pub record IsNext (σ : Assignment) (ts : List Tree) (memo : List (ℕ × ℕ)) (k p : ℕ) : Type 0 where
   pub older : p < k
   pub untold : told memo p ≡ None
@@ -39,7 +46,7 @@ pub record IsInside (σ : Assignment) (ts : List Tree) (k p : ℕ) : Type 0 wher
   pub older : p < k
   pub tall : is_tall (put σ (tree_at ts p)) ≡ true → is_tall (put σ (tree_at ts k)) ≡ true
 
--- the terms r are the terms p and q with what stands for their parameters put in
+-- the terms r are the terms p and q with the values of their parameters substituted
 pub record ArePut (σ : Assignment) (ts : List Tree) (p q : ℕ) (r : ℕ × ℕ) : Type 0 where
   pub first : r.0 < length ts
   pub second : r.1 < length ts

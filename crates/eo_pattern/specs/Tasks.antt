@@ -38,7 +38,7 @@ module _ (ts : List Tree) where
   takes (task.Args p t next count) = 2 * height (tree_at ts p)
   takes (task.Done p t) = 3
 
-  -- there is room for each task and all that it becomes, over those behind it
+  -- there is room for each task and all that it becomes, over those after it
   abbrev pub HaveRoom : ℕ → List Task → Type 0
   HaveRoom room [] = Unit {0}
   HaveRoom room (w ∷ ws) = (length ws + takes w ≤ room + 2) × HaveRoom room ws
@@ -58,7 +58,7 @@ module _ (ts : List Tree) where
   ClosesOne σ ps us (task.Done p t) = (ρ : Assignment) → Matches σ ps us ρ → Matches ρ (tree_at ts p ∷ []) (tree_at ts t ∷ []) ρ
   ClosesOne σ ps us w = Unit {0}
 
-  -- the same for each pair that is done by what is in front of it, behind these patterns
+  -- the same for each pair that is done by the tasks in front of it, after these patterns
   abbrev pub Closes : Assignment → (ps us : List Tree) → List Task → Type 0
   Closes σ ps us [] = Unit {0}
   Closes σ ps us (w ∷ ws) = ClosesOne σ ps us w × Closes σ (ps ++ patterns_of w) (us ++ terms_of w) ws

@@ -1,4 +1,4 @@
-//! What holds of matching. A call costs nothing: it tells a proof what its clauses say.
+//! What holds of matching. A call costs nothing: it gives a proof what its clauses say.
 ghost use Rattle.std.specs.Prelude.{◌≡◌, ◌<◌, ◌≤◌, ◌+◌, ℕ, List, Some, None, true};
 ghost use Rattle.eo_term.specs.Tree.{Tree, Trees, height, is_closed};
 ghost use Rattle.eo_term.specs.Arguments.{argument_at, count_of};
@@ -13,9 +13,9 @@ pub fn matching_law()
         matching before ps ts ≡ None }
 {}
 
-/// A law: what is put in for parameters changes nothing where there are none, or nothing stands for
-/// them. It keeps the arguments of an operator in their places, and makes a term taller by as much as
-/// the tallest of what is put in exceeds a leaf.
+/// A law: substitution changes nothing where there are no parameters, or none has a value. It keeps
+/// the arguments of an operator in their places, and makes a term taller by as much as the tallest
+/// value exceeds a leaf.
 pub fn putting_law()
     ensures closed { (σ : Assignment) (t : Tree) → is_closed t ≡ true → put σ t ≡ t }
     ensures none { (t : Tree) → put empty t ≡ t }

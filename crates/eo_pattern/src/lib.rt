@@ -1,5 +1,5 @@
-//! Patterns: terms with parameters. Matching finds what stands for each parameter, and substitution
-//! puts it in.
+//! Patterns: terms with parameters. Matching finds a term for each parameter, and substitution
+//! replaces the parameters by these.
 #![tactic(auto)]
 
 mod laws;

@@ -7,10 +7,10 @@ use eo_term::{Id, TYPE, Table};
 use std::alloc::{AllocError, Global};
 use std::marker::Model;
 
-/// The term that each pattern became in a search, by the place of the pattern, as far as there are
-/// places: a pattern that stands at several places is matched once.
+/// The term that each pattern was matched with in a search, by the place of the pattern, as far as
+/// there are places: a pattern that occurs at several places is matched once.
 ///
-/// An entry counts in the round alone in which it was made, so that a new search drops all of them
+/// An entry counts only in the round in which it was made, so that a new search drops all of them
 /// at once.
 #[derive(Drop)]
 pub(crate) struct Pairs {

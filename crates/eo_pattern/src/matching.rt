@@ -3,7 +3,7 @@ ghost use Rattle.std.specs.Prelude.{◌≡◌, ◌<◌, ◌≤◌, ◌+◌, ◌*
 ghost use Rattle.eo_term.specs.Tree.{Par, height};
 ghost use Rattle.eo_term.specs.Growth.{tree_in};
 ghost use Rattle.eo_pattern.specs.Slots.{held, AreBelow, AreEmpty, HasRoom, Keeps};
-ghost use Rattle.eo_pattern.specs.Matched.{ArePaired, IsPair, ArePairs, Matched, Unmatched, MatchedTrees};
+ghost use Rattle.eo_pattern.specs.Matched.{ArePaired, MayMatch, ArePairs, Matched, Unmatched, MatchedTrees};
 ghost use Rattle.eo_pattern.specs.Matched.{UnmatchedTrees, AreMatched};
 ghost use Rattle.eo_pattern.specs.Split.{IsSplit};
 ghost use Rattle.eo_pattern.specs.Tasks.{takes, IsFirst, Becomes, IsRefused, Stays};
@@ -77,8 +77,7 @@ fn match_pattern(
     tasks: &mut Tasks,
     pairs: &mut Pairs,
 ) -> bool
-    requires pair { IsPair table.now subst.old pattern term }
-    requires below { AreBelow (length table.now.trees) subst.old }
+    requires given { MayMatch table.now subst.old pattern term }
     requires tasks { 2 * height (tree_in table.now pattern) ≤ tasks.old.room }
     ensures yes { IsTrue result → Matched table.now subst.old (pattern ∷ []) (term ∷ []) subst.new }
     ensures no { IsFalse result → Unmatched table.now subst.old (pattern ∷ []) (term ∷ []) }
@@ -97,8 +96,7 @@ fn match_walk(
     tasks: &mut Tasks,
     pairs: &mut Pairs,
 ) -> bool
-    requires pair { IsPair table.now subst.old pattern term }
-    requires below { AreBelow (length table.now.trees) subst.old }
+    requires given { MayMatch table.now subst.old pattern term }
     requires tasks { 2 * height (tree_in table.now pattern) ≤ tasks.old.room }
     requires matched { AreMatched table.now.trees (held table.now.trees subst.old) pairs.old }
     ensures yes { IsTrue result → Matched table.now subst.old (pattern ∷ []) (term ∷ []) subst.new }
@@ -160,8 +158,7 @@ fn match_pair(
     tasks: &mut Tasks,
     pairs: &mut Pairs,
 ) -> bool
-    requires pair { IsPair table.now subst.old pattern term }
-    requires below { AreBelow (length table.now.trees) subst.old }
+    requires given { MayMatch table.now subst.old pattern term }
     requires room { length tasks.old.tasks + 2 * height (tree_in table.now pattern) ≤ tasks.old.room + 1 }
     requires matched { AreMatched table.now.trees (held table.now.trees subst.old) pairs.old }
     ensures yes { IsTrue result → Becomes 0 table.now subst.old (task.Pair pattern term) tasks.old subst.new tasks.new }
@@ -180,8 +177,7 @@ fn match_pair(
 
 // The same for a pattern that is kept with its term when it is matched.
 fn match_tall(table: &Table, pattern: Id, term: Id, subst: &mut Held, tasks: &mut Tasks) -> bool
-    requires pair { IsPair table.now subst.old pattern term }
-    requires below { AreBelow (length table.now.trees) subst.old }
+    requires given { MayMatch table.now subst.old pattern term }
     requires room { length tasks.old.tasks + 2 * height (tree_in table.now pattern) ≤ tasks.old.room + 1 }
     ensures yes { IsTrue result → Becomes 0 table.now subst.old (task.Pair pattern term) tasks.old subst.new tasks.new }
     ensures no { IsFalse result → Unmatched table.now subst.old (pattern ∷ []) (term ∷ []) }
@@ -193,8 +189,7 @@ fn match_tall(table: &Table, pattern: Id, term: Id, subst: &mut Held, tasks: &mu
 
 // The same by the roots.
 fn match_roots(table: &Table, pattern: Id, term: Id, subst: &mut Held, tasks: &mut Tasks) -> bool
-    requires pair { IsPair table.now subst.old pattern term }
-    requires below { AreBelow (length table.now.trees) subst.old }
+    requires given { MayMatch table.now subst.old pattern term }
     requires room { length tasks.old.tasks + 2 * height (tree_in table.now pattern) ≤ tasks.old.room + 2 }
     ensures yes { IsTrue result → Becomes 1 table.now subst.old (task.Pair pattern term) tasks.old subst.new tasks.new }
     ensures no { IsFalse result → Unmatched table.now subst.old (pattern ∷ []) (term ∷ []) }
@@ -225,7 +220,7 @@ fn match_roots(table: &Table, pattern: Id, term: Id, subst: &mut Held, tasks: &m
     }
 }
 
-// The argument of an operator at `next` is to be matched first, then those behind it.
+// The argument of an operator at `next` is to be matched first, then those after it.
 fn next_argument(
     table: &Table,
     pattern: Id,

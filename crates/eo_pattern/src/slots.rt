@@ -1,4 +1,4 @@
-//! The terms that stand for parameters.
+//! The values of parameters.
 ghost use Rattle.std.specs.Prelude.{◌≡◌, ℕ, ◌<◌, ◌≤◌, List, [], length, None, Some, OnOk, OnErr, slice_get};
 ghost use Rattle.std.specs.Option.{option_flatten};
 ghost use Rattle.eo_term.specs.Tree.{Tree};
@@ -10,8 +10,8 @@ use eo_term::{Id, ParamSet};
 use std::alloc::{AllocError, Global};
 use std::marker::Model;
 
-/// What stands for each parameter: a term, or nothing. It has a place for each parameter below a
-/// number, and tells the height of patterns that there is room for.
+/// The value of each parameter: a term, or none. It has a place for each parameter below a number,
+/// and keeps the height of patterns that there is room for.
 #[derive(Drop)]
 pub(crate) struct Held {
     values: Vec<Option<Id>>,
@@ -40,7 +40,7 @@ impl Held {
         }
     }
 
-    /// Makes places for the parameters below `pars`, and tells that there is room for patterns of at
+    /// Makes places for the parameters below `pars`, and notes that there is room for patterns of at
     /// most that height. Where there is no memory left, nothing changes.
     pub(crate) fn reserve(&mut self, pars: usize, height: usize) -> Result<(), AllocError>
         ensures held { (ts : List Tree) → held ts self.new ≡ held ts self.old }
@@ -59,22 +59,22 @@ impl Held {
         Ok(())
     }
 
-    /// What stands for the parameter, if anything does.
+    /// The value of the parameter, if it has one.
     pub(crate) fn get(&self, i: usize) -> Option<Id>
         ensures value { result ≡ option_flatten (slice_get self.now.values i) }
     {
         self.values.get(i).copied().flatten()
     }
 
-    /// What stands for each parameter that there is room for, by its number.
+    /// The value of each parameter that there is room for, by its number.
     pub(crate) fn slots(&self) -> &[Option<Id>]
         ensures { result.now ≡ self.now.values }
     {
         self.values.as_slice()
     }
 
-    /// The parameters below 64 for which something stands.
-    pub(crate) fn assigned(&self) -> ParamSet
+    /// The parameters below 64 that have a value.
+    pub(crate) fn assigned_params(&self) -> ParamSet
         ensures { IsAssigned result self.now }
     {
         let mut set = ParamSet::new();
@@ -97,7 +97,7 @@ impl Held {
         self.values.as_mut_slice().fill(None);
     }
 
-    /// Lets a term stand for the parameter.
+    /// Gives the parameter a term as its value.
     pub(crate) fn put(&mut self, i: u8, id: Id)
         requires { i < length self.old.values }
         ensures held { (ts : List Tree) → held ts self.new ≡ assign (held ts self.old) i (tree_at ts id) }

@@ -14,8 +14,8 @@ use eo_term::{Id, ParamSet, Table};
 use std::alloc::{AllocError, Global};
 use std::marker::Model;
 
-/// What stands for each parameter: a term, or nothing. It has room for the parameters below a
-/// number and for patterns up to a height; no call lessens it.
+/// The value of each parameter: a term, or none. It has room for the parameters below a number
+/// and for patterns up to a height; no call lessens it.
 ///
 /// For a pattern of a height, a search for a match takes a list of at most twice as many tasks.
 #[derive(Drop)]
@@ -81,7 +81,7 @@ impl Subst {
         ensures held { (ts : List Tree) → held ts self.new ≡ held ts self.old }
         ensures below { (n : ℕ) → AreBelow n self.old → AreBelow n self.new }
     {
-        let room = table.parameters(pattern).bound();
+        let room = table.parameters(pattern).upper_bound();
         self.reserve(room, table.height(pattern) as usize)?;
         if is_large(table, pattern) {
             self.pairs.reserve(pattern.place() + 1)?;
@@ -89,25 +89,25 @@ impl Subst {
         Ok(())
     }
 
-    /// What stands for the parameter, if anything does.
+    /// The value of the parameter, if it has one.
     pub fn get(&self, i: usize) -> Option<Id>
         ensures value { result ≡ option_flatten (slice_get self.now.values i) }
     {
         self.slots.get(i)
     }
 
-    /// What stands for each parameter that there is room for, by its number.
+    /// The value of each parameter that there is room for, by its number.
     pub fn slots(&self) -> &[Option<Id>]
         ensures { result.now ≡ self.now.values }
     {
         self.slots.slots()
     }
 
-    /// The parameters below 64 for which something stands.
-    pub(crate) fn assigned(&self) -> ParamSet
+    /// The parameters below 64 that have a value.
+    pub(crate) fn assigned_params(&self) -> ParamSet
         ensures { IsAssigned result self.now }
     {
-        self.slots.assigned()
+        self.slots.assigned_params()
     }
 
     /// Drops what is held. The room stays.
@@ -121,7 +121,7 @@ impl Subst {
         self.slots.clear();
     }
 
-    /// Lets a term stand for the parameter.
+    /// Gives the parameter a term as its value.
     pub fn put(&mut self, i: u8, id: Id)
         requires { i < length self.old.values }
         ensures held { (ts : List Tree) → held ts self.new ≡ assign (held ts self.old) i (tree_at ts id) }

@@ -1,14 +1,13 @@
-//! What is held, put in for the parameters of a term.
+//! What is held, substituted for the parameters of a term.
 ghost use Rattle.std.specs.Prelude.{◌≡◌, ℕ, ◌<◌, ◌≤◌, [], length, true, false, None, IfOk, IfSome, IfNone, OnErr};
 ghost use Rattle.eo_term.specs.Tree.{Op, Par, is_tall};
-ghost use Rattle.eo_term.specs.Memo.{told, TellsOnly};
+ghost use Rattle.eo_term.specs.Memo.{told};
 ghost use Rattle.eo_term.specs.Refused.{IsTall};
-ghost use Rattle.eo_term.specs.Terms.{Terms, tree_at, HasArity};
+ghost use Rattle.eo_term.specs.Terms.{tree_at};
 ghost use Rattle.eo_term.specs.Growth.{Grows, tree_in};
-ghost use Rattle.eo_term.specs.Arguments.{arguments_of, count_of};
 ghost use Rattle.eo_pattern.specs.Matching.{put};
-ghost use Rattle.eo_pattern.specs.Slots.{held, AreBelow, Holds, IsPut, IsAssigned};
-ghost use Rattle.eo_pattern.specs.Steps.{put_in, IsMade, IsOperator, IsStep, IsInside, AreKnown};
+ghost use Rattle.eo_pattern.specs.Slots.{held, AreBelow, Holds, IsAssigned};
+ghost use Rattle.eo_pattern.specs.Steps.{put_in, IsMade, IsPutting, IsOperator, IsStep, IsInside, AreKnown};
 
 use crate::Subst;
 use eo_base::limits::PARAMETERS;
@@ -17,7 +16,7 @@ use eo_term::{
 };
 
 /// The term in which each parameter that has a value is replaced by it. Nothing is renamed. A part
-/// without such parameters is taken as it is, and its own parts are not looked at. A part that stands at
+/// without such parameters is taken as it is, and its own parts are not looked at. A part that occurs at
 /// several places is looked at once.
 ///
 /// Where there is memory, it is refused with [`TermRefused::Tall`] exactly where that term is too
@@ -51,7 +50,7 @@ fn put_from(table: &mut Table, subst: &Subst, id: Id) -> Result<Id, TermRefused>
     ensures grows { Grows table.old table.new }
 {
     table.laws();
-    let assigned = subst.assigned();
+    let assigned = subst.assigned_params();
     if table.parameters(id).is_apart(assigned) {
         return Ok(id);
     }
@@ -96,10 +95,7 @@ fn put_node(
     memo: &Memo,
     id: Id,
 ) -> Result<Step, TermRefused>
-    requires live { id < length table.old.trees }
-    requires below { AreBelow (length table.old.trees) subst.now }
-    requires assigned { IsAssigned assigned.now subst.now }
-    requires memo { TellsOnly (IsPut (held table.old.trees subst.now) table.old.trees) memo.now }
+    requires { IsPutting table.old subst.now assigned.now memo.now id }
     ensures step { IfOk result (λ s. IsStep (held table.old.trees subst.now) table.old.trees memo.now id table.new.trees s) }
     ensures tall { IsTall result → is_tall (put_in table.old subst.now id) ≡ true }
     ensures grows { Grows table.old table.new }
@@ -108,7 +104,7 @@ fn put_node(
     match table.node(id) {
         Node::Par(i) => Ok(Step::Made(put_par(table, subst, id, i))),
         Node::Var { name, ty } => {
-            let Some(put) = known(table, subst, assigned, memo, ty) else {
+            let Some(put) = part_result(table, subst, assigned, memo, ty) else {
                 return Ok(Step::Part(ty));
             };
             let made = table.intern(Node::Var { name, ty: put })?;
@@ -143,7 +139,7 @@ fn put_node(
     }
 }
 
-// The operator `id` over its arguments with what is held put in.
+// The operator `id` over its arguments with what is held substituted.
 fn put_op(
     table: &mut Table,
     subst: &Subst,
@@ -153,10 +149,7 @@ fn put_op(
     code: OpCode,
     count: usize,
 ) -> Result<Step, TermRefused>
-    requires live { id < length table.old.trees }
-    requires below { AreBelow (length table.old.trees) subst.now }
-    requires assigned { IsAssigned assigned.now subst.now }
-    requires memo { TellsOnly (IsPut (held table.old.trees subst.now) table.old.trees) memo.now }
+    requires putting { IsPutting table.old subst.now assigned.now memo.now id }
     requires operator { IsOperator (tree_in table.old id) code count }
     ensures step { IfOk result (λ s. IsStep (held table.old.trees subst.now) table.old.trees memo.now id table.new.trees s) }
     ensures tall { IsTall result → is_tall (put_in table.old subst.now id) ≡ true }
@@ -166,7 +159,7 @@ fn put_op(
     let mut args = [TYPE; PARAMETERS];
     for i in 0..count {
         let arg = table.arg(id, i);
-        let Some(put) = known(table, subst, assigned, memo, arg) else {
+        let Some(put) = part_result(table, subst, assigned, memo, arg) else {
             return Ok(Step::Part(arg));
         };
         args[i] = put;
@@ -185,29 +178,23 @@ fn known_two(
     first: Id,
     second: Id,
 ) -> Result<(Id, Id), Id>
-    requires live { id < length table.now.trees }
-    requires below { AreBelow (length table.now.trees) subst.now }
-    requires assigned { IsAssigned assigned.now subst.now }
-    requires memo { TellsOnly (IsPut (held table.now.trees subst.now) table.now.trees) memo.now }
+    requires putting { IsPutting table.now subst.now assigned.now memo.now id }
     requires first { IsInside (held table.now.trees subst.now) table.now.trees id first }
     requires second { IsInside (held table.now.trees subst.now) table.now.trees id second }
     ensures { AreKnown (held table.now.trees subst.now) table.now.trees memo.now id first second result }
 {
-    let Some(put_first) = known(table, subst, assigned, memo, first) else {
+    let Some(put_first) = part_result(table, subst, assigned, memo, first) else {
         return Err(first);
     };
-    let Some(put_second) = known(table, subst, assigned, memo, second) else {
+    let Some(put_second) = part_result(table, subst, assigned, memo, second) else {
         return Err(second);
     };
     Ok((put_first, put_second))
 }
 
 // What the part of a term becomes, where that is known without its own parts.
-fn known(table: &Table, subst: &Subst, assigned: &ParamSet, memo: &Memo, id: Id) -> Option<Id>
-    requires live { id < length table.now.trees }
-    requires below { AreBelow (length table.now.trees) subst.now }
-    requires assigned { IsAssigned assigned.now subst.now }
-    requires memo { TellsOnly (IsPut (held table.now.trees subst.now) table.now.trees) memo.now }
+fn part_result(table: &Table, subst: &Subst, assigned: &ParamSet, memo: &Memo, id: Id) -> Option<Id>
+    requires { IsPutting table.now subst.now assigned.now memo.now id }
     ensures live { IfSome result (λ i. i < length table.now.trees) }
     ensures tree { IfSome result (λ i. tree_in table.now i ≡ put_in table.now subst.now id) }
     ensures untold { IfNone result (told memo.now id ≡ None) }

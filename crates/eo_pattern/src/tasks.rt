@@ -18,7 +18,7 @@ pub(crate) enum Task {
         next: u8,
         count: u8,
     },
-    /// A pattern has become a term, once all is done that came behind this.
+    /// A pattern matches a term, once all that came after this task is done.
     Done(Id, Id),
 }
 

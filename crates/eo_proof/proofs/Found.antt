@@ -87,7 +87,7 @@ lookup-front q n v low (e ∷ es) (suc m) behind h = by (bytes_eq q e.0) refl (l
 first-none : (o p : Option ℕ) → o ≡ None → first_of o p ≡ p
 first-none o p e = ap (λ r. first_of r p) e
 
--- what is found so stands there
+-- what is found so is there
 at-sound : (es : List (List ℕ)) (q : List ℕ) (o : Option ℕ) (i : ℕ) → option_and_then (at_place es q) o ≡ Some i → (e : List ℕ) × (slice_get es i ≡ Some e) × (q ≡ e)
 at-sound es q None i h = absurd (none-some i h)
 at-sound es q (Some p) i h = by (slice_get es p) refl h
@@ -107,11 +107,11 @@ sound es nb ot q i h = by (option_and_then (at_place es q) (slice_get nb (number
     by None a h = at-sound es q (lookup (bytes_eq q) ot) i h
     by (Some p) a h = at-sound es q (slice_get nb (number_in q)) i (a ∙ h)
 
--- where a name stands, it is found
+-- where a name is, it is found
 stands-found : (es : List (List ℕ)) (q : List ℕ) (i : ℕ) (e : List ℕ) → slice_get es i ≡ Some e → q ≡ e → at_place es q i ≡ Some i
 stands-found es q i e at same = ap (held_at q i) at ∙ ap (λ b. if b then Some i else None) ((bytes_eq-Decides q e).1 same)
 
--- and where another stands, or none, it is not
+-- and where another is, or none, it is not
 other-found : (es : List (List ℕ)) (q : List ℕ) (i : ℕ) (e : List ℕ) → slice_get es i ≡ Some e → q ≢ e → at_place es q i ≡ None
 other-found es q i e at other = ap (held_at q i) at ∙ by (bytes_eq q e) refl
   where

@@ -1,4 +1,4 @@
--- How facts that are kept with numbers of terms stand for facts in scopes.
+-- How facts that are kept with numbers of terms represent facts in scopes.
 use Rattle.std.specs.Prelude.{◌≡◌, ℕ, ◌<◌, Option, Some, None, List, [], ◌∷◌, ◌++◌, map, take, drop, reverse, length, All, find, nat_eq, option_map, bytes_eq}
 use Rattle.std.specs.Map.{lookup}
 use Rattle.eo_term.specs.Tree.{Tree}
@@ -57,7 +57,7 @@ pub record AreBelow (n : ℕ) (k : Kept) : Type 0 where
   pub facts : All (λ (f : NamedId). f.1.0 < n) k.facts
   pub hypotheses : All (λ (b : Begun). b.hypothesis < n) k.begun
 
--- each scope begins within the facts, and the inner ones behind the outer ones
+-- each scope begins within the facts, and the inner ones after the outer ones
 abbrev pub AreBegun : ℕ → List Begun → Type 0
 AreBegun n [] = Unit {0}
 AreBegun n (b ∷ bs) = (b.first < n) × AreBegun b.first bs

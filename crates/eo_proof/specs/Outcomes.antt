@@ -1,4 +1,4 @@
--- What the calls on facts answer.
+-- What the calls on facts return.
 use Rattle.std.specs.Prelude.{◌≡◌, ℕ, ◌<◌, ◌≤◌, true, false, List, Option, Some, None, Result, Ok, Err, ⊤}
 use Rattle.eo_term.specs.Tree.{Tree}
 use Rattle.eo_term.specs.Terms.{tree_at}

@@ -6,7 +6,7 @@ use Rattle.std.specs.Map.{lookup}
 abbrev pub Entry : Type 0
 Entry = List ℕ × ℕ
 
--- the number behind one byte more: a digit is its last one, any other byte ends it
+-- the number after one more byte: a digit is its last one, any other byte ends it
 abbrev pub next_number : ℕ → ℕ → ℕ
 next_number n b = if nat_le 48 b && nat_lt b 58 && nat_lt n 100000000 then n * 10 + (b - 48) else 0
 
@@ -14,7 +14,7 @@ unfoldable pub number_from : ℕ → List ℕ → ℕ
 number_from n [] = n
 number_from n (b ∷ bs) = number_from (next_number n b) bs
 
--- the number that a name ends in, 0 where it ends in none; one of more than nine digits is begun anew behind its tenth
+-- the number that a name ends in, 0 where it ends in none; one of more than nine digits starts again after its tenth
 abbrev pub number_in : List ℕ → ℕ
 number_in name = number_from 0 name
 
@@ -22,7 +22,7 @@ abbrev pub held_at : List ℕ → (place : ℕ) → Option (List ℕ) → Option
 held_at name place None = None
 held_at name place (Some other) = if bytes_eq name other then Some place else None
 
--- the place, where the name stands there
+-- the place, where the name is there
 abbrev pub at_place : List (List ℕ) → List ℕ → (place : ℕ) → Option ℕ
 at_place names name place = held_at name place (slice_get names place)
 
@@ -30,7 +30,7 @@ abbrev pub first_of : Option ℕ → Option ℕ → Option ℕ
 first_of (Some place) other = Some place
 first_of None other = other
 
--- The place of a name: the one that its number leads to, where the name stands there, or else the one that its hash leads to.
+-- The place of a name: the one that its number leads to, where the name is there, or else the one that its hash leads to.
 abbrev pub place_in : List (List ℕ) → (numbered : List ℕ) → (others : List Entry) → List ℕ → Option ℕ
 place_in names numbered others name =
     first_of (option_and_then (at_place names name) (slice_get numbered (number_in name)))

@@ -1,4 +1,4 @@
--- Texts that stand one behind the other.
+-- Texts one after the other in one list of bytes.
 use Rattle.std.specs.Prelude.{◌≡◌, ℕ, ◌≤◌, List, [], ◌∷◌}
 use Rattle.std.specs.List.{slice_range}
 

@@ -25,7 +25,7 @@ pub enum FactRefused {
     Redeclared,
     /// As many scopes are open as may be.
     ScopeDepth,
-    /// Want of memory.
+    /// Out of memory.
     Memory(AllocError),
 }
 
@@ -124,7 +124,7 @@ impl Facts {
     }
 
     /// A law: which names facts have is the same over all lists of trees. The scopes begin within the
-    /// facts, and the inner ones behind the outer ones.
+    /// facts, and the inner ones after the outer ones.
     #[tactic(auto, using(crate::proofs::Reading::same_names))]
     pub fn laws(&self)
         ensures names { (ts us : List Tree) (name : List ℕ) →
@@ -139,7 +139,7 @@ impl Facts {
         ensures finds { (ts : List Tree) → Found ts result (scope.fact_named (scopes ts self.now) name.now) }
         ensures below { (m : ℕ) → AreBelow m self.now → IfOk result (λ i. i < m) }
     {
-        match self.named(name) {
+        match self.id_named(name) {
             Some(id) => Ok(id),
             None => Err(UnknownPremise),
         }
@@ -206,7 +206,7 @@ impl Facts {
     }
 
     // The term with the name.
-    fn named(&self, name: &[u8]) -> Option<Id>
+    fn id_named(&self, name: &[u8]) -> Option<Id>
         ensures { result ≡ term_named self.now.facts name.now }
     {
         self.formulas.get(name)
@@ -266,7 +266,7 @@ impl Facts {
         self.refutation.or(here)
     }
 
-    // Adds a fact to the innermost scope, and answers whether no other has the name.
+    // Adds a fact to the innermost scope, and returns whether no other has the name.
     fn put(&mut self, name: &[u8], id: Id, command: u64) -> Result<bool, AllocError>
         ensures free { IfOk result (λ added. added ≡ not (is_some (lookup (bytes_eq name.now) self.old.facts))) }
         ensures added { IfOk result (λ added. added ≡ true → self.new ≡ with_named self.old (name.now, (id, command))) }

@@ -127,7 +127,7 @@ impl NamedIds {
         self.commands()[place]
     }
 
-    /// Puts a term at the end, by a name that no other has, and answers whether none had it. The error
+    /// Puts a term at the end, by a name that no other has, and returns whether none had it. The error
     /// is out of memory.
     pub(crate) fn add(&mut self, name: &[u8], id: Id, command: u64) -> Result<bool, AllocError>
         ensures added { IfOk result (λ added. added ≡ not (is_some (lookup (bytes_eq name.now) self.old))) }

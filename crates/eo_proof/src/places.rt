@@ -1,4 +1,4 @@
-//! Where the names of a list stand in it.
+//! At which place of a list each of its names is.
 ghost use Rattle.std.specs.Prelude.{◌≡◌, ◌≢◌, ◌<◌, ◌≤◌, ◌+◌, ◌*◌, ◌^◌, ℕ, ◌∷◌, ◌++◌, [], List};
 ghost use Rattle.std.specs.Prelude.{◌↔◌, Some, None, take, IsTrue, IsFalse, OnOk, OnErr, option_and_then, slice_get};
 ghost use Rattle.std.specs.Map.{lookup};
@@ -11,10 +11,10 @@ use indexmap::IndexMap;
 use std::alloc::{AllocError, Global};
 use std::hash::{BuildHasherDefault, DefaultHasher};
 
-/// Where names stand in a list. A solver numbers the names that it gives, `@p1`, `@p2`, .., so a name
-/// is found by the number that it ends in, at the cost of one look at a table that is read in order. A
-/// name whose number another has taken, or is too great, is found by its hash, which is SipHash, since
-/// the proof chooses the names.
+/// At which places of a list names are. A solver numbers the names that it gives, `@p1`, `@p2`, ..,
+/// so a name is found by the number that it ends in, by one look into a table that is read in order. A
+/// name whose number is too great, or was taken by another, is found by its hash, which is SipHash,
+/// since the proof chooses the names.
 #[derive(Drop)]
 pub(crate) struct Places {
     // For each number, the place of a name that ends in it.
@@ -26,7 +26,7 @@ pub(crate) struct Places {
 /// The place that a number leads to where no name ends in it. A list is never so long.
 const NOWHERE: u32 = u32::MAX;
 
-/// The number of at most nine digits that a name ends in, or 0. A longer one is begun anew behind its
+/// The number of at most nine digits that a name ends in, or 0. A longer one starts again after its
 /// tenth digit.
 pub(crate) fn number_in(name: &[u8]) -> usize
     ensures { result ≡ number_in name.now }
@@ -38,7 +38,7 @@ pub(crate) fn number_in(name: &[u8]) -> usize
     number as usize
 }
 
-/// The number behind one byte more.
+/// The number after one byte more.
 #[inline(always)]
 fn next_number(number: u32, b: u8) -> u32
     ensures { result ≡ next_number number b }
@@ -50,7 +50,7 @@ fn next_number(number: u32, b: u8) -> u32
     }
 }
 
-/// The place, where the name stands there.
+/// The place, where the name is there.
 fn at_place(names: &Texts, name: &[u8], place: usize) -> Option<usize>
     ensures { result ≡ at_place names.now name.now place }
 {
@@ -100,7 +100,7 @@ impl Places {
         }
     }
 
-    // The place that a number leads to, where the name stands there.
+    // The place that a number leads to, where the name is there.
     fn by_number(&self, names: &Texts, name: &[u8], number: usize) -> Option<usize>
         ensures { result ≡ option_and_then (at_place names.now name.now) (slice_get self.now.numbered.items number) }
     {
@@ -119,8 +119,8 @@ impl Places {
         at_place(names, name, place)
     }
 
-    /// Keeps the place behind these names, which is that of a name more, which is none of them and ends
-    /// in this number.
+    /// Keeps the place after these names for one more name, which is none of them and ends in this
+    /// number.
     pub(crate) fn add(
         &mut self,
         alloc: Global,

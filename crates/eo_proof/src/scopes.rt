@@ -18,7 +18,7 @@ impl Facts {
     /// Opens a scope with an assumption, which is its first fact and which no command made: its number
     /// is 0.
     ///
-    /// `ScopeDepth`: 1,000 scopes are open. `Redeclared`: a fact has the name. `Memory`: want of
+    /// `ScopeDepth`: 1,000 scopes are open. `Redeclared`: a fact has the name. `Memory`: out of
     /// memory.
     #[tactic(auto, using(crate::proofs::Reading::live_is_named))]
     pub fn push(&mut self, name: &[u8], id: Id) -> Result<(), FactRefused>
@@ -52,7 +52,7 @@ impl Facts {
         Ok(())
     }
 
-    /// Closes the innermost scope with its facts, and answers its assumption.
+    /// Closes the innermost scope with its facts, and returns its assumption.
     ///
     /// `NoScope`: none is open.
     pub fn pop(&mut self) -> Result<Id, NoScope>

@@ -5,7 +5,7 @@ ghost use Rattle.eo_proof.specs.Texts.{last_end};
 use std::alloc::{AllocError, Global};
 use std::marker::Model;
 
-/// Lists of bytes, which stand one behind the other. One costs its bytes, and where it ends.
+/// Lists of bytes, kept one after the other. Each costs its bytes, and the place of its end.
 #[derive(Drop)]
 pub(crate) struct Texts {
     bytes: Vec<u8>,

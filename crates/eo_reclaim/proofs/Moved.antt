@@ -71,7 +71,7 @@ module _ (ts : List Tree) where
   pairs_read [] = refl
   pairs_read (q ∷ qs) = ap (λ xs. tree_at ts q.0 ∷ tree_at ts q.1 ∷ xs) (pairs_read qs)
 
-  -- two lists of terms, one behind the other
+  -- two lists of terms, one after the other
   both_read : (is js : List ℕ) (xs ys : List Tree) → read is ≡ xs → read js ≡ ys → read (is ++ js) ≡ xs ++ ys
   both_read is js xs ys p q = map-append (tree_at ts) is js ∙ (λ i. p i ++ q i)
 

@@ -10,7 +10,7 @@ use eo_sig::SigMark;
 use eo_term::Mark;
 pub use marks::Marks;
 pub use moving::{
-    Handed, move_constant, move_macro, move_program, move_rule, push_constant, push_ids,
+    IdQueue, move_constant, move_macro, move_program, move_rule, push_constant, push_ids,
     push_macro, push_program, push_rule,
 };
 

@@ -16,12 +16,12 @@ use std::marker::Model;
 
 /// Terms that are handed out in order. Its model has those that are left.
 #[derive(Drop)]
-pub struct Handed {
+pub struct IdQueue {
     ids: Vec<Id>,
     next: usize,
 }
 
-impl Model for Handed {
+impl Model for IdQueue {
     ghost use Rattle.std.specs.Prelude.{ℕ, List, drop};
 
     ghost Value = { List ℕ };
@@ -29,12 +29,12 @@ impl Model for Handed {
     ghost view = { λ a. drop a.next a.ids.items };
 }
 
-impl Handed {
+impl IdQueue {
     /// All of these terms are left.
-    pub fn new(ids: Vec<Id>) -> Handed
+    pub fn new(ids: Vec<Id>) -> IdQueue
         ensures { result ≡ ids.items }
     {
-        Handed { ids, next: 0 }
+        IdQueue { ids, next: 0 }
     }
 
     /// The next term.
@@ -184,7 +184,7 @@ fn push_attribute(attribute: Attribute, ids: &mut Vec<Id>) -> Result<(), AllocEr
 // ---- declarations with other terms
 
 /// Gives a constant the next terms.
-pub fn move_constant(alloc: Global, d: &mut ConstDecl, ids: &mut Handed) -> Result<(), AllocError>
+pub fn move_constant(alloc: Global, d: &mut ConstDecl, ids: &mut IdQueue) -> Result<(), AllocError>
     requires { length (constant_ids d.old) ≤ length ids.old }
     ensures { OnOk result (IsMoved constant_ids blank_constant d.old ids.old d.new ids.new) }
 {
@@ -195,7 +195,7 @@ pub fn move_constant(alloc: Global, d: &mut ConstDecl, ids: &mut Handed) -> Resu
 }
 
 /// Gives a macro the next terms.
-pub fn move_macro(alloc: Global, d: &mut MacroDecl, ids: &mut Handed) -> Result<(), AllocError>
+pub fn move_macro(alloc: Global, d: &mut MacroDecl, ids: &mut IdQueue) -> Result<(), AllocError>
     requires { length (macro_ids d.old) ≤ length ids.old }
     ensures { OnOk result (IsMoved macro_ids blank_macro d.old ids.old d.new ids.new) }
 {
@@ -204,7 +204,7 @@ pub fn move_macro(alloc: Global, d: &mut MacroDecl, ids: &mut Handed) -> Result<
     Ok(())
 }
 
-fn moved_params(alloc: Global, params: &Params, ids: &mut Handed) -> Result<Params, AllocError>
+fn moved_params(alloc: Global, params: &Params, ids: &mut IdQueue) -> Result<Params, AllocError>
     requires { length (param_ids params.now) ≤ length ids.old }
     ensures { IfOk result (λ ps. IsMoved param_ids blank_params params.now ids.old ps ids.new) }
 {
@@ -216,7 +216,7 @@ fn moved_params(alloc: Global, params: &Params, ids: &mut Handed) -> Result<Para
     Ok(moved)
 }
 
-fn moved_param(alloc: Global, p: &Param, ids: &mut Handed) -> Result<Param, AllocError>
+fn moved_param(alloc: Global, p: &Param, ids: &mut IdQueue) -> Result<Param, AllocError>
     requires { 0 < length ids.old }
     ensures { IfOk result (λ q. IsMoved param_id blank_param p.now ids.old q ids.new) }
 {
@@ -229,7 +229,7 @@ fn moved_param(alloc: Global, p: &Param, ids: &mut Handed) -> Result<Param, Allo
     })
 }
 
-fn moved_attribute(attribute: Attribute, ids: &mut Handed) -> Attribute
+fn moved_attribute(attribute: Attribute, ids: &mut IdQueue) -> Attribute
     requires { length (attribute_ids attribute) ≤ length ids.old }
     ensures { IsMoved attribute_ids blank_attribute attribute ids.old result ids.new }
 {
@@ -241,7 +241,7 @@ fn moved_attribute(attribute: Attribute, ids: &mut Handed) -> Attribute
 }
 
 /// Gives a program the next terms.
-pub fn move_program(alloc: Global, d: &mut ProgramDecl, ids: &mut Handed) -> Result<(), AllocError>
+pub fn move_program(alloc: Global, d: &mut ProgramDecl, ids: &mut IdQueue) -> Result<(), AllocError>
     requires { length (program_ids d.old) ≤ length ids.old }
     ensures { OnOk result (IsMoved program_ids blank_program d.old ids.old d.new ids.new) }
 {
@@ -253,7 +253,7 @@ pub fn move_program(alloc: Global, d: &mut ProgramDecl, ids: &mut Handed) -> Res
 }
 
 /// Gives a rule the next terms.
-pub fn move_rule(alloc: Global, d: &mut RuleDecl, ids: &mut Handed) -> Result<(), AllocError>
+pub fn move_rule(alloc: Global, d: &mut RuleDecl, ids: &mut IdQueue) -> Result<(), AllocError>
     requires { length (rule_ids d.old) ≤ length ids.old }
     ensures { OnOk result (IsMoved rule_ids blank_rule d.old ids.old d.new ids.new) }
 {
@@ -266,7 +266,7 @@ pub fn move_rule(alloc: Global, d: &mut RuleDecl, ids: &mut Handed) -> Result<()
     Ok(())
 }
 
-fn moved_ids(alloc: Global, old: &Ids, ids: &mut Handed) -> Result<Ids, AllocError>
+fn moved_ids(alloc: Global, old: &Ids, ids: &mut IdQueue) -> Result<Ids, AllocError>
     requires { length old.now ≤ length ids.old }
     ensures { IfOk result (λ is. IsMoved (λ is. is) blank_ids old.now ids.old is ids.new) }
 {
@@ -278,7 +278,7 @@ fn moved_ids(alloc: Global, old: &Ids, ids: &mut Handed) -> Result<Ids, AllocErr
     Ok(moved)
 }
 
-fn moved_option(old: Option<Id>, ids: &mut Handed) -> Option<Id>
+fn moved_option(old: Option<Id>, ids: &mut IdQueue) -> Option<Id>
     requires { length (option_to_list old) ≤ length ids.old }
     ensures { IsMoved option_to_list blank_option old ids.old result ids.new }
 {
@@ -288,7 +288,7 @@ fn moved_option(old: Option<Id>, ids: &mut Handed) -> Option<Id>
     }
 }
 
-fn moved_cases(alloc: Global, cases: &Cases, ids: &mut Handed) -> Result<Cases, AllocError>
+fn moved_cases(alloc: Global, cases: &Cases, ids: &mut IdQueue) -> Result<Cases, AllocError>
     requires { length (flat_map case_ids cases.now) ≤ length ids.old }
     ensures { IfOk result (λ ks. IsMoved (flat_map case_ids) (map blank_case) cases.now ids.old ks ids.new) }
 {
@@ -300,7 +300,7 @@ fn moved_cases(alloc: Global, cases: &Cases, ids: &mut Handed) -> Result<Cases, 
     Ok(moved)
 }
 
-fn moved_case(alloc: Global, case: &Case, ids: &mut Handed) -> Result<Case, AllocError>
+fn moved_case(alloc: Global, case: &Case, ids: &mut IdQueue) -> Result<Case, AllocError>
     requires { length (case_ids case.now) ≤ length ids.old }
     ensures { IfOk result (λ k. IsMoved case_ids blank_case case.now ids.old k ids.new) }
 {
@@ -312,7 +312,7 @@ fn moved_case(alloc: Global, case: &Case, ids: &mut Handed) -> Result<Case, Allo
 fn moved_premises(
     alloc: Global,
     premises: &PremiseShape,
-    ids: &mut Handed,
+    ids: &mut IdQueue,
 ) -> Result<PremiseShape, AllocError>
     requires { length (premise_ids premises.now) ≤ length ids.old }
     ensures { IfOk result (λ p. IsMoved premise_ids blank_premises premises.now ids.old p ids.new) }
@@ -329,7 +329,7 @@ fn moved_premises(
     }
 }
 
-fn moved_pairs(alloc: Global, pairs: &IdPairs, ids: &mut Handed) -> Result<IdPairs, AllocError>
+fn moved_pairs(alloc: Global, pairs: &IdPairs, ids: &mut IdQueue) -> Result<IdPairs, AllocError>
     requires { length (flat_map pair_ids pairs.now) ≤ length ids.old }
     ensures { IfOk result (λ qs. IsMoved (flat_map pair_ids) (map blank_pair) pairs.now ids.old qs ids.new) }
 {

@@ -5,8 +5,8 @@ use Rattle.eo_sexp.specs.Sexp.{Sexp}
 use Rattle.eo_shape.specs.Shapes.{Command, Assert, Exit, Skip, command_of}
 use Rattle.eo_sig.specs.Signature.{Signature, Macro}
 use Rattle.eo_term.specs.Tree.{Tree}
-use Rattle.eo_names.specs.Contexts.{Context, Setting, InReference, InAssert}
-use Rattle.eo_names.specs.Readers.{Label}
+use Rattle.eo_names.specs.Contexts.{Context, FileKind, InReference, InAssert, Several}
+use Rattle.eo_names.specs.Readers.{NamedTerm}
 use Rattle.eo_elab.specs.Meaning.{means}
 use Rattle.eo_declare.specs.Declarations.{Declaration, reference_declaration}
 use Rattle.eo_declare.specs.Declaring.{or_bad}
@@ -14,13 +14,13 @@ use Rattle.eo_declare.specs.Declaring.{or_bad}
 pub data ReferenceNext : Type 0 where
   Declares : (declaration : Declaration) → ReferenceNext
   -- a formula as it is written, and the names that its terms give themselves
-  Asserts : (formula : Tree) (names : List Label) → ReferenceNext
+  Asserts : (formula : Tree) (names : List NamedTerm) → ReferenceNext
   Skips : ReferenceNext
   Exits : ReferenceNext
 
 module _ (S : Signature) (macros : List Macro) where
-  abbrev pub names_in : Setting → Context
-  names_in setting = record { signature = S; macros = macros; setting = setting }
+  abbrev pub names_in : FileKind → Context
+  names_in file_kind = record { signature = S; macros = macros; file_kind = file_kind; naming = Several }
 
   abbrev pub asserted : Sexp → Checked ReferenceNext
   asserted s = do

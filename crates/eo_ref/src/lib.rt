@@ -1,13 +1,25 @@
 //! The commands of reference files, and what they assert.
 #![tactic(auto)]
 
+mod asserting;
 mod reference;
 
+pub use asserting::read_assertion;
 use eo_elab::{ElabRefused, Names};
 use eo_sig::Declaration;
 use eo_term::Id;
 pub use reference::Reference;
 use std::alloc::AllocError;
+
+/// What an `assert` asserts.
+#[derive(Drop)]
+pub struct Assertion {
+    /// The formula, as it is written.
+    pub formula: Id,
+    /// The names that terms of the formula give themselves, in order. They are macros once the
+    /// command is accepted.
+    pub names: Names,
+}
 
 /// What a command of a reference file says.
 #[derive(Drop)]
@@ -33,7 +45,7 @@ pub enum RefNext {
 pub enum RefRefused {
     /// There is no such command in a reference file.
     UnknownCommand,
-    /// The command has a wrong shape, or what it declares or asserts has no meaning; or want of
+    /// The command has a wrong shape, or what it declares or asserts has no meaning; or out of
     /// memory.
     Elab(ElabRefused),
 }

@@ -7,9 +7,9 @@ ghost use Rattle.eo_elab.specs.Worlds.{context_in};
 ghost use Rattle.eo_ref.specs.Answers.{command_in, next_in, asserted_in, declares_in, GivesNext, MayFollow};
 ghost use Rattle.eo_ref.specs.Ids.{has_id, with_id};
 
-use crate::{RefNext, RefRefused};
+use crate::{Assertion, RefNext, RefRefused, read_assertion};
 use eo_declare::reference_declaration;
-use eo_elab::{ElabRefused, Locals, Names, reference_term};
+use eo_elab::ElabRefused;
 use eo_sexp::Sexp;
 use eo_shape::{Command, ShapeRefused, command_of};
 use eo_sig::Signature;
@@ -46,7 +46,7 @@ impl Reference {
     }
 
     /// What a command of a reference file says (SMT-LIB 2.6, section 4.2 "Commands"). A formula is
-    /// told as it is written, and neither evaluated nor asserted yet; nothing is declared yet.
+    /// returned as it is written, and neither evaluated nor asserted yet; nothing is declared yet.
     ///
     /// A refusal is the first fault, in this order:
     ///
@@ -54,7 +54,7 @@ impl Reference {
     ///   such command in a reference file.
     /// - `Elab(BadCommand)`: it is no such list, or the command has a wrong shape.
     /// - `Elab` of the first fault of the declaration, as [`reference_declaration`] has it, or of
-    ///   the formula, as [`reference_term`] has it.
+    ///   the formula, as [`read_assertion`] has it.
     /// - `Elab(Memory)`: out of memory.
     ///
     /// The terms that the signature holds are terms of the table. All of these stay; a refused call
@@ -92,15 +92,15 @@ impl Reference {
         ensures grows { GrowsUnder sig.now table.old table.new }
     {
         match command {
-            Command::Assert { formula } => self.asserted(formula, sig, table),
+            Command::Assert { formula } => self.assertion_of(formula, sig, table),
             Command::Exit => Ok(RefNext::Exit),
             Command::Skip => Ok(RefNext::Skip),
-            _ => self.declared(command, sig, table),
+            _ => self.declaration_of(command, sig, table),
         }
     }
 
     // A formula, and the names that its terms give themselves.
-    fn asserted(
+    fn assertion_of(
         &self,
         s: &Sexp<'_>,
         sig: &Signature,
@@ -112,15 +112,13 @@ impl Reference {
         ensures refused { OnErr result (table.new ≡ table.old) }
         ensures grows { GrowsUnder sig.now table.old table.new }
     {
-        sig.laws();
-        let none = Locals::new(self.alloc);
-        let mut names = Names::new(self.alloc);
-        let formula = reference_term(self.alloc, s, &none, sig, table, true, &mut names)?;
+        let read = read_assertion(self.alloc, s, sig, table)?;
+        let Assertion { formula, names } = read;
         Ok(RefNext::Assert { formula, names })
     }
 
     // What a command declares.
-    fn declared(
+    fn declaration_of(
         &self,
         command: &Command<'_>,
         sig: &Signature,

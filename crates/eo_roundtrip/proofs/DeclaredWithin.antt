@@ -13,9 +13,9 @@ use Rattle.eo_names.specs.Contexts.{Context, Local}
 use Rattle.eo_elab.specs.Meaning.{meaning}
 use Rattle.eo_sexp.specs.Sexp.{Sexp}
 use Rattle.eo_shape.specs.Shapes.{ParameterShape, AttributeShape, NoAttribute, RightNilShape, LeftNilShape, RightShape, LeftShape, ChainShape, PairsShape, BinderShape, CaseShape, ProgramShape}
-use Rattle.eo_sig.specs.Signature.{IsConstant, IsProgram, Attribute, Plain, RightNil, LeftNil, Right, Left, Chain, Pairs, Binder, Parameter, Constant, Macro, Program, Case}
+use Rattle.eo_sig.specs.Signature.{IsProgram, Attribute, Plain, RightNil, LeftNil, Right, Left, Chain, Pairs, Binder, Parameter, Constant, Macro, Program, Case}
 use Rattle.eo_term.specs.Tree.{Tree, Qar, type_tree, is_tall}
-use Rattle.eo_roundtrip.proofs.Within.{is_within, attribute_within, entry_within}
+use Rattle.eo_roundtrip.proofs.Within.{is_within, attribute_within, constant_within, entry_within}
 use Rattle.eo_roundtrip.proofs.Ranges.{IsWithin, AreWithin}
 use Rattle.eo_roundtrip.proofs.SymbolsWithin.{HoldsWithin, LocalsWithin}
 use Rattle.eo_roundtrip.proofs.MeaningWithin.{meaning-within}
@@ -110,7 +110,7 @@ module _ (c : Context) (fits : HoldsWithin c) where
   -- ---- constants
 
   abbrev ConstantWithin : Constant → Type 0
-  ConstantWithin d = entry_within (IsConstant d) ≡ true
+  ConstantWithin d = constant_within d ≡ true
 
   plain-within : (name : List ℕ) (type : Tree) (a : Attribute) (d : Constant) → IsWithin type → attribute_within a ≡ true → plain_constant c name type a ≡ Ok d → ConstantWithin d
   plain-within name type a d h k e = subst ConstantWithin (ok_injective (constant c name [] type a) d (bind_ok _ _ d e).2) (join h k)

@@ -15,7 +15,7 @@ use Rattle.eo_pattern.specs.Matching.{Assignment, empty, put, matching}
 use Rattle.eo_ops.specs.Operators.{OpAnswer, Gives, IsStuck, IsOutOfRange, tree_op_value}
 use Rattle.eo_lists.specs.Lists.{list_value}
 use Rattle.eo_type.specs.Types.{TypeOutcome, Typed, Untyped, TypeRange, TypeTall, chosen, value_type}
-use Rattle.eo_stack.specs.Evaluation.{Outcome, Value, Stuck, Deep, Calls, Range, Tall, Call, Eval, ends, on_outcome, on_value, or_none, node, are_equal, type_value, answer_value, value_or, operator_value, eval_with, eval_all_with, begin, first_match, on_body, body_of, call_within, eval, eval0}
+use Rattle.eo_stack.specs.Evaluation.{Outcome, Value, Stuck, Deep, Calls, Range, Tall, Call, Eval, ends, on_outcome, on_value, or_none, node, are_equal, typed_outcome, answer_value, value_or, operator_value, eval_with, eval_all_with, begin, first_match, on_body, body_of, call_within, eval, eval0}
 use Rattle.eo_eval.proofs.Yields.{Yields, ends_yields, none_yields, bind_yields, body_yields}
 use Rattle.eo_roundtrip.proofs.Within.{is_within, all_within, is_fit, signature_within}
 use Rattle.eo_roundtrip.proofs.Ranges.{IsWithin, AreWithin, GivesWithin, operators-within}
@@ -93,7 +93,7 @@ outcome-fits Calls h = none_yields IsFit Calls refl
 outcome-fits Range h = none_yields IsFit Range refl
 outcome-fits Tall h = none_yields IsFit Tall refl
 
-type-values : (o : TypeOutcome Tree) → Holds IsWithin o → OutcomeWithin (type_value o)
+type-values : (o : TypeOutcome Tree) → Holds IsWithin o → OutcomeWithin (typed_outcome o)
 type-values (Typed t) h = h
 type-values Untyped h = tt
 type-values TypeRange h = tt

@@ -23,7 +23,7 @@ none-listed : (t : Tree) → is_list [] t ≡ false
 none-listed (Par i) = refl
 none-listed t = refl
 
--- items of which none stands for a list are spelled
+-- items of which none represents a list are spelled
 right_nil-spells : (f n a : Tree) (args : List Tree) → right_nil (is_list []) f n (a ∷ args) ≡ spell f n (a ∷ args)
 right_nil-spells f n a [] = ap (λ b. last_onto b f a n) (none-listed a)
 right_nil-spells f n a (b ∷ args) = ap (λ l. list_onto l f a (right_nil (is_list []) f n (b ∷ args))) (none-listed a) ∙ ap (link f a) (right_nil-spells f n b args)

@@ -22,15 +22,16 @@ use Rattle.eo_lists.proofs.Spell.{spell-spelled}
 use Rattle.eo_sexp.specs.AtomKind as kind
 use Rattle.eo_sexp.specs.Sexp.{Sexp, sexps_of}
 use Rattle.eo_sexp.specs.Printing.{placed_others}
-use Rattle.eo_sig.specs.Signature.{Signature, Macro, constant_named, terminator, Attribute, Plain, RightNil, LeftNil, Right, Left, Chain, Pairs, Binder, NamesConstant, NamesMacro, NamesProgram, lookup, macro_named, program_named}
+use Rattle.eo_sig.specs.Signature.{Signature, Macro, constant_named, terminator, Attribute, Plain, RightNil, LeftNil, Right, Left, Chain, Pairs, Binder, NamesConstant, NamesMacro, NamesProgram, lookup, macro_named, program_named, lookup_count, other_named}
 use Rattle.eo_names.specs.Contexts.{Context, InProof, is_list}
-use Rattle.eo_names.specs.Meanings.{ATree, meant, operator_meant, local_meant, global_meant, Name, word_of}
-use Rattle.eo_names.specs.Readers.{with_labels}
+use Rattle.eo_names.specs.Meanings.{ATree, meant, operator_meant, local_meant, global_meant, Name, word_of, meant_before}
+use Rattle.eo_names.specs.Readers.{with_named_terms}
 use Rattle.eo_names.specs.Folding.{applied, attribute_at, folded, arrow, plainly, least}
 use Rattle.eo_elab.specs.Meaning.{literal_tree, atom as atom_meaning, word_alone, means, where_many, count, Uses, AnApplication, word_form, meant_use}
-use Rattle.eo_show.specs.Forms.{atom, symbol, name_of, attribute_of, takes, Form, Folded, Plainly, Function, Variable, most_arguments, head_of, arguments_of, joins_plainly, list_of, is_short_list, by_head, chain, list_or, form, parts, with_parts}
+use Rattle.eo_show.specs.Forms.{atom, symbol, name_of, attribute_of, counted, takes, Form, Folded, Plainly, Function, Variable, most_arguments, head_of, arguments_of, joins_plainly, list_of, is_short_list, by_head, chain, list_or, form, parts, with_parts}
 pub use Rattle.eo_roundtrip.specs.Shown.{HasName, HaveNames}
 use Rattle.eo_show.proofs.FormFacts.{is_this-is, list_of-is, IsSpelled}
+use Rattle.eo_show.proofs.Ranges.{named-range, counted-range}
 use Rattle.eo_roundtrip.proofs.Stands.{Stands, AllStand, value-stands, arr-stands, var-stands, applied-stands, spell-stands}
 use Rattle.eo_roundtrip.proofs.Uses.{context_of, Reads, all-read, count-placed, list-reads}
 use Rattle.eo_roundtrip.proofs.Folds.{IsFolded, stand-length, constant-use, list-made, plain-made, terminator-attribute}
@@ -44,17 +45,23 @@ module _ (S : Signature) (macros : List Macro) where
   pub symbol-reads : (name : List ℕ) (m t : Tree) → word_of InProof name ≡ Name → meant c [] name ≡ ATree m → Stands S m t → Reads S macros (symbol name) t
   unfolding means atom_meaning
   symbol-reads name m t e f s =
-      record { tree = m; stands = s; is = λ at labels. ap (λ w. with_labels labels (word_alone w (meant c [] name))) e ∙ ap (λ n. with_labels labels (word_alone Name n)) f }
+      record { tree = m; stands = s; is = λ at named_terms. ap (λ w. with_named_terms named_terms (word_alone w (meant c [] name))) e ∙ ap (λ n. with_named_terms named_terms (word_alone Name n)) f }
 
   pub constant-meant : (name : List ℕ) (k : ℕ) → operator_named name ≡ None → constant_named S name ≡ Some k → meant c [] name ≡ ATree (Con k)
   constant-meant name k e f =
       ap (λ o. operator_meant c o (local_meant c None (lookup S macros name))) e
       ∙ ap (λ o. global_meant c (option_or (option_map NamesConstant o) (option_or (option_map NamesMacro (macro_named macros name)) (option_map NamesProgram (program_named S name))))) f
 
+  -- as the head of so many arguments
+  constant-before : (name : List ℕ) (n k : ℕ) → operator_named name ≡ None → counted S name n ≡ Some k → meant_before c n [] name ≡ ATree (Con k)
+  constant-before name n k e f =
+      ap (λ o. operator_meant c o (local_meant c None (lookup_count S macros name n))) e
+      ∙ ap (λ o. global_meant c (option_or (option_map NamesConstant o) (other_named S macros name))) f
+
   literal-reads : (text : List ℕ) (l : _) → literal_value text ≡ Some l → is_value (literal_tree l) ≡ true → height (literal_tree l) ≤ height_limit → Reads S macros (atom kind.Literal text) (literal_tree l)
   unfolding means atom_meaning value_or
   literal-reads text l e v h =
-      record { tree = literal_tree l; stands = value-stands S (literal_tree l) v h; is = λ at labels. rw e refl }
+      record { tree = literal_tree l; stands = value-stands S (literal_tree l) v h; is = λ at named_terms. rw e refl }
 
   number-reads : (z : ℤ) → FitsSigned w128 z → Reads S macros (atom kind.Literal (literal_spelling (Number z))) (Num z)
   unfolding literal_spelling
@@ -67,7 +74,7 @@ module _ (S : Signature) (macros : List Macro) where
   string-reads : (s : List ℕ) → AreCharacters s → Reads S macros (atom kind.String (string_spelling s)) (Str s)
   unfolding means atom_meaning value_or
   string-reads s all =
-      record { tree = Str s; stands = value-stands S (Str s) refl (omega arith); is = λ at labels. rw (string_reads_back s all) refl }
+      record { tree = Str s; stands = value-stands S (Str s) refl (omega arith); is = λ at named_terms. rw (string_reads_back s all) refl }
 
   -- ---- heads
 
@@ -92,24 +99,25 @@ module _ (S : Signature) (macros : List Macro) where
   abbrev PartsRead : (Tree → Sexp) → Form → Type 0
   PartsRead part f = All (λ p. Reads S macros (part p) p) (parts S f)
 
-  name-form : (k : ℕ) (a : Attribute) (ss : List Sexp) → HasName (name_of S k) → constant_named S (name_of S k) ≡ Some k → attribute_at S k ≡ a → IsFolded a → least a ≤ length ss → (at : ℕ) →
-      word_form c [] (placed_others at (sexps_of ss)) (word_of InProof (name_of S k)) (meant c [] (name_of S k)) ≡ AnApplication (Uses (folded S (is_list []) k))
+  name-form : (k : ℕ) (a : Attribute) (ss : List Sexp) → HasName (name_of S k) → counted S (name_of S k) (length ss) ≡ Some k → attribute_at S k ≡ a → IsFolded a → least a ≤ length ss → (at : ℕ) →
+      word_form c [] (placed_others at (sexps_of ss)) (word_of InProof (name_of S k)) (meant_before c (count (placed_others at (sexps_of ss))) [] (name_of S k)) ≡ AnApplication (Uses (folded S (is_list []) k))
   name-form k a ss named first e folds enough at =
-      ap (λ w. word_form c [] (placed_others at (sexps_of ss)) w (meant c [] (name_of S k))) named.0
-      ∙ ap (λ m. AnApplication (meant_use c [] (placed_others at (sexps_of ss)) m)) (constant-meant (name_of S k) k named.1 first)
+      ap (λ w. word_form c [] (placed_others at (sexps_of ss)) w (meant_before c (count (placed_others at (sexps_of ss))) [] (name_of S k))) named.0
+      ∙ ap (λ m. AnApplication (meant_use c [] (placed_others at (sexps_of ss)) m)) (ap (λ n. meant_before c n [] (name_of S k)) (count-placed S macros at ss) ∙ constant-before (name_of S k) (length ss) k named.1 first)
       ∙ ap AnApplication (constant-use S macros k a ss e folds enough at)
 
   -- a list by its items
   short-list : (part : Tree → Sexp) (k : ℕ) (n : Tree) (items : List Tree) → HaveNames S → takes S k (length items) ≡ true → terminator S k ≡ Some n → 1 ≤ length items →
       is_value (spell (Con k) n items) ≡ true → height (spell (Con k) n items) ≤ height_limit → PartsRead part (Folded k items) → Reads S macros (with_parts S part (Folded k items)) (spell (Con k) n items)
   short-list part k n items names takes_it ends some v low read =
-      let first = is_this-is S k (constant_named S (name_of S k)) takes_it in
+      let found = is_this-is S k (counted S (name_of S k) (length items)) takes_it in
+      let first = subst (λ (n : ℕ). counted S (name_of S k) n ≡ Some k) (sym (length-map items part)) found in
       let e = terminator-attribute S macros k n ends in
       let all = all-read S macros part items read in
       let end = spell-end (Con k) n items v in
       let count_is = stand-length S macros all.trees items all.stand in
       list-reads S macros (name_of S k) (map part items) items (folded S (is_list []) k) (spell (Con k) n items) all (spell (Con k) n all.trees) (omega (arith, length-map items part))
-      (name-form k (RightNil n) (map part items) (names k first) first e tt (omega (arith, length-map items part)))
+      (name-form k (RightNil n) (map part items) (names k (counted-range S (name_of S k) (length items) k found)) first e tt (omega (arith, length-map items part)))
       (list-made S macros k n all.trees e (omega arith))
       (spell-stands S (Con k) n all.trees items (value-stands S (Con k) refl (omega arith)) (value-stands S n end.0 (omega (arith, end.1))) all.stand low)
       low
@@ -142,12 +150,13 @@ module _ (S : Signature) (macros : List Macro) where
   plain-arguments : (part : Tree → Sexp) (k : ℕ) (args : List Tree) → HaveNames S → takes S k (length args) ≡ true → joins_plainly (attribute_of S k) (length args) ≡ true → 1 ≤ length args →
       height (applied (Con k) args) ≤ height_limit → PartsRead part (Folded k args) → Reads S macros (with_parts S part (Folded k args)) (applied (Con k) args)
   plain-arguments part k args names takes_it joins some low read =
-      let first = is_this-is S k (constant_named S (name_of S k)) takes_it in
+      let found = is_this-is S k (counted S (name_of S k) (length args)) takes_it in
+      let first = subst (λ (n : ℕ). counted S (name_of S k) n ≡ Some k) (sym (length-map args part)) found in
       let all = all-read S macros part args read in
       let count_is = stand-length S macros all.trees args all.stand in
       let a = attribute_at S k in
       list-reads S macros (name_of S k) (map part args) args (folded S (is_list []) k) (applied (Con k) args) all (applied (Con k) all.trees) (omega (arith, length-map args part))
-      (name-form k a (map part args) (names k first) first refl (folds-plainly a (length args) joins) (subst (λ (n : ℕ). least a ≤ n) (sym (length-map args part)) (enough-plainly a (length args) some joins)))
+      (name-form k a (map part args) (names k (counted-range S (name_of S k) (length args) k found)) first refl (folds-plainly a (length args) joins) (subst (λ (n : ℕ). least a ≤ n) (sym (length-map args part)) (enough-plainly a (length args) some joins)))
       (plain-made S macros k a all.trees refl (omega arith) (subst (λ (n : ℕ). joins_plainly a n ≡ true) (sym count_is) joins))
       (applied-stands S (Con k) (Con k) all.trees args (value-stands S (Con k) refl (omega arith)) all.stand low)
       low
@@ -243,7 +252,7 @@ module _ (S : Signature) (macros : List Macro) where
   -- A value means itself as it is written, where each part of it does as it is written.
   pub layer-reads : (part : Tree → Sexp) (t : Tree) → HaveNames S → is_value t ≡ true → height t ≤ height_limit → IsSpelled S t → PartsRead part (form S t) → Reads S macros (with_parts S part (form S t)) t
   unfolding form
-  layer-reads part (Con k) names v low spelled read = symbol-reads (name_of S k) (Con k) (Con k) (names k spelled).0 (constant-meant (name_of S k) k (names k spelled).1 spelled) (value-stands S (Con k) refl low)
+  layer-reads part (Con k) names v low spelled read = symbol-reads (name_of S k) (Con k) (Con k) (names k (named-range S (name_of S k) k spelled)).0 (constant-meant (name_of S k) k (names k (named-range S (name_of S k) k spelled)).1 spelled) (value-stands S (Con k) refl low)
   layer-reads part (Num z) names v low spelled read = number-reads z spelled
   layer-reads part (Bits w x) names v low spelled read = bits-read w x spelled.0 spelled.1 spelled.2
   layer-reads part (Str s) names v low spelled read = string-reads s spelled

@@ -1,4 +1,4 @@
--- What a free name stands for once a line has defined it.
+-- What a free name means once a line has defined it.
 use Rattle.std.specs.Prelude.{◌≡◌, refl, ℕ, suc, ◌+◌, ◌<◌, ◌≤◌, Bool, true, false, not, ◌||◌, nat_eq, nat_lt, List, [], ◌∷◌, ◌++◌, length, cond, Option, Some, None, option_map, position, slice_get, bytes_eq, codes}
 use Rattle.std.specs.List.{list_any, starts_with, position_or_len}
 use Rattle.std.specs.Option.{option_or}

@@ -1,22 +1,22 @@
 -- Each command leaves the constants with names that can be read and printed.
-use Rattle.std.specs.Prelude.{◌≡◌, ℕ, suc, Bool, true, false, not, ◌||◌, if◌then◌else◌, List, [], ◌∷◌, ◌++◌, length, slice_get, Some, None, Ok, refl, ◌<◌}
+use Rattle.std.specs.Prelude.{◌≡◌, ℕ, suc, Bool, true, false, not, if◌then◌else◌, List, [], ◌∷◌, ◌++◌, length, slice_get, Some, None, Ok, refl, ◌<◌}
 use Rattle.std.specs.Option.{option_map_or}
-use Rattle.std.proofs.Common.{◌∙◌, sym, ap, subst, true≢false, arith}
+use Rattle.std.proofs.Common.{◌∙◌, sym, ap, subst, arith}
 use Rattle.eo_base.proofs.Tests.{both}
 use Rattle.eo_base.proofs.ChecksLemmas.{ok_injective, bind_ok, require_then}
 use Rattle.eo_base.specs.Checks.{Checked, ◌>>=◌, no_fault}
-use Rattle.eo_declare.specs.Declarations.{declared_const, declared_fun, declared_sort, declared_parameterized, declared_literals, defined, defined_fun, defined_sort, declared_program, declared_rule, is_reference_name, is_free_or_reference, is_free_name, plain_constant, few, bind, unbound, not_tall, bound_type, attribute, function_type, meanings, sort_type, constant}
+use Rattle.eo_declare.specs.Declarations.{declared_const, declared_fun, declared_sort, declared_parameterized, declared_literals, defined, defined_fun, defined_sort, declared_program, declared_rule, is_reference_name, plain_constant, few, bind, unbound, not_tall, bound_type, attribute, function_type, meanings, sort_type, constant, may_be_constant}
 use Rattle.eo_lit.specs.declared.LiteralClass.{LiteralClass}
 use Rattle.eo_session.specs.Origin.{Origin}
-use Rattle.eo_names.specs.Contexts.{Context, InReference}
-use Rattle.eo_names.specs.Readers.{Label}
+use Rattle.eo_names.specs.Contexts.{Context, InReference, Several}
+use Rattle.eo_names.specs.Readers.{NamedTerm}
 use Rattle.eo_elab.specs.Meaning.{meaning}
 use Rattle.eo_session.specs.State.{State, context, context_in, with_entry, with_macro, with_assertion, with_fact, with_scope, without_scope, is_asserted}
-use Rattle.eo_session.specs.Step.{setting_of, added_constant, type_value, typed_constant, checked_constant, checked_literals, added_macro, define, define_fun, define_sort, define_program, declare_rule, formula_of, formula, with_labels, assume, assume_push, assert, concluded, with_conclusion, step_plain, step_pop}
+use Rattle.eo_session.specs.Step.{file_kind_of, added_constant, type_value, typed_constant, checked_constant, checked_literals, added_macro, define, define_fun, define_sort, define_program, declare_rule, formula_of, formula, with_named_terms, assume, assume_push, assert, concluded, with_conclusion, step_plain, step_pop, repeats_constant, named_apart, apart_constant}
 use Rattle.eo_session.specs.Commands.{by_command}
 use Rattle.eo_sexp.specs.Sexp.{Sexp}
 use Rattle.eo_shape.specs.Shapes.{ParameterShape, AttributeShape, ProgramShape, RuleShape, StepShape, Command, DeclareConst, DeclareFun, DeclareSort, DeclareParameterized, DeclareLiterals, Define, DefineProgram, DeclareRule, Assume, AssumePush, Step, StepPop, Include, Refer, DefineFun, DefineSort, Assert, Exit, Skip}
-use Rattle.eo_sig.specs.Signature.{Signature, SignatureEntry, IsConstant, IsProgram, IsRule, IsLiteralType, Constant, Macro, Attribute, Plain, is_free, is_reserved, constant_fault, literal_type_fault, constants, constant_at, constant_named, first_signature}
+use Rattle.eo_sig.specs.Signature.{Signature, SignatureEntry, IsConstant, IsProgram, IsRule, IsLiteralType, Constant, Macro, Attribute, Plain, is_reserved, constant_fault, literal_type_fault, constants, constant_at, first_signature, counts_of, may_name_constant}
 use Rattle.eo_term.specs.Tree.{Tree}
 use Rattle.eo_show.specs.Forms.{name_of}
 use Rattle.eo_show.specs.Printable.{IsPrintedName, ArePrintedNames}
@@ -30,9 +30,7 @@ use Rattle.eo_base.specs.Limits.{limits}
 use Rattle.eo_sexp.specs.Lexicon.{is_quotable, is_text, is_space, is_word, kind_of, begins_digit}
 use Rattle.eo_sexp.specs.Printing.{printed_atom}
 use Rattle.eo_term.specs.Operators.{operator_named}
-use Rattle.std.specs.Prelude.{zero, cond, nat_lt, bytes_eq}
-use Rattle.std.specs.List.{position_or_len}
-use Rattle.std.proofs.lemmas.Bool.{ltb-true}
+use Rattle.std.specs.Prelude.{zero}
 use Rattle.std.proofs.lemmas.Option.{same_Some}
 use Rattle.eo_roundtrip.proofs.LineNames.{has-name}
 
@@ -42,7 +40,7 @@ abbrev pub IsGoodName : List ℕ → Type 0
 IsGoodName name = HasName name × IsPrintedName name
 
 abbrev pub EntryNamed : SignatureEntry → Type 0
-EntryNamed (IsConstant d) = IsGoodName d.name
+EntryNamed (IsConstant d n) = IsGoodName d.name
 EntryNamed (IsProgram p) = Unit {0}
 EntryNamed (IsRule r) = Unit {0}
 EntryNamed (IsLiteralType l t) = Unit {0}
@@ -57,9 +55,10 @@ named-push (d ∷ S) e h n = (h.0, named-push S e h.1 n)
 
 pub record NamesKept (st new : State) : Type 0 where
   pub names : AreNamed st.signature → AreNamed new.signature
+  pub several : st.naming ≡ Several → new.naming ≡ Several
 
 same : (st : State) → NamesKept st st
-same st = record { names = λ h. h }
+same st = record { names = λ h. h; several = λ n. n }
 
 quiet_then : (st mid new : State) → NamesKept st mid → ◌≡◌ {A = Checked State} (Ok mid) (Ok new) → NamesKept st new
 quiet_then st mid new q e = subst (NamesKept st) (ok_injective mid new e) q
@@ -71,34 +70,28 @@ by_test : (st new : State) (b : Bool) (x y : Checked State) → (x ≡ Ok new �
 by_test st new true x y f g e = f e
 by_test st new false x y f g e = g refl e
 
--- a name that is free is looked up where it stands
-free-name : (S : Signature) (macros : List Macro) (name : List ℕ) → is_free S macros name ≡ true → HasName name
-free-name S macros name e = has-name name (reserved (is_reserved name) (both e).0)
+-- a name that a constant may have is looked up where it is
+may-name : (S : Signature) (macros : List Macro) (name : List ℕ) → may_name_constant S macros name ≡ true → HasName name
+may-name S macros name e = has-name name (reserved (is_reserved name) (both e).0)
   where
     reserved : (b : Bool) → not b ≡ true → b ≡ false
     reserved true h = cc
     reserved false h = refl
 
-free-or : (a b : Bool) → (a || b) ≡ true → b ≡ false → a ≡ true
-free-or true b h e = refl
-free-or false b h e = absurd (true≢false (sym h ∙ e))
-
 module _ (st new : State) where
   entry_quiet : (e : SignatureEntry) → EntryNamed e → ◌≡◌ {A = Checked State} (Ok (with_entry st e)) (Ok new) → NamesKept st new
-  entry_quiet e n k = quiet_then st (with_entry st e) new (record { names = λ h. named-push st.signature e h n }) k
+  entry_quiet e n k = quiet_then st (with_entry st e) new (record { names = λ h. named-push st.signature e h n; several = λ m. m }) k
 
-  -- what is asked of a constant's name
-  abbrev MayName : List ℕ → Type 0
-  MayName name = (is_free_or_reference (context st) name ≡ true) × IsPrintedName name
+  apart_quiet : (d : Constant) → IsGoodName d.name → apart_constant st d ≡ Ok new → NamesKept st new
+  apart_quiet d n e =
+      entry_quiet (IsConstant d (counts_of d)) n (bind_ok (named_apart st.naming st.signature d) (λ _. Ok (with_entry st (IsConstant d (counts_of d)))) new e).2
 
-  constant_quiet : (d : Constant) → MayName d.name → added_constant st d ≡ Ok new → NamesKept st new
+  constant_quiet : (d : Constant) → IsGoodName d.name → added_constant st d ≡ Ok new → NamesKept st new
   unfolding added_constant
   constant_quiet d n e =
-      by_test st new (is_reference_name (context st) d.name) _ _
-      (λ k. quiet_then st st new (quiet_self st) (require_then _ _ _ new k).1)
-      (λ f k. entry_quiet (IsConstant d) (free-name st.signature st.macros d.name (free-or (is_free_name (context st) d.name) (is_reference_name (context st) d.name) n.0 f), n.1) k) e
+      by_test st new (repeats_constant st d) _ _ (λ k. quiet_then st st new (quiet_self st) k) (λ f k. apart_quiet d n k) e
 
-  typed_quiet : (m : Checked Constant) → ((d : Constant) → m ≡ Ok d → MayName d.name) → (m >>= typed_constant st) ≡ Ok new → NamesKept st new
+  typed_quiet : (m : Checked Constant) → ((d : Constant) → m ≡ Ok d → IsGoodName d.name) → (m >>= typed_constant st) ≡ Ok new → NamesKept st new
   unfolding typed_constant
   typed_quiet m n e =
       let d = bind_ok m _ new e in
@@ -107,7 +100,7 @@ module _ (st new : State) where
 
   checked_quiet : (m : Checked Constant) → ((d : Constant) → m ≡ Ok d → IsGoodName d.name) → (m >>= checked_constant st) ≡ Ok new → NamesKept st new
   checked_quiet m n e =
-      let d = bind_ok m _ new e in entry_quiet (IsConstant d.0) (n d.0 d.1) (bind_ok (no_fault (constant_fault d.0)) _ new d.2).2
+      let d = bind_ok m _ new e in apart_quiet d.0 (n d.0 d.1) (bind_ok (no_fault (constant_fault d.0)) _ new d.2).2
 
   literals_quiet : (class : LiteralClass) (m : Checked Tree) → (m >>= checked_literals st class) ≡ Ok new → NamesKept st new
   literals_quiet class m e =
@@ -118,7 +111,7 @@ module _ (st new : State) where
   macro_quiet m e =
       by_test st new (is_reference_name (context st) m.name) _ _
       (λ k. quiet_then st st new (quiet_self st) (require_then _ _ _ new k).1)
-      (λ f k. quiet_then st (with_macro st m) new (record { names = λ h. h }) k) e
+      (λ f k. quiet_then st (with_macro st m) new (record { names = λ h. h; several = λ n. n }) k) e
 
   define_quiet : (name : List ℕ) (params : List ParameterShape) (body : Sexp) → define st name params body ≡ Ok new → NamesKept st new
   define_quiet name params body e = let m = bind_ok (defined (context st) name params body) _ new e in macro_quiet m.0 m.2
@@ -137,7 +130,7 @@ module _ (st new : State) where
       let v = bind_ok (formula st s) _ new free.1 in
       let reference = require_then _ _ _ new v.2 in
       let member = require_then _ _ _ new reference.1 in
-      quiet_then st (with_fact st name v.0) new (record { names = λ h. h }) member.1
+      quiet_then st (with_fact st name v.0) new (record { names = λ h. h; several = λ n. n }) member.1
 
   push_quiet : (name : List ℕ) (s : Sexp) → assume_push st name s ≡ Ok new → NamesKept st new
   unfolding assume_push
@@ -145,14 +138,14 @@ module _ (st new : State) where
       let room = require_then _ _ _ new e in
       let free = require_then _ _ _ new room.1 in
       let v = bind_ok (formula st s) _ new free.1 in
-      quiet_then st (with_scope st name v.0) new (record { names = λ h. h }) v.2
+      quiet_then st (with_scope st name v.0) new (record { names = λ h. h; several = λ n. n }) v.2
 
   plain_quiet : (s : StepShape) → step_plain st s ≡ Ok new → NamesKept st new
   unfolding step_plain
   plain_quiet s e =
       let free = require_then _ _ _ new e in
       let k = bind_ok (concluded st None s) _ new free.1 in
-      quiet_then st (with_conclusion st s.name k.0) new (record { names = λ h. h }) k.2
+      quiet_then st (with_conclusion st s.name k.0) new (record { names = λ h. h; several = λ n. n }) k.2
 
   pop_quiet : (s : StepShape) → step_pop st s ≡ Ok new → NamesKept st new
   unfolding step_pop
@@ -160,29 +153,29 @@ module _ (st new : State) where
       let a = bind_ok _ _ new e in
       let free = require_then _ _ _ new a.2 in
       let k = bind_ok (concluded st (Some a.0) s) _ new free.1 in
-      quiet_then st (with_conclusion (without_scope st) s.name k.0) new (record { names = λ h. h }) k.2
+      quiet_then st (with_conclusion (without_scope st) s.name k.0) new (record { names = λ h. h; several = λ n. n }) k.2
 
   assertion_quiet : (t : Tree) (b : Bool) → NamesKept st (if b then st else record st { assertions = st.assertions ++ t ∷ [] })
   assertion_quiet t true = quiet_self st
-  assertion_quiet t false = record { names = λ h. h }
+  assertion_quiet t false = record { names = λ h. h; several = λ n. n }
 
-  labels_quiet : (mid : State) (labels : List Label) → NamesKept st mid → NamesKept st (with_labels mid labels)
-  labels_quiet mid labels q = record { names = q.names }
+  named_terms_quiet : (mid : State) (named_terms : List NamedTerm) → NamesKept st mid → NamesKept st (with_named_terms mid named_terms)
+  named_terms_quiet mid named_terms q = record { names = q.names; several = q.several }
 
   assert_quiet : (s : Sexp) → assert st s ≡ Ok new → NamesKept st new
   unfolding assert
   assert_quiet s e =
       let r = bind_ok _ _ new e in
       let v = bind_ok (formula_of st r.0.0) _ new r.2 in
-      quiet_then st (with_labels (with_assertion st v.0) r.0.1) new
-      (labels_quiet (with_assertion st v.0) r.0.1 (assertion_quiet v.0 (is_asserted st v.0))) v.2
+      quiet_then st (with_named_terms (with_assertion st v.0) r.0.1) new
+      (named_terms_quiet (with_assertion st v.0) r.0.1 (assertion_quiet v.0 (is_asserted st v.0))) v.2
 
 -- ---- the names of declared constants
 
 plain-name : (c : Context) (name : List ℕ) (type : Tree) (a : Attribute) (d : Constant) → plain_constant c name type a ≡ Ok d → name ≡ d.name
 plain-name c name type a d e = ap (λ (k : Constant). k.name) (ok_injective (constant c name [] type a) d (bind_ok _ _ d e).2)
 
-const-name : (c : Context) (name : List ℕ) (type : Sexp) (shape : AttributeShape) (d : Constant) → declared_const c name type shape ≡ Ok d → (is_free_or_reference c name ≡ true) × (name ≡ d.name)
+const-name : (c : Context) (name : List ℕ) (type : Sexp) (shape : AttributeShape) (d : Constant) → declared_const c name type shape ≡ Ok d → (may_be_constant c name ≡ true) × (name ≡ d.name)
 unfolding declared_const
 const-name c name type shape d e =
     let free = require_then _ _ _ d e in
@@ -190,7 +183,7 @@ const-name c name type shape d e =
     let a = bind_ok (attribute c [] shape) _ d t.2 in
     (free.0, plain-name c name t.0 a.0 d a.2)
 
-fun-name : (c : Context) (name : List ℕ) (inputs : List Sexp) (output : Sexp) (d : Constant) → declared_fun c name inputs output ≡ Ok d → (is_free_or_reference c name ≡ true) × (name ≡ d.name)
+fun-name : (c : Context) (name : List ℕ) (inputs : List Sexp) (output : Sexp) (d : Constant) → declared_fun c name inputs output ≡ Ok d → (may_be_constant c name ≡ true) × (name ≡ d.name)
 unfolding declared_fun
 fun-name c name inputs output d e =
     let free = require_then _ _ _ d e in
@@ -199,11 +192,11 @@ fun-name c name inputs output d e =
     let type = bind_ok (not_tall (function_type ts.0 t.0)) _ d t.2 in
     (free.0, plain-name c name type.0 Plain d type.2)
 
-sort-name : (c : Context) (name : List ℕ) (arity : ℕ) (d : Constant) → declared_sort c name arity ≡ Ok d → (is_free_or_reference c name ≡ true) × (name ≡ d.name)
+sort-name : (c : Context) (name : List ℕ) (arity : ℕ) (d : Constant) → declared_sort c name arity ≡ Ok d → (may_be_constant c name ≡ true) × (name ≡ d.name)
 unfolding declared_sort
 sort-name c name arity d e = let free = require_then _ _ _ d e in (free.0, plain-name c name (sort_type arity) Plain d free.1)
 
-parameterized-name : (c : Context) (name : List ℕ) (shapes : List ParameterShape) (type : Sexp) (shape : AttributeShape) (d : Constant) → declared_parameterized c name shapes type shape ≡ Ok d → (is_free_name c name ≡ true) × (name ≡ d.name)
+parameterized-name : (c : Context) (name : List ℕ) (shapes : List ParameterShape) (type : Sexp) (shape : AttributeShape) (d : Constant) → declared_parameterized c name shapes type shape ≡ Ok d → (may_be_constant c name ≡ true) × (name ≡ d.name)
 unfolding declared_parameterized
 parameterized-name c name shapes type shape d e =
     let free = require_then _ _ _ d e in
@@ -237,14 +230,14 @@ rule-names st from shape new e =
     entry_quiet st new (IsRule r.0) tt (bind_ok _ _ new r.2).2
 
 pub command-names : (st : State) (from : Origin) (command : Command) (new : State) → DeclaresPrinted command → by_command st from command ≡ Ok new → NamesKept st new
-command-names st from (DeclareConst name type shape) new h e = typed_quiet st new (declared_const (context_in st (setting_of from)) name type shape)
-    (λ d k. let n = const-name (context_in st (setting_of from)) name type shape d k in (subst (λ m. is_free_or_reference (context st) m ≡ true) n.1 n.0, subst IsPrintedName n.1 h)) e
-command-names st from (DeclareFun name inputs output) new h e = typed_quiet st new (declared_fun (context_in st (setting_of from)) name inputs output)
-    (λ d k. let n = fun-name (context_in st (setting_of from)) name inputs output d k in (subst (λ m. is_free_or_reference (context st) m ≡ true) n.1 n.0, subst IsPrintedName n.1 h)) e
-command-names st from (DeclareSort name arity) new h e = typed_quiet st new (declared_sort (context_in st (setting_of from)) name arity)
-    (λ d k. let n = sort-name (context_in st (setting_of from)) name arity d k in (subst (λ m. is_free_or_reference (context st) m ≡ true) n.1 n.0, subst IsPrintedName n.1 h)) e
+command-names st from (DeclareConst name type shape) new h e = typed_quiet st new (declared_const (context_in st (file_kind_of from)) name type shape)
+    (λ d k. let n = const-name (context_in st (file_kind_of from)) name type shape d k in subst IsGoodName n.1 (may-name st.signature st.macros name n.0, h)) e
+command-names st from (DeclareFun name inputs output) new h e = typed_quiet st new (declared_fun (context_in st (file_kind_of from)) name inputs output)
+    (λ d k. let n = fun-name (context_in st (file_kind_of from)) name inputs output d k in subst IsGoodName n.1 (may-name st.signature st.macros name n.0, h)) e
+command-names st from (DeclareSort name arity) new h e = typed_quiet st new (declared_sort (context_in st (file_kind_of from)) name arity)
+    (λ d k. let n = sort-name (context_in st (file_kind_of from)) name arity d k in subst IsGoodName n.1 (may-name st.signature st.macros name n.0, h)) e
 command-names st from (DeclareParameterized name params type shape) new h e = checked_quiet st new (declared_parameterized (context st) name params type shape)
-    (λ d k. let n = parameterized-name (context st) name params type shape d k in subst IsGoodName n.1 (free-name st.signature st.macros name n.0, h)) e
+    (λ d k. let n = parameterized-name (context st) name params type shape d k in subst IsGoodName n.1 (may-name st.signature st.macros name n.0, h)) e
 command-names st from (DeclareLiterals class type) new h e = literals_quiet st new class (declared_literals (context st) class type) e
 command-names st from (Define name params body) new h e = define_quiet st new name params body e
 command-names st from (DefineProgram shape) new h e = program-names st from shape new e
@@ -265,37 +258,27 @@ command-names st from Skip new h e = quiet_then st st new (quiet_self st) e
 
 constant-found : (S : Signature) (k : ℕ) (d : Constant) → AreNamed S → constant_at S k ≡ Some d → IsGoodName d.name
 constant-found [] k d h e = cc
-constant-found (IsConstant c ∷ S) zero d h e = subst (λ (x : Constant). IsGoodName x.name) (same_Some c d e) h.0
-constant-found (IsConstant c ∷ S) (suc k) d h e = constant-found S k d h.1 e
+constant-found (IsConstant c n ∷ S) zero d h e = subst (λ (x : Constant). IsGoodName x.name) (same_Some c d e) h.0
+constant-found (IsConstant c n ∷ S) (suc k) d h e = constant-found S k d h.1 e
 constant-found (IsProgram p ∷ S) k d h e = constant-found S k d h.1 e
 constant-found (IsRule r ∷ S) k d h e = constant-found S k d h.1 e
 constant-found (IsLiteralType l t ∷ S) k d h e = constant-found S k d h.1 e
-
-in-range : (S : Signature) (name : List ℕ) (k : ℕ) → constant_named S name ≡ Some k → k < length (constants S)
-in-range S name k e = go (nat_lt (position_or_len test (constants S)) (length (constants S))) refl e
-  where
-    test : Constant → Bool
-    test c = bytes_eq name c.name
-
-    go : (b : Bool) → nat_lt (position_or_len test (constants S)) (length (constants S)) ≡ b → cond b (Some (position_or_len test (constants S))) None ≡ Some k → k < length (constants S)
-    go true f h = let is = same_Some (position_or_len test (constants S)) k h in let lt = ltb-true (position_or_len test (constants S)) (length (constants S)) f in omega arith
-    go false f h = cc
 
 there : {A : Type 0} (xs : List A) (k : ℕ) → k < length xs → (x : A) × (slice_get xs k ≡ Some x)
 there [] k lt = absurd (omega arith)
 there (x ∷ xs) zero lt = (x, refl)
 there (x ∷ xs) (suc k) lt = there xs k (omega arith)
 
-good-name : (S : Signature) → AreNamed S → (k : ℕ) → constant_named S (name_of S k) ≡ Some k → IsGoodName (name_of S k)
-good-name S h k e =
-    let d = there (constants S) k (in-range S (name_of S k) k e) in
+good-name : (S : Signature) → AreNamed S → (k : ℕ) → k < length (constants S) → IsGoodName (name_of S k)
+good-name S h k lt =
+    let d = there (constants S) k lt in
     subst IsGoodName (sym (ap (λ o. option_map_or (λ (c : Constant). c.name) o []) d.1)) (constant-found S k d.0 h d.1)
 
 pub have-names : (S : Signature) → AreNamed S → HaveNames S
-have-names S h k e = (good-name S h k e).0
+have-names S h k lt = (good-name S h k lt).0
 
 pub printed-names : (S : Signature) → AreNamed S → ArePrintedNames S
-printed-names S h k e = (good-name S h k e).1
+printed-names S h k lt = (good-name S h k lt).1
 
 -- ---- the signature before the first declaration
 
@@ -317,4 +300,7 @@ step-names st from s command new what shape h e =
     let kept = command-names st from read.0 placed.0 (subst DeclaresPrinted (sym same_command) h) may.1 in
     let last : placed.0 ≡ whole.0.0 = ap (λ (r : State × Next). r.0) (ok_injective (placed.0, next.0) whole.0 next.2) in
     let counted : with_command whole.0.0 ≡ new = ap (λ (r : State × Next). r.0) (ok_injective (with_command whole.0.0, whole.0.1) (new, what) whole.2) in
-    record { names = λ n. subst (λ (x : State). AreNamed x.signature) counted (subst (λ (x : State). AreNamed x.signature) last (kept.names n)) }
+    record {
+      names = λ n. subst (λ (x : State). AreNamed x.signature) counted (subst (λ (x : State). AreNamed x.signature) last (kept.names n));
+      several = λ n. subst (λ (x : State). x.naming ≡ Several) counted (subst (λ (x : State). x.naming ≡ Several) last (kept.several n));
+    }

@@ -2,13 +2,14 @@
 use Rattle.std.specs.Prelude.{◌≡◌, refl, ℕ, zero, suc, ◌+◌, ◌-◌, ◌^◌, ◌≤◌, true, min, List, [], ◌∷◌, ◌++◌, map, Option, Some, None, Ok, Contains, slice_index_or, ◌⊎◌}
 use Rattle.std.proofs.Common.{sym, ◌∙◌, ap, arith, subst, inl, inr, append_assoc, append-nil}
 use Rattle.std.proofs.lemmas.List.Elements.{Contains-push_cases}
+use Rattle.eo_names.specs.Contexts.{Several}
 use Rattle.eo_base.specs.Limits.{height_limit}
 use Rattle.eo_base.specs.Checks.{Checked, ◌>>=◌}
 use Rattle.eo_term.specs.Tree.{Tree, height}
 use Rattle.eo_sexp.specs.Sexp.{Sexp}
 use Rattle.eo_sexp.specs.Printing.{placed}
 use Rattle.eo_sig.specs.Signature.{Signature, Macro, is_free}
-use Rattle.eo_elab.specs.Meaning.{meaning, without_labels}
+use Rattle.eo_elab.specs.Meaning.{meaning, without_named_terms}
 use Rattle.eo_session.specs.State.{State, context}
 use Rattle.eo_show.specs.Forms.{form, parts}
 use Rattle.eo_show.specs.Lines.{Line, name_or, written, line}
@@ -33,9 +34,9 @@ module _ (start : State) (names : HaveNames start.signature) (N : Tree → Optio
   S = start.signature
 
   abbrev pub at : List Macro → ℕ → State
-  at macros commands = record start { macros = macros; commands = commands }
+  at macros commands = record start { macros = macros; commands = commands; naming = Several }
 
-  -- a tree that means itself as a part, behind these macros and any that come later
+  -- a tree that means itself as a part, after these macros and any that come later
   abbrev pub Known : List Macro → Tree → Type 0
   Known macros q = (later : List Macro) (d : ℕ) → height q ≤ d → Reads S (macros ++ later) (name_or (N q) (written S d N q)) q
 
@@ -60,7 +61,7 @@ module _ (start : State) (names : HaveNames start.signature) (N : Tree → Optio
       (N m ≡ None) × Follows back lines
       ⊎ (name : List ℕ) × (rest : List Line) × (lines ≡ record { name = name; tree = m } ∷ rest) × (N m ≡ Some name) × Follows back rest
 
-  -- each line's name is free behind those before it
+  -- each line's name is free after those before it
   abbrev pub AreFree : List Macro → List Line → Type 0
   AreFree macros [] = Unit {0}
   AreFree macros (l ∷ lines) = (is_free S macros l.name ≡ true) × ((m : Tree) → AreFree (macros ++ macro_of l.name m ∷ []) lines)
@@ -74,7 +75,7 @@ module _ (start : State) (names : HaveNames start.signature) (N : Tree → Optio
 
   pub means-so : (macros : List Macro) (commands : ℕ) (s : Sexp) (t : Tree) (r : Reads S macros s t) → (n : ℕ) → meaning (context (at macros commands)) [] (placed n s) ≡ Ok r.tree
   unfolding meaning
-  means-so macros commands s t r n = ap without_labels (r.is n [])
+  means-so macros commands s t r n = ap without_named_terms (r.is n [])
 
   known-more : (macros : List Macro) (front : List Tree) (m : Tree) → ((q : Tree) → Contains front q → Known macros q) → Known macros m → (q : Tree) → Contains (front ++ m ∷ []) q → Known macros q
   known-more macros front m known itself q c = go (Contains-push_cases front m q c)

@@ -18,7 +18,7 @@ pub some-within : (o : Option Tree) (t : Tree) → SomeWithin o → o ≡ Some t
 some-within None t h e = absurd (none-some t e)
 some-within (Some u) t h e = subst IsWithin (same_Some u t e) h
 
--- what stands for each parameter is within its ranges
+-- the value of each parameter is within its ranges
 abbrev pub Puts : Assignment → Type 0
 Puts σ = (j : ℕ) → SomeWithin (σ j)
 

@@ -8,7 +8,6 @@ use Rattle.eo_base.proofs.Tests.{both, join}
 use Rattle.eo_base.specs.declared.FaultName.{FaultName}
 use Rattle.eo_base.specs.declared.FaultName.TheVariants.{TokenLong, CommandLong}
 use Rattle.eo_base.specs.Limits.{Limits}
-use Rattle.eo_sexp.specs.AtomKind.{AtomKind}
 use Rattle.eo_sexp.specs.AtomKind as kind
 use Rattle.eo_sexp.specs.Sexp.{Sexp, Atom, Listed, Sexps, NoSexp, Next}
 use Rattle.eo_sexp.specs.Lexicon.{Class, Space, Comment, Open, Close, Quote, Bar, Word, Other, Input, advance, skip, Body, Closes, Stops, RunsOut, Delimiter, Inside, Outside, string_byte, string_turn, string, bar_at, quoted, is_space, is_text, is_quotable, is_word, is_one_of, kind_of}
@@ -84,7 +83,7 @@ quote-text : (x : ℕ) → is_one_of (codes "\"") x ≡ true → is_text x ≡ t
 unfolding is_text is_space
 quote-text x e = subst (λ (y : ℕ). is_text y ≡ true) (eqb-true 34 x (or-false (34 == x) e)) refl
 
--- what stands in a string literal is text, its quotes too
+-- what is in a string literal is text, its quotes too
 abbrev StringHolds : ℕ → List ℕ → Body → Type 0
 StringHolds size xs (Closes n) = (size ≤ n) × (list_all is_text (take (n - size) xs) ≡ true)
 StringHolds size xs (Stops n) = Unit {0}

@@ -1,4 +1,4 @@
--- The lines of a value are accepted, and the last name stands for it.
+-- The lines of a value are accepted, and the last name means it.
 use Rattle.std.specs.Prelude.{◌≡◌, refl, ℕ, suc, Bool, true, false, ◌||◌, List, [], ◌∷◌, ◌++◌, map, filter, find, cond, option_map, Option, Some, None, Ok, Contains, ◌⊎◌}
 use Rattle.std.proofs.Common.{sym, ◌∙◌, ap, arith, subst, inl, inr, append-nil}
 use Rattle.std.proofs.lemmas.List.Elements.{filter-append, All-contains, Contains-push}
@@ -7,6 +7,7 @@ use Rattle.eo_term.specs.Tree.{Tree, height, tree_eq}
 use Rattle.eo_term.proofs.Equality.{tree_refl}
 use Rattle.eo_sexp.specs.Printing.{placed}
 use Rattle.eo_sig.specs.Signature.{Signature, Macro}
+use Rattle.eo_names.specs.Contexts.{Several}
 use Rattle.eo_elab.specs.Meaning.{meaning}
 use Rattle.eo_stack.specs.Evaluation.{Value, eval0, call_within}
 use Rattle.eo_session.specs.State.{State, context}
@@ -43,6 +44,10 @@ members-written S macros t can all m c =
       low = omega (arith, can.low, all.low m c);
       spelled = spelled-is S m (none-fails S (members S t) can.printable m c) (All-contains IsInRange (members S t) m (all.in_range can.in_range) c);
     }
+
+-- the same where a name may have several constants
+abbrev pub severally : State → State
+severally st = record st { naming = Several }
 
 map-twice : {A B C : Type 0} (f : A → B) (g : B → C) (xs : List A) → map g (map f xs) ≡ map (λ x. g (f x)) xs
 map-twice f g [] = refl
@@ -136,11 +141,11 @@ module _ (st : State) (t : Tree) (names : HaveNames st.signature) (can : CanShow
       (subst (λ o. Reads S (accept.end ++ []) (name_or o (written S (height t) N t)) t) last-line.3 known)
 
   -- A value is shown by lines that read back as it.
-  pub steps-back : StepsBack st t
+  pub steps-back : StepsBack (severally st) t
   steps-back =
       record {
         end = at st names N accept.end accept.count;
-        accepted = ap (steps st) (map-twice (line S N) (placed 0) lines) ∙ accept.is;
+        accepted = ap (steps (severally st)) (map-twice (line S N) (placed 0) lines) ∙ accept.is;
         before = last-line.0;
         name = last-line.1;
         last = last-line.2;

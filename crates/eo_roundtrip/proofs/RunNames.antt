@@ -1,5 +1,5 @@
 -- Each run ends in a state whose constants have names that can be read and printed.
-use Rattle.std.specs.Prelude.{◌≡◌, ℕ, Bool, true, false, if◌then◌else◌, List, None, Ok, Err}
+use Rattle.std.specs.Prelude.{◌≡◌, refl, ℕ, Bool, true, false, if◌then◌else◌, List, None, Ok, Err}
 use Rattle.std.proofs.Common.{subst}
 use Rattle.eo_base.proofs.ChecksLemmas.{ok_injective, err_is_not_ok}
 use Rattle.eo_base.specs.Limits.{limits}
@@ -7,6 +7,7 @@ use Rattle.eo_base.specs.declared.FaultName.TheVariants.{SecondReference}
 use Rattle.eo_io.specs.Library.{Files}
 use Rattle.eo_sexp.specs.ReadBack.{SymbolsPrintAgain}
 use Rattle.eo_sexp.specs.ReadNames.{SymbolsFit}
+use Rattle.eo_names.specs.Contexts.{Several}
 use Rattle.eo_session.specs.Origin.{Origin}
 use Rattle.eo_session.specs.State.{State, first_state, begin_reference}
 use Rattle.eo_run.specs.Seen.{Seen}
@@ -21,7 +22,7 @@ abbrev Any : Origin → Type 0
 Any from = Unit {0}
 
 abbrev Named : State → Type 0
-Named st = AreNamed st.signature
+Named st = AreNamed st.signature × (st.naming ≡ Several)
 
 abbrev NamedSeen : State → List Seen → Type 0
 NamedSeen st seen = Named st
@@ -36,25 +37,30 @@ begin-named st new h e = by st.has_reference e
 
 start-named : (closed : Bool) → Named (first_state closed)
 unfolding first_state
-start-named closed = first-named
+start-named closed = (first-named, refl)
 
 module _ (symbols : SymbolsPrintAgain limits) where
   keeping : Keeping NamedSeen Any (SymbolsFit limits)
   keeping =
       record {
         read = symbols;
-        steps = λ st before from s k r al fits act h e. (read-step-names s fits st from r.0 r.1 e).names h;
+        steps = λ st before from s k r al fits act h e. let kept = read-step-names s fits st from r.0 r.1 e in (kept.names h.0, kept.several h.1);
         begins = λ st new before h e. begin-named st new h e;
         reference = tt;
       }
 
   named : (st : State) → Named st → IsNamed st.signature
-  named st h = record { read = have-names st.signature h; printed = printed-names st.signature h }
+  named st h = record { read = have-names st.signature h.0; printed = printed-names st.signature h.0 }
 
   pub load-named : (files : Files) (name : List ℕ) (final : Progress) → run_load files name ≡ Ok final → IsNamed final.state.signature
   unfolding run_load
   load-named files name final e =
       named final.state (signature_keeps NamedSeen Any (SymbolsFit limits) keeping files tt name (first_load name) final (start-named false) e)
+
+  -- and in which a name may have several constants
+  pub load-several : (files : Files) (name : List ℕ) (final : Progress) → run_load files name ≡ Ok final → final.state.naming ≡ Several
+  unfolding run_load
+  load-several files name final e = (signature_keeps NamedSeen Any (SymbolsFit limits) keeping files tt name (first_load name) final (start-named false) e).1
 
   pub check-named : (files : Files) (job : CheckJob) (final : Progress) → run_check files job ≡ Ok final → IsNamed final.state.signature
   unfolding run_check run_check_after before_proof_after

@@ -10,26 +10,26 @@ use Rattle.eo_base.specs.declared.FaultName.TheVariants as fault
 use Rattle.eo_declare.specs.Declarations.{declared_const, declared_fun, declared_sort, declared_parameterized, declared_literals, defined, defined_fun, defined_sort, declared_program, declared_rule, is_reference_name}
 use Rattle.eo_eval.specs.Faults.{value_or_fault}
 use Rattle.eo_lit.specs.declared.LiteralClass.{LiteralClass}
-use Rattle.eo_names.specs.Contexts.{Setting, InReference, InAssert}
-use Rattle.eo_names.specs.Readers.{Label}
+use Rattle.eo_names.specs.Contexts.{FileKind, InReference, InAssert}
+use Rattle.eo_names.specs.Readers.{NamedTerm}
 use Rattle.eo_elab.specs.Meaning.{means}
 use Rattle.eo_stack.specs.Evaluation.{Outcome, Value, Stuck, Deep, Calls, Range, Tall, eval0}
 use Rattle.eo_session.specs.Origin.{Origin}
 use Rattle.eo_session.specs.State.{State, context, context_in, with_entry, with_macro, with_assertion, with_fact, with_scope, without_scope, macros_before, is_asserted, with_command}
-use Rattle.eo_session.specs.Step.{setting_of, is_in_reference, evaluated, added_constant, type_value, typed_constant, checked_constant, checked_literals, added_macro, define_program, declare_rule, formula_of, formula, label_macro, with_labels, assume, assume_push, assert, concluded, with_conclusion, step_plain, step_pop, plain_tree, macro_tree, value_named}
+use Rattle.eo_session.specs.Step.{file_kind_of, is_in_reference, evaluated, added_constant, type_value, typed_constant, checked_constant, checked_literals, added_macro, define_program, declare_rule, formula_of, formula, named_term_macro, with_named_terms, assume, assume_push, assert, concluded, with_conclusion, step_plain, step_pop, plain_tree, macro_tree, value_named, repeats_constant, named_apart, apart_constant}
 use Rattle.eo_session.specs.Commands.{step, uncounted, placed_command, scoped_command, next_by, by_command}
 use Rattle.eo_session.specs.declared.Next.{Next}
 use Rattle.eo_sexp.specs.Sexp.{Sexp}
 use Rattle.eo_shape.specs.Shapes.{ProgramShape, RuleShape, StepShape, Command, DeclareConst, DeclareFun, DeclareSort, DeclareParameterized, DeclareLiterals, Define, DefineProgram, DeclareRule, Assume, AssumePush, Step, StepPop, Include, Refer, DefineFun, DefineSort, Assert, Exit, Skip, command_of}
-use Rattle.eo_sig.specs.Signature.{SignatureEntry, IsConstant, IsProgram, IsRule, IsLiteralType, Constant, Macro, Named, NamesConstant, NamesMacro, NamesProgram, lookup, constant_fault, literal_type_fault, program_fault, rule_fault}
+use Rattle.eo_sig.specs.Signature.{SignatureEntry, IsConstant, IsProgram, IsRule, IsLiteralType, Constant, Macro, Named, NamesConstant, NamesMacro, NamesProgram, lookup, counts_of, constant_fault, literal_type_fault, program_fault, rule_fault}
 use Rattle.eo_term.specs.Tree.{Tree}
-use Rattle.eo_roundtrip.proofs.Within.{is_within, entry_within, signature_within, macros_within}
+use Rattle.eo_roundtrip.proofs.Within.{is_within, constant_within, entry_within, signature_within, macros_within}
 use Rattle.eo_roundtrip.proofs.ReadTexts.{all-front}
 use Rattle.eo_roundtrip.proofs.Ranges.{IsWithin}
 use Rattle.eo_elab.proofs.Uses.{at_place}
 use Rattle.eo_roundtrip.proofs.EvalValues.{IsFit, fit-within, value-fits}
 use Rattle.eo_roundtrip.proofs.SymbolsWithin.{HoldsWithin}
-use Rattle.eo_roundtrip.proofs.ReadingsWithin.{LabelsWithin}
+use Rattle.eo_roundtrip.proofs.ReadingsWithin.{NamedTermsWithin}
 use Rattle.eo_roundtrip.proofs.MeaningWithin.{labels-within}
 use Rattle.eo_roundtrip.proofs.ShapesWithin.{Fits, Each, ParameterFits, CaseFits, CommandFits, command-fits}
 use Rattle.eo_roundtrip.proofs.DeclaredWithin.{one-more, const-within, fun-within, sort-constant-within, parameterized-within, literals-within, defined-within, defined-fun-within, defined-sort-within, program-within}
@@ -40,8 +40,8 @@ pub record InState (st : State) : Type 0 where
   pub signature : signature_within st.signature ≡ true
   pub macros : macros_within st.macros ≡ true
 
-holds : (st : State) (setting : Setting) → InState st → HoldsWithin (context_in st setting)
-holds st setting h = record { signature = h.signature; macros = h.macros }
+holds : (st : State) (file_kind : FileKind) → InState st → HoldsWithin (context_in st file_kind)
+holds st file_kind h = record { signature = h.signature; macros = h.macros }
 
 -- what an evaluation gives
 pub evaluated-fits : (st : State) → InState st → (t v : Tree) → IsWithin t → evaluated st t ≡ Ok v → IsFit v
@@ -91,12 +91,15 @@ module _ (st new : State) (h : InState st) where
   entry-kept : (e : SignatureEntry) → entry_within e ≡ true → ◌≡◌ {A = Checked State} (Ok (with_entry st e)) (Ok new) → InState new
   entry-kept e k = at-end (with_entry st e) (record { signature = one-more entry_within st.signature e h.signature k; macros = h.macros })
 
-  constant-kept : (d : Constant) → entry_within (IsConstant d) ≡ true → added_constant st d ≡ Ok new → InState new
-  unfolding added_constant
-  constant-kept d k e =
-      by_test (is_reference_name (context st) d.name) _ _ (λ f. at-end st h (require_then _ _ _ new f).1) (λ f. entry-kept (IsConstant d) k f) e
+  apart-kept : (d : Constant) → constant_within d ≡ true → apart_constant st d ≡ Ok new → InState new
+  apart-kept d k e =
+      entry-kept (IsConstant d (counts_of d)) k (bind_ok (named_apart st.naming st.signature d) (λ _. Ok (with_entry st (IsConstant d (counts_of d)))) new e).2
 
-  typed-kept : (m : Checked Constant) → ((d : Constant) → m ≡ Ok d → entry_within (IsConstant d) ≡ true) → (m >>= typed_constant st) ≡ Ok new → InState new
+  constant-kept : (d : Constant) → constant_within d ≡ true → added_constant st d ≡ Ok new → InState new
+  unfolding added_constant
+  constant-kept d k e = by_test (repeats_constant st d) _ _ (at-end st h) (apart-kept d k) e
+
+  typed-kept : (m : Checked Constant) → ((d : Constant) → m ≡ Ok d → constant_within d ≡ true) → (m >>= typed_constant st) ≡ Ok new → InState new
   unfolding typed_constant type_value
   typed-kept m n e =
       let d = bind_ok m _ new e in
@@ -109,8 +112,8 @@ module _ (st new : State) (h : InState st) where
       let same : value.0 ≡ v.0 = ok_injective value.0 v.0 is.1 in
       constant-kept (record d.0 { type = v.0 }) (join (subst IsWithin same (fit-within value.0 fits)) (both within).1) v.2
 
-  checked-kept : (m : Checked Constant) → ((d : Constant) → m ≡ Ok d → entry_within (IsConstant d) ≡ true) → (m >>= checked_constant st) ≡ Ok new → InState new
-  checked-kept m n e = let d = bind_ok m _ new e in entry-kept (IsConstant d.0) (n d.0 d.1) (bind_ok (no_fault (constant_fault d.0)) _ new d.2).2
+  checked-kept : (m : Checked Constant) → ((d : Constant) → m ≡ Ok d → constant_within d ≡ true) → (m >>= checked_constant st) ≡ Ok new → InState new
+  checked-kept m n e = let d = bind_ok m _ new e in apart-kept d.0 (n d.0 d.1) (bind_ok (no_fault (constant_fault d.0)) _ new d.2).2
 
   macro-kept : (m : Macro) → IsWithin m.tree → added_macro st m ≡ Ok new → InState new
   unfolding added_macro
@@ -180,14 +183,14 @@ module _ (st new : State) (h : InState st) where
   assertion-kept t true = h
   assertion-kept t false = record { signature = h.signature; macros = h.macros }
 
-  label-macros : (labels : List Label) → LabelsWithin labels → macros_within (map label_macro labels) ≡ true
+  label-macros : (named_terms : List NamedTerm) → NamedTermsWithin named_terms → macros_within (map named_term_macro named_terms) ≡ true
   label-macros [] k = refl
-  label-macros (l ∷ labels) k = join (both k).0 (label-macros labels (both k).1)
+  label-macros (l ∷ named_terms) k = join (both k).0 (label-macros named_terms (both k).1)
 
-  labels-kept : (mid : State) (labels : List Label) → InState mid → LabelsWithin labels → InState (with_labels mid labels)
-  labels-kept mid labels k l = record {
+  labels-kept : (mid : State) (named_terms : List NamedTerm) → InState mid → NamedTermsWithin named_terms → InState (with_named_terms mid named_terms)
+  labels-kept mid named_terms k l = record {
     signature = k.signature;
-    macros = list_all-append (λ (m : Macro). is_within m.tree) mid.macros (map label_macro labels) ∙ join k.macros (label-macros labels l);
+    macros = list_all-append (λ (m : Macro). is_within m.tree) mid.macros (map named_term_macro named_terms) ∙ join k.macros (label-macros named_terms l);
   }
 
   assert-kept : (s : Sexp) → Fits s → assert st s ≡ Ok new → InState new
@@ -196,15 +199,15 @@ module _ (st new : State) (h : InState st) where
       let r = bind_ok (means (context_in st InAssert) [] s []) _ new e in
       let v = bind_ok (formula_of st r.0.0) _ new r.2 in
       let within = labels-within (context_in st InAssert) (holds st InAssert h) s k r.0 r.1 in
-      at-end (with_labels (with_assertion st v.0) r.0.1) (labels-kept (with_assertion st v.0) r.0.1 (assertion-kept v.0 (is_asserted st v.0)) within.1) v.2
+      at-end (with_named_terms (with_assertion st v.0) r.0.1) (labels-kept (with_assertion st v.0) r.0.1 (assertion-kept v.0 (is_asserted st v.0)) within.1) v.2
 
   pub command-kept : (from : Origin) (command : Command) → CommandFits command → by_command st from command ≡ Ok new → InState new
   command-kept from (DeclareConst name type shape) k e =
-      typed-kept (declared_const (context_in st (setting_of from)) name type shape) (λ d f. const-within (context_in st (setting_of from)) (holds st _ h) name type shape k.0 k.1 d f) e
+      typed-kept (declared_const (context_in st (file_kind_of from)) name type shape) (λ d f. const-within (context_in st (file_kind_of from)) (holds st _ h) name type shape k.0 k.1 d f) e
   command-kept from (DeclareFun name inputs output) k e =
-      typed-kept (declared_fun (context_in st (setting_of from)) name inputs output) (λ d f. fun-within (context_in st (setting_of from)) (holds st _ h) name inputs output k.0 k.1 d f) e
+      typed-kept (declared_fun (context_in st (file_kind_of from)) name inputs output) (λ d f. fun-within (context_in st (file_kind_of from)) (holds st _ h) name inputs output k.0 k.1 d f) e
   command-kept from (DeclareSort name arity) k e =
-      typed-kept (declared_sort (context_in st (setting_of from)) name arity) (λ d f. sort-constant-within (context_in st (setting_of from)) (holds st _ h) name arity d f) e
+      typed-kept (declared_sort (context_in st (file_kind_of from)) name arity) (λ d f. sort-constant-within (context_in st (file_kind_of from)) (holds st _ h) name arity d f) e
   command-kept from (DeclareParameterized name params type shape) k e =
       checked-kept (declared_parameterized (context st) name params type shape) (λ d f. parameterized-within (context st) (holds st _ h) name params type shape k.0 k.1.0 k.1.1 d f) e
   command-kept from (DeclareLiterals class type) k e = literals-kept class type k e

@@ -13,8 +13,8 @@ use Rattle.eo_term.specs.declared.OpCode.{OpCode}
 use Rattle.eo_term.specs.declared.OpName.{OpName}
 use Rattle.eo_term.specs.Operators.{operator_named}
 use Rattle.eo_term.specs.Tree.{Tree, Str}
-use Rattle.eo_names.specs.Contexts.{Context, Local, local_named}
-use Rattle.eo_names.specs.Meanings.{Meant, ATree, AMacro, AnOperator, Nothing, macro_meant, or_nothing, program_meant, global_meant, local_meant, operator_meant, meant, Word, Name, word_of}
+use Rattle.eo_names.specs.Contexts.{Context, Local, lookup_head, local_named}
+use Rattle.eo_names.specs.Meanings.{Resolved, ATree, AMacro, AnOperator, Nothing, macro_meant, or_nothing, program_meant, global_meant, local_meant, operator_meant, meant, meant_before, Word, Name, word_of}
 use Rattle.eo_elab.specs.Meaning.{literal_tree, tree_alone, word_alone, atom}
 use Rattle.eo_elab.proofs.Uses.{at_place}
 use Rattle.eo_roundtrip.proofs.Within.{is_text, is_within, attribute_within, signature_within, macros_within}
@@ -36,7 +36,7 @@ abbrev pub LocalsWithin : List Local → Type 0
 LocalsWithin locals = list_all (λ l. is_within l.tree) locals ≡ true
 
 -- a tree, or a macro whose tree is
-abbrev pub MeantWithin : Meant → Type 0
+abbrev pub MeantWithin : Resolved → Type 0
 MeantWithin (ATree t) = IsWithin t
 MeantWithin (AMacro m) = IsWithin m.tree
 MeantWithin (AnOperator code arity) = Unit {0}
@@ -89,30 +89,34 @@ module _ (c : Context) (fits : HoldsWithin c) where
         by_local None e = global_meant_within n
         by_local (Some t) e = local_found (λ l. bytes_eq l.name name) locals h t e
 
-    operator_meant_within : (o : Option OpName) (m : Meant) → MeantWithin m → MeantWithin (operator_meant c o m)
+    operator_meant_within : (o : Option OpName) (m : Resolved) → MeantWithin m → MeantWithin (operator_meant c o m)
     operator_meant_within (Some o) m k = tt
     operator_meant_within None m k = k
 
+    named_within : (name : List ℕ) (n : Option Named) → MeantWithin (operator_meant c (operator_named name) (local_meant c (local_named locals name) n))
+    named_within name n = operator_meant_within (operator_named name) (local_meant c (local_named locals name) n) (local_meant_within name n)
+
     pub meant_within : (name : List ℕ) → MeantWithin (meant c locals name)
-    meant_within name =
-        let n = lookup c.signature c.macros name in
-        operator_meant_within (operator_named name) (local_meant c (local_named locals name) n) (local_meant_within name n)
+    meant_within name = named_within name (lookup c.signature c.macros name)
+
+    pub meant_before_within : (n : ℕ) (name : List ℕ) → MeantWithin (meant_before c n locals name)
+    meant_before_within n name = named_within name (lookup_head c.naming c.signature c.macros name n)
 
     -- ---- atoms
 
-    alone_within : (m : Meant) → MeantWithin m → PassesWithin (tree_alone m)
+    alone_within : (m : Resolved) → MeantWithin m → PassesWithin (tree_alone m)
     alone_within (ATree u) k = ok_within u k
     alone_within (AMacro m) k = err_within BadArity
     alone_within (AnOperator code arity) k = err_within BadArity
     alone_within Nothing k = err_within UnknownSymbol
 
-    word_alone_within : (w : Word) (m : Meant) → MeantWithin m → PassesWithin (word_alone w m)
+    word_alone_within : (w : Word) (m : Resolved) → MeantWithin m → PassesWithin (word_alone w m)
     word_alone_within Name m k = alone_within m k
     word_alone_within w m k = err_within BadArity
 
     pub atom_within : (k : AtomKind) (text : List ℕ) → is_text text ≡ true → PassesWithin (atom c locals k text)
     unfolding atom
-    atom_within kind.Symbol text f = word_alone_within (word_of c.setting text) (meant c locals text) (meant_within text)
+    atom_within kind.Symbol text f = word_alone_within (word_of c.file_kind text) (meant c locals text) (meant_within text)
     atom_within kind.Literal text f = λ t e.
         some-within (option_map literal_tree (literal_value text)) t (literal-within text) (value_or_ok BadLiteral (option_map literal_tree (literal_value text)) t e)
     atom_within kind.String text f = λ t e.

@@ -21,21 +21,21 @@ use Rattle.eo_roundtrip.proofs.Puts.{SomeWithin, some-within, puts-none, puts-on
 
 constants-within : (S : Signature) → signature_within S ≡ true → list_all (λ (d : Constant). is_within d.type && attribute_within d.attribute) (constants S) ≡ true
 constants-within [] h = refl
-constants-within (IsConstant d ∷ S) h = join (both h).0 (constants-within S (both h).1)
+constants-within (IsConstant d n ∷ S) h = join (both h).0 (constants-within S (both h).1)
 constants-within (IsProgram p ∷ S) h = constants-within S (both h).1
 constants-within (IsRule r ∷ S) h = constants-within S h
 constants-within (IsLiteralType l t ∷ S) h = constants-within S (both h).1
 
 programs-within : (S : Signature) → signature_within S ≡ true → list_all (λ (p : Program). list_all (λ (c : Case). is_within c.body) p.cases) (programs S) ≡ true
 programs-within [] h = refl
-programs-within (IsConstant d ∷ S) h = programs-within S (both h).1
+programs-within (IsConstant d n ∷ S) h = programs-within S (both h).1
 programs-within (IsProgram p ∷ S) h = join (both h).0 (programs-within S (both h).1)
 programs-within (IsRule r ∷ S) h = programs-within S h
 programs-within (IsLiteralType l t ∷ S) h = programs-within S (both h).1
 
 first-class : (class : LiteralClass) (S : Signature) → signature_within S ≡ true → SomeWithin (literal_type S class)
 first-class class [] h = tt
-first-class class (IsConstant d ∷ S) h = first-class class S (both h).1
+first-class class (IsConstant d n ∷ S) h = first-class class S (both h).1
 first-class class (IsProgram p ∷ S) h = first-class class S (both h).1
 first-class class (IsRule r ∷ S) h = first-class class S h
 first-class class (IsLiteralType l t ∷ S) h = by_class (is_same_class class l) refl (first-class class S (both h).1)

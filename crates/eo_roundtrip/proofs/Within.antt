@@ -5,7 +5,7 @@ use Rattle.eo_base.specs.Limits.{bits_limit, characters_limit}
 use Rattle.eo_ops.specs.Operators.{is_in_range}
 pub use Rattle.eo_roundtrip.proofs.Texts.{is_character}
 use Rattle.eo_term.specs.Tree.{Tree, Trees, Con, Num, Bits, Str, Par, Var, App, Arr, Qar, Op, NoTree, More, is_tall}
-use Rattle.eo_sig.specs.Signature.{Signature, SignatureEntry, IsConstant, IsProgram, IsRule, IsLiteralType, Attribute, Plain, RightNil, LeftNil, Right, Left, Chain, Pairs, Binder, Macro}
+use Rattle.eo_sig.specs.Signature.{Signature, SignatureEntry, IsConstant, IsProgram, IsRule, IsLiteralType, Attribute, Plain, RightNil, LeftNil, Right, Left, Chain, Pairs, Binder, Constant, Macro}
 
 -- characters, and not too many
 abbrev pub is_text : List ℕ → Bool
@@ -45,8 +45,11 @@ attribute_within (Chain k) = true
 attribute_within (Pairs k) = true
 attribute_within (Binder k) = true
 
+abbrev pub constant_within : Constant → Bool
+constant_within d = is_within d.type && attribute_within d.attribute
+
 abbrev pub entry_within : SignatureEntry → Bool
-entry_within (IsConstant d) = is_within d.type && attribute_within d.attribute
+entry_within (IsConstant d n) = constant_within d
 entry_within (IsProgram p) = list_all (λ c. is_within c.body) p.cases
 entry_within (IsRule r) = true
 entry_within (IsLiteralType l t) = is_within t

@@ -7,7 +7,7 @@ use Rattle.eo_term.specs.Tree.{Tree}
 use Rattle.eo_sexp.specs.Printing.{placed, commands_read}
 use Rattle.eo_sexp.specs.Sexp.{Sexp}
 use Rattle.eo_sexp.specs.Texts.{reads}
-use Rattle.eo_sig.specs.Signature.{Signature, constant_named}
+use Rattle.eo_sig.specs.Signature.{Signature, constants}
 use Rattle.eo_names.specs.Contexts.{InProof}
 use Rattle.eo_names.specs.Meanings.{Name, word_of}
 use Rattle.eo_elab.specs.Meaning.{meaning}
@@ -35,7 +35,7 @@ abbrev pub HasName : List ℕ → Type 0
 HasName name = (word_of InProof name ≡ Name) × (operator_named name ≡ None)
 
 abbrev pub HaveNames : Signature → Type 0
-HaveNames S = (k : ℕ) → constant_named S (name_of S k) ≡ Some k → HasName (name_of S k)
+HaveNames S = (k : ℕ) → k < length (constants S) → HasName (name_of S k)
 
 -- names of constants that can be read and printed
 pub record IsNamed (S : Signature) : Type 0 where

@@ -17,7 +17,7 @@ use Rattle.eo_sig.specs.Signature.{Signature}
 use Rattle.eo_pattern.specs.Slots.{Slots}
 use Rattle.eo_pattern.specs.Matching.{Assignment}
 use Rattle.eo_lists.specs.Lists.{list_by}
-use Rattle.eo_lists.specs.Outcomes.{GivesList, IsValueOf}
+use Rattle.eo_lists.specs.Outcomes.{GivesList, IsTreeOf}
 use Rattle.eo_type.specs.Outcomes.{Answers}
 use Rattle.eo_type.specs.declared.refused.TypeRefused.{TypeRefused}
 use Rattle.eo_type.specs.declared.refused.TypeRefused.TheVariants as kind
@@ -135,7 +135,7 @@ joined-tall S f ts t e h = joined-of S f ts t e ∙ bind_fails (require (not (is
 pub joined-low : (S : Signature) (f : ℕ) (ts : List Tree) (t : Tree) → list_by S f ts ≡ Some t → is_tall t ≡ false → joined S f ts ≡ Ok t
 joined-low S f ts t e h = joined-of S f ts t e ∙ bind_step (require (not (is_tall t)) TermHeight) _ passed (require-passes _ TermHeight (ap not h))
 
--- what the call of lists tells, where it tells of no list
+-- what the call of lists returns, where it returns no list
 pub joined-refused : (S : Signature) (f : ℕ) (ts : List Tree) (s : Terms) (x : TermRefused) → GivesList s (Err x) (list_by S f ts) → Tells told (of_term x) (joined S f ts)
 joined-refused S f ts s term.Tall h = joined-tall S f ts h.tree h.value h.tall
 joined-refused S f ts s (term.Memory e) h = tt
@@ -143,7 +143,7 @@ joined-refused S f ts s (term.Memory e) h = tt
 pub list_none : (t : Terms) (o : Option ℕ) (m : Option Tree) → o ≡ None → GivesList t (Ok o) m → m ≡ None
 list_none t o m e h = subst (λ (x : Option ℕ). GivesList t (Ok x) m) e h
 
-pub list_some : (t : Terms) (o : Option ℕ) (m : Option Tree) (u : ℕ) → o ≡ Some u → GivesList t (Ok o) m → IsValueOf t m u
+pub list_some : (t : Terms) (o : Option ℕ) (m : Option Tree) (u : ℕ) → o ≡ Some u → GivesList t (Ok o) m → IsTreeOf t m u
 list_some t o m u e h = subst (λ (x : Option ℕ). GivesList t (Ok x) m) e h
 
 -- ---- a match, or the fault

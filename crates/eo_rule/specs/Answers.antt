@@ -1,4 +1,4 @@
--- What the program answers, against the checks of a use of a rule.
+-- What the program returns, by the checks of a use of a rule.
 use Rattle.std.specs.Prelude.{◌≡◌, ℕ, ◌<◌, length, Option, Some, None, Result, Ok, Err}
 use Rattle.eo_base.specs.declared.FaultName.{FaultName}
 use Rattle.eo_base.specs.declared.FaultName.TheVariants as fault
@@ -22,7 +22,7 @@ use Rattle.eo_pattern.specs.Slots.{Slots, held, AreBelow}
 use Rattle.eo_rule.specs.declared.refused.RuleRefused.{RuleRefused}
 use Rattle.eo_rule.specs.declared.refused.RuleRefused.TheVariants as refused
 
--- the fault that a refusal tells; out of memory tells none
+-- the fault of a refusal; out of memory has none
 abbrev pub told : RuleRefused → Option FaultName
 told (refused.Fault name) = Some name
 told (refused.Memory e) = None
@@ -46,7 +46,7 @@ of_eval (eval.Memory e) = refused.Memory e
 abbrev pub GivesTerm : Terms → Result ℕ RuleRefused → Checked Tree → Type 0
 GivesTerm t r o = Gives told (λ (i : ℕ). i < length t.trees) (tree_in t) r o
 
--- a check passes, or tells its fault
+-- a check passes, or returns its fault
 abbrev pub Passes : Result (Unit {0}) RuleRefused → Checked Passed → Type 0
 Passes r o = Gives told (λ (u : Unit {0}). Unit {0}) (λ u. passed) r o
 
@@ -64,12 +64,12 @@ pub record IsOnly (t : Terms) (Is : Tree → Type 0) (i : ℕ) : Type 0 where
   pub one : Is (tree_in t i)
   pub none_else : (formula : Tree) → Is formula → formula ≡ tree_in t i
 
--- Where a fault is told, there is no formula of the kind.
+-- Where there is a fault, there is no formula of the kind.
 abbrev pub IsNoneAfter : RuleRefused → (Tree → Type 0) → Type 0
 IsNoneAfter (refused.Fault name) Is = (formula : Tree) → Is formula → ⊥
 IsNoneAfter (refused.Memory e) Is = Unit {0}
 
--- A call answers the only formula of a kind, which is a value. Where it tells a fault, there is none.
+-- A call returns the only formula of a kind, which is a value. Where it returns a fault, there is none.
 abbrev pub AnswersOnly : Terms → Result ℕ RuleRefused → (Tree → Type 0) → Type 0
 AnswersOnly t (Ok i) Is = IsOnly t Is i
 AnswersOnly t (Err e) Is = IsNoneAfter e Is

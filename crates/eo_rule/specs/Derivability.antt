@@ -5,7 +5,7 @@ use Rattle.eo_sig.specs.Signature.{Signature, IsStage, Rule, rule_at}
 use Rattle.eo_type.specs.Types.{Typed, type_of}
 use Rattle.eo_rule.specs.Instance.{Instance}
 
--- a rule of the signature as it stood at some stage, which is not marked as unproved
+-- a rule of the signature as it was at some stage, which is not marked as unproved
 pub record IsRuleOf (S stage : Signature) (rule : Rule) : Type 0 where
   pub number : ℕ
   pub is_stage : IsStage stage S

@@ -32,7 +32,7 @@ PremisesFit S (Each ps) premises σ = map (put σ) ps ≡ premises
 PremisesFit S (Joined p f) premises σ =
     (n : Tree) × (terminator S f ≡ Some n) × (is_tall (spell (Con f) n premises) ≡ false) × (put σ p ≡ spell (Con f) n premises)
 
--- The value of a parameter has a type that is a value. The declared type, with the parameters known by its turn put in and settled, holds no operator and becomes that type.
+-- The value of a parameter has a type that is a value. The declared type, with the parameters known by its turn substituted and settled, holds no operator and becomes that type.
 pub record FitsType (S : Signature) (r : Rule) (σ : Assignment) (i : ℕ) (declared value : Tree) : Type 0 where
   pub type : Tree
   pub has_type : value_type S value ≡ Typed type

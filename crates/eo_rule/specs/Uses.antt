@@ -1,4 +1,4 @@
--- The checks of a use of a rule, in order. The first that fails gives the fault, and else the conclusion is the answer.
+-- The checks of a use of a rule, in order. The first that fails gives the fault, and else the result is the conclusion.
 use Rattle.std.specs.Prelude.{◌≡◌, ℕ, suc, Bool, true, not, List, [], ◌∷◌, Option, Some, None, is_some, option_to_list, Ok, Err}
 use Rattle.std.specs.Bool.{beq}
 use Rattle.std.specs.List.{list_all}

@@ -1,11 +1,10 @@
 //! Single checks of a use of a rule.
 ghost use Rattle.std.specs.Prelude.{◌≡◌, ◌<◌, List, length, option_map};
-ghost use Rattle.eo_sig.specs.Growth.{GrowsUnder};
 ghost use Rattle.eo_sig.specs.Reading.{SomeBelow, signature};
 ghost use Rattle.eo_term.specs.Growth.{tree_in};
 ghost use Rattle.eo_term.specs.Terms.{tree_at};
 ghost use Rattle.eo_term.specs.Tree.{Tree};
-ghost use Rattle.eo_type.specs.Known.{Fit, StillFit};
+ghost use Rattle.eo_type.specs.Known.{FitWith, Extends};
 ghost use Rattle.eo_rule.specs.Answers.{GivesTerm, Passes};
 ghost use Rattle.eo_rule.specs.Uses as spec;
 
@@ -43,11 +42,9 @@ pub(crate) fn check_formula(
     types: &mut Types,
     id: Id,
 ) -> Result<(), RuleRefused>
-    requires live { id < length table.old.trees }
-    requires fit { Fit sig.now table.old types.old }
+    requires { FitWith sig.now table.old types.old id }
     ensures passes { Passes result (spec.check_formula (signature table.old.trees sig.now) (tree_in table.old id)) }
-    ensures fits { StillFit sig.now table.new types.old types.new }
-    ensures grows { GrowsUnder sig.now table.old table.new }
+    ensures extends { Extends sig.now table.old types.old table.new types.new }
 {
     let ty = value_type(sig, table, types, id)?;
     if !is_constant(table, ty, BOOL_CONSTANT) {

@@ -3,11 +3,10 @@ ghost use Rattle.std.specs.Prelude.{◌<◌, length, IfOk};
 ghost use Rattle.eo_eval.specs.Outcomes.{IsValueOf};
 ghost use Rattle.eo_pattern.specs.Matching.{put};
 ghost use Rattle.eo_pattern.specs.Slots.{held, AreBelow};
-ghost use Rattle.eo_sig.specs.Growth.{GrowsUnder};
 ghost use Rattle.eo_sig.specs.Reading.{RuleBelow, read_rule, signature};
 ghost use Rattle.eo_term.specs.Builds.{Builds};
 ghost use Rattle.eo_term.specs.Growth.{Grows};
-ghost use Rattle.eo_type.specs.Known.{StillFit};
+ghost use Rattle.eo_type.specs.Known.{Extends};
 ghost use Rattle.eo_rule.specs.Answers.{GivesTerm};
 ghost use Rattle.eo_rule.specs.Instance.{guarded_conclusion};
 ghost use Rattle.eo_rule.specs.Reading.{Serves};
@@ -23,8 +22,8 @@ use eo_sig::{RuleDecl, Signature};
 use eo_term::{Id, Table, TermRefused, builds_law};
 use eo_type::Types;
 
-/// The value of a rule's conclusion under its requirements, with what is held put in. Its
-/// parameters are put in before it is evaluated, and it is evaluated once.
+/// The value of a rule's conclusion under its requirements, with what is held substituted. Its
+/// parameters are substituted before it is evaluated, and it is evaluated once.
 pub(crate) fn conclude_value(
     sig: &Signature,
     table: &mut Table,
@@ -39,8 +38,7 @@ pub(crate) fn conclude_value(
     ensures gives { GivesTerm table.new result (spec.conclude_value (signature table.old.trees sig.now)
         (put (held table.old.trees subst.now) (guarded_conclusion (read_rule table.old.trees rule.now)))) }
     ensures value { IfOk result (IsValueOf table.new) }
-    ensures fits { StillFit sig.now table.new types.old types.new }
-    ensures grows { GrowsUnder sig.now table.old table.new }
+    ensures extends { Extends sig.now table.old types.old table.new types.new }
 {
     sig.laws();
     types.laws();
@@ -49,7 +47,7 @@ pub(crate) fn conclude_value(
     value_of(sig, table, types, eval, id)
 }
 
-// The conclusion under the requirements with what is held put in.
+// The conclusion under the requirements with what is held substituted.
 fn put_conclusion(table: &mut Table, subst: &Subst, rule: &RuleDecl) -> Result<Id, TermRefused>
     requires rule { RuleBelow (length table.old.trees) rule.now }
     requires below { AreBelow (length table.old.trees) subst.now }

@@ -1,5 +1,5 @@
-//! Laws of uses of rules. A call costs nothing: it tells a proof what its clauses say.
-ghost use Rattle.std.specs.Prelude.{◌≡◌, ◌<◌, ℕ, Bool, List, ◌++◌, length, Ok, Some, Contains};
+//! Laws of uses of rules. A call costs nothing: it gives a proof what its clauses say.
+ghost use Rattle.std.specs.Prelude.{◌≡◌, ◌<◌, ℕ, Bool, List, ◌++◌, length, Ok, Contains};
 ghost use Rattle.eo_term.specs.Tree.{Tree};
 ghost use Rattle.eo_term.specs.Terms.{Terms, Since};
 ghost use Rattle.eo_sig.specs.declared.records.RuleDecl.{RuleDecl};

@@ -1,4 +1,4 @@
-//! What stands for the parameters of a rule: its patterns matched with what is given.
+//! The values of a rule's parameters: its patterns matched with what is given.
 ghost use Rattle.std.specs.Prelude.{◌≡◌, ◌<◌, length, option_map, option_to_list, All};
 ghost use Rattle.eo_base.specs.Checks.{value_or};
 ghost use Rattle.eo_pattern.specs.Matching.{matching};
@@ -20,7 +20,7 @@ use eo_sig::{PremiseShape, RuleDecl, Signature};
 use eo_term::{Id, Table};
 
 /// Matches the patterns of a rule with what is given. The premises are joined before where the rule
-/// joins them. What stands for the parameters is then held, and nothing else.
+/// joins them. The values of the parameters are then held, and nothing else.
 pub(crate) fn match_given(
     sig: &Signature,
     table: &mut Table,
@@ -121,8 +121,8 @@ fn match_assumption(
     }
 }
 
-/// Matches patterns with terms, beside what is held, which stays. What stands for the parameters of
-/// the patterns is then held too. The fault is this one.
+/// Matches patterns with terms, in addition to what is held, which stays. The values of the
+/// parameters of the patterns are then held too. `fault` is the refusal where they do not match.
 pub(crate) fn match_list(
     table: &Table,
     subst: &mut Subst,

@@ -10,7 +10,7 @@ use std::alloc::AllocError;
 pub enum RuleRefused {
     /// The first check that fails.
     Fault(FaultName),
-    /// Want of memory.
+    /// Out of memory.
     Memory(AllocError),
 }
 

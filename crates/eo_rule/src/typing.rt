@@ -1,18 +1,17 @@
 //! The types of a rule's parameters.
-ghost use Rattle.std.specs.Prelude.{◌<◌, ℕ, length, map, option_map, All};
+ghost use Rattle.std.specs.Prelude.{◌<◌, ℕ, length, map, All};
 ghost use Rattle.eo_pattern.specs.Slots.{held, AreBelow};
-ghost use Rattle.eo_sig.specs.Growth.{GrowsUnder};
-ghost use Rattle.eo_sig.specs.Reading.{SomeBelow, read_parameter, signature};
+ghost use Rattle.eo_sig.specs.Reading.{read_parameter, signature};
 ghost use Rattle.eo_sig.specs.declared.records.Param.{Param};
 ghost use Rattle.eo_term.specs.Growth.{tree_in};
-ghost use Rattle.eo_type.specs.Known.{Fit, StillFit};
+ghost use Rattle.eo_type.specs.Known.{Fit, Extends};
 ghost use Rattle.eo_rule.specs.Answers.{GivesAssignment};
 ghost use Rattle.eo_rule.specs.Uses as spec;
 
 use crate::RuleRefused;
 use crate::laws::growing_law;
 use crate::matching::match_list;
-use crate::values::{settled, value_type};
+use crate::values::{settle_type, value_type};
 use eo_base::FaultName;
 use eo_pattern::Subst;
 use eo_sig::{Param, Signature};
@@ -20,7 +19,7 @@ use eo_term::{Id, Table, table_law};
 use eo_type::Types;
 use std::alloc::Global;
 
-/// Checks that what stands for each parameter has its declared type. The parameters are taken from
+/// Checks that the value of each parameter has its declared type. The parameters are taken from
 /// the last to the first, and what a type gives a value to is then held.
 pub(crate) fn check_types(
     alloc: Global,
@@ -35,8 +34,7 @@ pub(crate) fn check_types(
     requires fit { Fit sig.now table.old types.old }
     ensures gives { GivesAssignment table.new result subst.new (spec.check_types (signature table.old.trees sig.now)
         (held table.old.trees subst.old) 0 (map (read_parameter table.old.trees) params.now)) }
-    ensures fits { StillFit sig.now table.new types.old types.new }
-    ensures grows { GrowsUnder sig.now table.old table.new }
+    ensures extends { Extends sig.now table.old types.old table.new types.new }
 {
     table_law();
     sig.laws();
@@ -64,8 +62,7 @@ fn check_parameter(
     requires fit { Fit sig.now table.old types.old }
     ensures gives { GivesAssignment table.new result subst.new (spec.check_type (signature table.old.trees sig.now)
         (held table.old.trees subst.old) (tree_in table.old ty) (held table.old.trees subst.old par)) }
-    ensures fits { StillFit sig.now table.new types.old types.new }
-    ensures grows { GrowsUnder sig.now table.old table.new }
+    ensures extends { Extends sig.now table.old types.old table.new types.new }
 {
     sig.laws();
     let Some(value) = subst.get(par) else {
@@ -74,7 +71,7 @@ fn check_parameter(
     check_value(alloc, sig, table, types, subst, ty, value)
 }
 
-// The same for what stands for a parameter of this type.
+// The same for the value of one parameter of this type.
 fn check_value(
     alloc: Global,
     sig: &Signature,
@@ -90,13 +87,12 @@ fn check_value(
     requires fit { Fit sig.now table.old types.old }
     ensures gives { GivesAssignment table.new result subst.new (spec.check_value (signature table.old.trees sig.now)
         (held table.old.trees subst.old) (tree_in table.old ty) (tree_in table.old value)) }
-    ensures fits { StillFit sig.now table.new types.old types.new }
-    ensures grows { GrowsUnder sig.now table.old table.new }
+    ensures extends { Extends sig.now table.old types.old table.new types.new }
 {
     sig.laws();
     growing_law();
     let found = value_type(sig, table, types, value)?;
     types.laws();
-    let expected = settled(alloc, sig, table, subst, ty)?;
+    let expected = settle_type(alloc, sig, table, subst, ty)?;
     match_list(table, subst, &[expected], &[found], FaultName::IllTyped)
 }

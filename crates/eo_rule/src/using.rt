@@ -1,9 +1,8 @@
 //! Uses of rules.
 ghost use Rattle.std.specs.Prelude.{◌≡◌, ◌<◌, length, IfOk, OnErr};
 ghost use Rattle.eo_eval.specs.Outcomes.{IsValueOf};
-ghost use Rattle.eo_sig.specs.Growth.{GrowsUnder};
 ghost use Rattle.eo_sig.specs.Reading.{RuleBelow, read_rule, rules_of, signature};
-ghost use Rattle.eo_type.specs.Known.{StillFit};
+ghost use Rattle.eo_type.specs.Known.{Extends};
 ghost use Rattle.eo_rule.specs.Answers.{AnswersOnly, GivesTerm};
 ghost use Rattle.eo_rule.specs.Reading.{AreValuesIn, ConcludesIn, IsUseOf, Serves, UseBelow, conclusion_in, read_use};
 ghost use Rattle.eo_rule.specs.Uses.{kind_conclusion, rule_conclusion};
@@ -38,9 +37,9 @@ use std::alloc::Global;
 /// - `ConclusionDiffers`: it is not the formula that is stated.
 ///
 /// `Memory`: out of memory. What is given are values, but that the stated formula may be any term.
-/// The formula that is answered is the only instance of the rule, and a value; after a fault there is
+/// The formula that is returned is the only instance of the rule, and a value; after a fault there is
 /// no instance. A refused call leaves the table as it was, and of the types those of terms that are
-/// there. The types that were kept stay in either case. What `subst` holds is let go first: it is lent
+/// there. The types that were kept stay in either case. What `subst` holds is dropped first: it is lent
 /// so that its room serves many uses.
 pub fn conclude(
     alloc: Global,
@@ -58,11 +57,10 @@ pub fn conclude(
     ensures gives { GivesTerm table.new result (conclusion_in sig.now table.old rule given.now) }
     ensures instance { AnswersOnly table.new result (ConcludesIn sig.now table.old rule given.now) }
     ensures refused { OnErr result (table.new ≡ table.old) }
-    ensures fits { StillFit sig.now table.new types.old types.new }
-    ensures grows { GrowsUnder sig.now table.old table.new }
+    ensures extends { Extends sig.now table.old types.old table.new types.new }
 {
     let mark = table.mark();
-    match concluded(alloc, sig, table, types, eval, subst, rule, given) {
+    match conclude_or_leave(alloc, sig, table, types, eval, subst, rule, given) {
         Ok(formula) => Ok(formula),
         Err(e) => {
             types.undo(table, mark);
@@ -72,7 +70,7 @@ pub fn conclude(
 }
 
 // The same, but that a refused call leaves the terms that it made.
-fn concluded(
+fn conclude_or_leave(
     alloc: Global,
     sig: &Signature,
     table: &mut Table,
@@ -88,8 +86,7 @@ fn concluded(
     requires serves { Serves sig.now table.old types.old }
     ensures gives { GivesTerm table.new result (conclusion_in sig.now table.old rule given.now) }
     ensures instance { AnswersOnly table.new result (ConcludesIn sig.now table.old rule given.now) }
-    ensures fits { StillFit sig.now table.new types.old types.new }
-    ensures grows { GrowsUnder sig.now table.old table.new }
+    ensures extends { Extends sig.now table.old types.old table.new types.new }
 {
     conclusion_law();
     let rule = sig.rule_of(rule);
@@ -113,8 +110,7 @@ fn conclude_by(
     ensures gives { GivesTerm table.new result (rule_conclusion (signature table.old.trees sig.now)
         (read_rule table.old.trees rule.now) (read_use table.old.trees given.now)) }
     ensures value { IfOk result (IsValueOf table.new) }
-    ensures fits { StillFit sig.now table.new types.old types.new }
-    ensures grows { GrowsUnder sig.now table.old table.new }
+    ensures extends { Extends sig.now table.old types.old table.new types.new }
 {
     check_kind(rule.assumption, given.assumption)?;
     conclude_checked(alloc, sig, table, types, eval, subst, rule, given)
@@ -137,8 +133,7 @@ fn conclude_checked(
     ensures gives { GivesTerm table.new result (kind_conclusion (signature table.old.trees sig.now)
         (read_rule table.old.trees rule.now) (read_use table.old.trees given.now)) }
     ensures value { IfOk result (IsValueOf table.new) }
-    ensures fits { StillFit sig.now table.new types.old types.new }
-    ensures grows { GrowsUnder sig.now table.old table.new }
+    ensures extends { Extends sig.now table.old types.old table.new types.new }
 {
     sig.laws();
     types.laws();

@@ -4,11 +4,10 @@ ghost use Rattle.eo_eval.specs.Faults.{value_or_fault};
 ghost use Rattle.eo_eval.specs.Outcomes.{outcome_of, IsValueOf, MayBeValue};
 ghost use Rattle.eo_pattern.specs.Matching.{put};
 ghost use Rattle.eo_pattern.specs.Slots.{held, AreBelow};
-ghost use Rattle.eo_sig.specs.Growth.{GrowsUnder};
 ghost use Rattle.eo_sig.specs.Reading.{signature};
 ghost use Rattle.eo_term.specs.Growth.{Grows, tree_in};
 ghost use Rattle.eo_term.specs.Terms.{Terms};
-ghost use Rattle.eo_type.specs.Known.{Fit, StillFit};
+ghost use Rattle.eo_type.specs.Known.{FitWith, Extends};
 ghost use Rattle.eo_type.specs.Types.{settled};
 ghost use Rattle.eo_rule.specs.Answers.{GivesTerm, GivesValue};
 ghost use Rattle.eo_rule.specs.Reading.{Serves};
@@ -34,12 +33,10 @@ pub fn value_type(
     types: &mut Types,
     id: Id,
 ) -> Result<Id, RuleRefused>
-    requires live { id < length table.old.trees }
-    requires fit { Fit sig.now table.old types.old }
+    requires { FitWith sig.now table.old types.old id }
     ensures gives { GivesTerm table.new result (typed (signature table.old.trees sig.now) (tree_in table.old id)) }
     ensures refused { OnErr result (table.new ≡ table.old) }
-    ensures fits { StillFit sig.now table.new types.old types.new }
-    ensures grows { GrowsUnder sig.now table.old table.new }
+    ensures extends { Extends sig.now table.old types.old table.new types.new }
 {
     let mark = table.mark();
     match type_found(sig, table, types, id) {
@@ -58,11 +55,9 @@ fn type_found(
     types: &mut Types,
     id: Id,
 ) -> Result<Id, RuleRefused>
-    requires live { id < length table.old.trees }
-    requires fit { Fit sig.now table.old types.old }
+    requires { FitWith sig.now table.old types.old id }
     ensures gives { GivesTerm table.new result (typed (signature table.old.trees sig.now) (tree_in table.old id)) }
-    ensures fits { StillFit sig.now table.new types.old types.new }
-    ensures grows { GrowsUnder sig.now table.old table.new }
+    ensures extends { Extends sig.now table.old types.old table.new types.new }
 {
     let Some(ty) = types.type_of(sig, table, id)? else {
         return Err(RuleRefused::Fault(FaultName::IllTyped));
@@ -73,9 +68,9 @@ fn type_found(
     Ok(ty)
 }
 
-/// A declared type with what is held put in, settled. It is `IllTyped` where an operator in it has
+/// A declared type with what is held substituted, settled. It is `IllTyped` where an operator in it has
 /// no value.
-pub(crate) fn settled(
+pub(crate) fn settle_type(
     alloc: Global,
     sig: &Signature,
     table: &mut Table,
@@ -91,7 +86,7 @@ pub(crate) fn settled(
     settled_type(alloc, sig, table, made)
 }
 
-// The same for a type in which all is put in.
+// The same for a type in which all is substituted.
 fn settled_type(
     alloc: Global,
     sig: &Signature,
@@ -127,8 +122,7 @@ pub fn value_of(
     ensures gives { GivesTerm table.new result (value_or_fault (outcome_of sig.now table.old id)) }
     ensures value { IfOk result (IsValueOf table.new) }
     ensures refused { OnErr result (table.new ≡ table.old) }
-    ensures fits { StillFit sig.now table.new types.old types.new }
-    ensures grows { GrowsUnder sig.now table.old table.new }
+    ensures extends { Extends sig.now table.old types.old table.new types.new }
 {
     let mark = table.mark();
     match value_found(sig, table, types, eval, id) {
@@ -152,8 +146,7 @@ fn value_found(
     requires serves { Serves sig.now table.old types.old }
     ensures gives { GivesTerm table.new result (value_or_fault (outcome_of sig.now table.old id)) }
     ensures value { IfOk result (IsValueOf table.new) }
-    ensures fits { StillFit sig.now table.new types.old types.new }
-    ensures grows { GrowsUnder sig.now table.old table.new }
+    ensures extends { Extends sig.now table.old types.old table.new types.new }
 {
     let outcome = eval.evaluate(sig, table, types, id)?;
     value_or_fault(outcome)

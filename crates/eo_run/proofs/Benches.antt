@@ -1,4 +1,4 @@
--- The files of a bench, and what is answered for their run.
+-- The files of a bench, and the result for their run.
 use Rattle.std.proofs.Common.{◌≡◌, ℕ, List, [], ◌++◌, Some, refl, sym, ap, subst, ◌∙◌, append_assoc, arith}
 use Rattle.std.specs.Prelude.{codes, Result, Ok, OnOk}
 use Rattle.eo_base.specs.Causes.{Rose}
@@ -56,6 +56,6 @@ done {T} {E} P r x e h = subst (λ (q : Result T E). OnOk q P) e h
 
 -- ---- lines
 
--- a line with so many numbers in it, where its end is written with what is behind the last one
+-- a line with so many numbers in it, where its end is written with what is after the last one
 pub one_number : (a m b end : List ℕ) → a ++ (m ++ (b ++ end)) ≡ (a ++ (m ++ b)) ++ end
 one_number a m b end = sym (simp append_assoc)

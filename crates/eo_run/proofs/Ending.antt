@@ -18,7 +18,7 @@ use Rattle.eo_run.proofs.Running.{on-same, on-fault}
 use Rattle.eo_sexp.proofs.Callers.{live-within, IsCommand, at_more, at_command, at_fault, at_end, at_end_command, at_end_fault, here-used}
 use Rattle.eo_session.specs.Origin.{Origin}
 
--- what is left of a piece is its end, also behind u bytes more
+-- what is left of a piece is its end, also after u bytes more
 pub tail_later : (xs rest : List ℕ) (u : ℕ) → drop (length xs - length rest) xs ≡ rest → length rest ≤ length xs → u ≤ length rest → drop (length xs - length (drop u rest)) xs ≡ drop u rest
 tail_later xs rest u e fits within =
     let count : length xs - length (drop u rest) ≡ (length xs - length rest) + u = omega (arith, length-drop u rest, fits, within) in

@@ -1,7 +1,7 @@
 -- How a check ends.
-use Rattle.std.proofs.Common.{◌≡◌, refl, ℕ, Bool, true, false, not, List, [], ◌∷◌, Option, None, Some, sym, ap, subst, ◌∙◌, append-nil}
+use Rattle.std.proofs.Common.{◌≡◌, refl, ℕ, Bool, true, false, not, List, [], ◌∷◌, Option, None, Some, sym, ap, subst, ◌∙◌, append-nil, arith}
 use Rattle.std.proofs.lemmas.Option.{slice_get_within}
-use Rattle.std.specs.Prelude.{Ok, IsSome, ◌<◌, length, slice_get, is_some, find, option_map, ◌||◌, if◌then◌else◌}
+use Rattle.std.specs.Prelude.{Ok, IsSome, ◌<◌, ◌≤◌, length, slice_get, is_some, find, option_map, ◌||◌, if◌then◌else◌}
 use Rattle.std.specs.List.{list_any}
 use Rattle.eo_base.specs.declared.FaultName.TheVariants.{NoReference, NoRefutation, ScopeOpen}
 use Rattle.eo_io.specs.Library.{Files}
@@ -10,7 +10,8 @@ use Rattle.eo_proof.specs.Scopes.{Fact, Scopes, has_false, first_false}
 use Rattle.eo_session.specs.Notes as notes
 use Rattle.eo_session.specs.State.{State, end_fault, is_in_scope}
 use Rattle.eo_term.specs.Tree.{tree_eq, truth}
-use Rattle.eo_run.specs.Ending.{IfCorrect, IsRefutation, RefutesJob, IsCheckEnd, LeavesLast}
+use Rattle.eo_run.specs.Answer.{AnswerHasCause}
+use Rattle.eo_run.specs.Ending.{IfCorrect, IsRefutation, RefutesJob, IsCheckEnd, KnownAtEnd, LeavesLast, verdict_of}
 use Rattle.eo_run.specs.Check.{verdict}
 use Rattle.eo_run.specs.Judging.{run_after, IsCheckAnswer, AnswersJob}
 use Rattle.eo_run.specs.Opening.{IsStop}
@@ -24,6 +25,7 @@ use Rattle.eo_run.specs.declared.CheckJob.{CheckJob}
 use Rattle.eo_run.specs.declared.Verdict.{Verdict}
 use Rattle.eo_run.specs.declared.Verdict.TheVariants as answer
 use Rattle.eo_run.proofs.Files.{told-some, after-is}
+use Rattle.eo_run.proofs.Taking.{cause-grows, extends-trans}
 
 -- ---- tables of paths
 
@@ -89,7 +91,7 @@ correct-sound (Some files) job paths law h = λ e. law files job h
 pub ended-sound : (told : Option Files) (job : CheckJob) (paths : List (List ℕ)) (v : Verdict) → IsCheckEnd paths (ends.Ended v) → CorrectRefutes told job v
 ended-sound told job paths v h = λ e. absurd (subst (λ (w : Verdict). IsCheckEnd paths (ends.Ended w)) e h)
 
-pub stop-end : (paths : List (List ℕ)) (v : Verdict) → IsStop paths v → IsCheckEnd paths (ends.Ended v)
+stop-end : (paths : List (List ℕ)) (v : Verdict) → IsStop paths v → IsCheckEnd paths (ends.Ended v)
 stop-end paths answer.Correct h = absurd h
 stop-end paths answer.Incomplete h = absurd h
 stop-end paths (answer.Loaded commands) h = absurd h
@@ -104,3 +106,17 @@ ended-answer paths (answer.Loaded commands) h = absurd h
 ended-answer paths (answer.Refused fault) h = h
 ended-answer paths answer.ReadFault h = tt
 ended-answer paths answer.OutOfMemory h = tt
+
+-- ---- what is known of an end
+
+-- of a part that comes after another one
+pub end-later : {F : Type 0} (told later : Option F) → later ≡ told → (a b n : ℕ) → a ≤ b → (old mid new : List (List ℕ)) (e : CheckEnd) → Extends old mid → KnownAtEnd later b n mid new e → KnownAtEnd told a n old new e
+end-later {F} told later same a b n le old mid new e grows known = record {
+  cause = cause-grows told (verdict_of e) a b n n le (omega arith) (subst (λ (o : Option F). AnswerHasCause (verdict_of e) o b n) same known.cause);
+  kind = known.kind;
+  grows = extends-trans old mid new grows known.grows;
+}
+
+-- of a part that stops
+pub end-stops : {F : Type 0} (told : Option F) (a n : ℕ) (old new : List (List ℕ)) (v : Verdict) → AnswerHasCause v told a n → IsStop new v → Extends old new → KnownAtEnd told a n old new (ends.Ended v)
+end-stops told a n old new v cause stop grows = record { cause = cause; kind = stop-end new v stop; grows = grows }

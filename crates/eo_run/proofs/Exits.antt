@@ -1,7 +1,7 @@
 -- The exits of the functions that read a file.
 use Rattle.std.proofs.lemmas.List.Elements.{All-nil, All-cons}
 use Rattle.std.proofs.Common.{◌≡◌, refl, append-nil, ◌≤◌, ◌<◌, ◌+◌, sym, ap, ◌∙◌, subst, Bool, true, false, List, [], ◌∷◌, ◌++◌, ℕ, length, drop}
-use Rattle.std.specs.Prelude.{Ok, Err}
+use Rattle.std.specs.Prelude.{Result, Ok, Err}
 use Rattle.eo_base.specs.Checks.{Checked}
 use Rattle.eo_base.specs.declared.FaultName.{FaultName}
 use Rattle.eo_base.specs.declared.Place.{Place}
@@ -23,7 +23,7 @@ use Rattle.eo_session.specs.Notes as notes
 use Rattle.eo_run.specs.Reading.{Continuation, count_of, behind, at_end, LeadsOn, AsksFor, FailsAt, ChecksCommand, ShowsCommand, ChecksLast, ShowsLast, ChecksPiece, ChecksEnd, IsAsked, IsAskedAtEnd}
 use Rattle.eo_run.specs.Watching.{note_next, IsShown}
 use Rattle.eo_run.proofs.Watched.{shown-next, shown-trans}
-use Rattle.eo_run.specs.declared.reading.Asked.{Asked}
+use Rattle.eo_run.specs.declared.reading.FileRequest.{FileRequest}
 use Rattle.eo_run.specs.declared.reading.Stop.{Stop}
 use Rattle.eo_run.specs.declared.reading.Stop.TheVariants as stop
 use Rattle.eo_run.proofs.Running.{on-fails, on-asks, command-fails, command-asks}
@@ -40,6 +40,16 @@ refused-last from old new c s name at h e starts = λ k phase is.
     (ap (step old from) (ap (λ (p : Placed). p.sexp) same ∙ sym h.3) ∙ e, starts (subst (λ (d : Collecting). IsLive d) (sym is) tt) ∙ ap start_of is)
 
 -- ---- what an observer is shown of the last command of a collector
+
+-- nothing, of one that represents every list
+module _ {O : Type 0} (tells : O → List notes.Seen → Type 0) (observer : O) (from : Origin) (file : ℕ) (all : (l : List notes.Seen) → tells observer l) (st : State) where
+  pub shows-all : (c : Collecting) (result : Result Next Stop) → ShowsLast tells observer observer from file result st c
+  shows-all c (Ok what) = λ k phase is.
+      let P = λ (m : notes.Seen). m.place.file ≡ file in
+      record { sees = λ l t. all (l ++ note_next st from file k ∷ []); here = All-cons P (note_next st from file k) [] refl (All-nil P) }
+  shows-all c (Err (stop.Fault name at)) = λ k phase is. record { sees = λ l t. all (l ++ []); here = All-nil (λ (m : notes.Seen). m.place.file ≡ file) }
+  shows-all c (Err stop.ReadFault) = λ k phase is. tt
+  shows-all c (Err stop.Memory) = λ k phase is. tt
 
 module _ {O : Type 0} (tells : O → List notes.Seen → Type 0) (before after : O) (from : Origin) (file : ℕ) where
   pub shows-last : AreDecidedPlaced → (what : Next) (st new : State) (c : Collecting) (s : Sexp) (bytes : List ℕ) (at : Spot) (place : Place) → place ≡ record { file = file; line = at.line; offset = at.offset } → Holds c s → bytes ≡ bytes_of c → (IsLive c → at ≡ start_of c) → step st from s ≡ Ok (new, what)
@@ -77,7 +87,7 @@ module _ {O : Type 0} (tells : O → List notes.Seen → Type 0) (first before a
     refused-fails name at h = subst (λ (p : Spot). FailsAt from old r (ms ++ []) name p) (sym h.1) (on-fails from old st r t ms [] name k.start leads (command-fails from st t s k file gives name h.0))
 
     -- a command that asks for a file
-    asked : (a : Asked) → step st from k.sexp ≡ Ok (new, a.next) → a.at ≡ k.start → AsksFor from old r (ms ++ note_next st from file k ∷ []) new s a.next a.at
+    asked : (a : FileRequest) → step st from k.sexp ≡ Ok (new, a.next) → a.at ≡ k.start → AsksFor from old r (ms ++ note_next st from file k ∷ []) new s a.next a.at
     asked a h at =
         on-asks from old st new r t s ms (note_next st from file k ∷ []) a.next a.at leads
         (subst (λ (p : Spot). AsksFor from st t (note_next st from file k ∷ []) new s a.next p) (sym at) (command-asks from st t s k file gives new a.next h))
@@ -89,7 +99,7 @@ module _ {O : Type 0} (tells : O → List notes.Seen → Type 0) (first before a
     refused-end stop.ReadFault e h shows = tt
     refused-end stop.Memory e h shows = tt
 
-  pub asked-end : (old st new : State) (c d e : Collecting) (k : Placed) (a : Asked) → LeadsOn from old (at_end c) ms st (at_end d) → ((closes : Bool) (more : List ℕ) → at_end d closes more ≡ Then k (at_end e closes more)) →
+  pub asked-end : (old st new : State) (c d e : Collecting) (k : Placed) (a : FileRequest) → LeadsOn from old (at_end c) ms st (at_end d) → ((closes : Bool) (more : List ℕ) → at_end d closes more ≡ Then k (at_end e closes more)) →
       IsLive e → IsWaiting limits e → count_of (at_end e true []) < count_of (at_end c true []) → step st from k.sexp ≡ Ok (new, a.next) → a.at ≡ k.start → IsShown tells before after file (note_next st from file k ∷ []) → IsAskedAtEnd from Shown old new c e a
   asked-end old st new c d e k a leads gives live waiting fewer h at shows = record {
     passes = ms ++ note_next st from file k ∷ [];
@@ -109,7 +119,7 @@ module _ {O : Type 0} (tells : O → List notes.Seen → Type 0) (first before a
     refused-piece stop.ReadFault e h shows = tt
     refused-piece stop.Memory e h shows = tt
 
-  pub asked-piece : (old st new : State) (c d e : Collecting) (p q rest : List ℕ) (k : Placed) (a : Asked) → LeadsOn from old (behind c p) ms st (behind d q) → ((closes : Bool) (more : List ℕ) → behind d q closes more ≡ Then k (behind e rest closes more)) →
+  pub asked-piece : (old st new : State) (c d e : Collecting) (p q rest : List ℕ) (k : Placed) (a : FileRequest) → LeadsOn from old (behind c p) ms st (behind d q) → ((closes : Bool) (more : List ℕ) → behind d q closes more ≡ Then k (behind e rest closes more)) →
       drop a.used p ≡ rest → a.used ≤ length p → IsLive e → IsWaiting limits e → (here_of e).offset + length rest ≤ (here_of c).offset + length p → count_of (behind e rest false []) < count_of (behind c p false []) → step st from k.sexp ≡ Ok (new, a.next) → a.at ≡ k.start →
       IsShown tells before after file (note_next st from file k ∷ []) → IsAsked from Shown old new c e p a
   asked-piece old st new c d e p q rest k a leads gives tail size live waiting here fewer h at shows = record {

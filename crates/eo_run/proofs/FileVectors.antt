@@ -33,7 +33,7 @@ absent_at_all : Loads [] (at_byte (codes "a.eo") 0 FileAbsent)
 unfolding computed
 absent_at_all = refl
 
--- a fault of an included file stands there
+-- a fault of an included file is there
 inside : Loads ((codes "a.eo", codes "(include \"b.eo\")") ∷ (codes "b.eo", codes " (declare-const)") ∷ []) (at_byte (codes "b.eo") 1 BadCommand)
 unfolding computed
 inside = refl
@@ -84,17 +84,17 @@ no_reference = refl
 
 -- ---- exit
 
--- ends its file, of which nothing behind is read, and not the proof
+-- ends its file, of which nothing after is read, and not the proof
 exits : verdict ((codes "p.eo", codes "(reference \"r.smt2\")(assume a false)") ∷ (codes "r.smt2", codes "(assert false)(exit)(assert)) (") ∷ []) (job None None) ≡ Correct
 unfolding computed
 exits = refl
 
--- what stands before it counts
+-- what is before it counts
 exits_late : verdict ((codes "p.eo", []) ∷ (codes "r.smt2", codes "(assert)(exit)") ∷ []) (job None (Some (codes "r.smt2"))) ≡ at_byte (codes "r.smt2") 0 BadCommand
 unfolding computed
 exits_late = refl
 
--- and what stands behind it does not
+-- and what is after it does not
 exits_early : verdict ((codes "p.eo", codes "(assume a false)") ∷ (codes "r.smt2", codes "(exit)(assert false)") ∷ []) (job None (Some (codes "r.smt2"))) ≡ at_byte (codes "p.eo") 0 NotAsserted
 unfolding computed
 exits_early = refl
@@ -106,7 +106,7 @@ exits_proof = refl
 
 -- ---- reference files
 
--- a second one, named by the proof, or by the job behind one that the include file names
+-- a second one, named by the proof, or by the job after one that the include file names
 second_reference : verdict ((codes "p.eo", codes "(reference \"r.smt2\")") ∷ (codes "r.smt2", []) ∷ []) (job None (Some (codes "r.smt2"))) ≡ at_byte (codes "p.eo") 0 SecondReference
 unfolding computed
 second_reference = refl
@@ -143,7 +143,7 @@ closed_before : verdict ((codes "c.eo", codes "(include \"b.eo\")") ∷ (codes "
 unfolding computed
 closed_before = refl
 
--- a program is behind the shape of its declaration, and before its name
+-- a program is after the shape of its declaration, and before its name
 closed_program : verdict ((codes "p.eo", codes "(program let () :signature (Bool) Bool ())") ∷ []) (closed None) ≡ at_byte (codes "p.eo") 0 ProofDeclares
 unfolding computed
 closed_program = refl

@@ -23,9 +23,9 @@ use Rattle.eo_run.specs.declared.CheckJob.{CheckJob}
 use Rattle.eo_run.specs.declared.Verdict.{Verdict}
 use Rattle.eo_run.specs.declared.Verdict.TheVariants as answer
 
--- ---- where files are told
+-- ---- where files are known
 
--- what holds of every files that are told holds of those
+-- what holds of all files that are known holds of those
 pub told-some : (told : Option Files) (P : Files → Type 0) → Told told P → IfSome told P
 told-some None P h = tt
 told-some (Some files) P h = h files refl
@@ -143,7 +143,7 @@ pub load-runs-is : (files : Files) (name : List ℕ) → run_load files name ≡
 unfolding run_load
 load-runs-is files name = refl
 
--- ---- answers
+-- ---- results
 
 module _ (files : Files) (name : List ℕ) (from : Origin) (ran : Ran) (new : Progress) (paths : List (List ℕ)) (place : Place) (h : EndsRun files name from ran new paths place) where
   module _ (none : end_fault new.state ≡ None) where
@@ -160,7 +160,7 @@ module _ (files : Files) (name : List ℕ) (from : Origin) (ran : Ran) (new : Pr
   pub ends-loaded : Answers paths (answer.Loaded new.state.commands) (loaded ran)
   ends-loaded = ap loaded h.runs
 
--- what is answered for a run that stops is the verdict, and what was accepted before is seen
+-- the result for a run that stops is the verdict, and what was accepted before is seen
 pub stops-checked : (files : Files) (name : List ℕ) (ran : Ran) (H : List Seen → Type 0) (paths : List (List ℕ)) (v : Verdict) → StopsAs (λ stopped. ran ≡ Err stopped) H paths v → Answers paths v (checked files name ran) × IfRun v (H (seen_in ran))
 stops-checked files name ran H paths answer.Correct h = absurd h
 stops-checked files name ran H paths answer.Incomplete h = absurd h

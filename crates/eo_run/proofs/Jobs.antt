@@ -1,4 +1,4 @@
--- The parts of a job, and its verdict, as answers tell them.
+-- The parts of a job, and its verdict, by the results of calls.
 use Rattle.std.proofs.Common.{◌≡◌, refl, ℕ, true, false, List, [], Option, None, Some, sym, ap, subst, ◌∙◌}
 use Rattle.std.specs.Prelude.{⊤, ◌≢◌, Result, Ok, Err, OnOk, IfErr, slice_get, bytes_eq}
 use Rattle.std.specs.List.{list_any}

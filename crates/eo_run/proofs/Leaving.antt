@@ -117,7 +117,7 @@ command_stays (Listed (sexp.Next (Atom kind.Symbol word at) parts) span) command
     subst Stays (value_or_ok BadCommand (shape.0 (children_of parts)) command shape.2) stays
 command_stays s command e = absurd (err_is_not_ok BadCommand command e)
 
--- ---- what is done behind it
+-- ---- what is done after it
 
 next_stays : (st : State) (command : Command) (what : Next) → is_leaving command ≡ false → next_by st command ≡ Ok what → is_exit what ≡ false
 unfolding next_by

@@ -19,6 +19,8 @@ pub mod Taking
 pub mod Watched
 mod FileVectors
 mod ScopeVectors
-mod Vectors
+pub mod Vectors
 mod BenchVectors
 mod PrintLemmas
+pub mod SingleNames
+mod OverloadVectors

@@ -1,4 +1,4 @@
--- Places of files by their numbers, and what opening a file tells.
+-- Places of files by their numbers, and what follows from opening a file.
 use Rattle.std.proofs.Common.{◌≡◌, refl, ℕ, suc, Bool, true, false, List, ◌∷◌, Option, Some, None, sym, ap, subst, ◌∙◌}
 use Rattle.std.specs.Prelude.{◌≢◌, Result, Ok, Err, is_some, slice_get, if◌then◌else◌, IsSome}
 use Rattle.std.proofs.lemmas.Option.{none-some, same_Some}
@@ -32,7 +32,7 @@ denotes-here paths s name at h = record { name = refl; file = found paths s.path
 pub placed-in : (paths : List (List ℕ)) (s : Source) → IsNumbered paths s → IsSome (slice_get paths (number_of s.from))
 placed-in paths s h = ap is_some (found paths s.path.now (number_of s.from) h)
 
--- ---- what opening a file tells
+-- ---- what follows from opening a file
 
 module _ {O : Type 0} (tells : O → List notes.Seen → Type 0) where
   pub ready-runs : (told : Option Files) (s : Source) (r : Result Spot Verdict) (old new : Point O) (before mid : List Rest) → Opens opened.Ready told s.path.now before mid → RunsOpen tells told s r old new mid → RunsFile tells told s (as_found r) old new

@@ -1,4 +1,4 @@
--- What is done behind a command that asks for a file.
+-- What is done after a command that asks for a file.
 use Rattle.std.proofs.Common.{◌≡◌, refl, ℕ, zero, suc, Bool, true, false, List, ap, sym, ◌∙◌}
 use Rattle.std.specs.Prelude.{Ok, Err, Option, Some, None, if◌then◌else◌, bytes_eq}
 use Rattle.std.specs.List.{list_any}

@@ -103,7 +103,7 @@ leads-later files s old new c d bytes p h =
     }
 
 module _ {O : Type 0} (tells : O → List notes.Seen → Type 0) where
-  -- a piece behind what was taken before
+  -- a piece after what was taken before
   taken-behind : (told : Option Files) (s : Source) (old st new : Point O) (c d e : Collecting) (bytes p : List ℕ) → IsTaken tells told s old st c d bytes → IsTaken tells told s st new d e p → IsTaken tells told s old new c e (bytes ++ p)
   taken-behind told s old st new c d e bytes p h k =
       record {
@@ -173,7 +173,7 @@ piece-is n buffer mid after rest others r e = (subst (λ (m : List Rest). ReadsB
 pub front-is : (m n : ℕ) (buffer : List ℕ) (mid after : List Rest) (rest : List ℕ) (others : List Rest) → ReadsBytes n mid after buffer → m ≤ n → mid ≡ Some rest ∷ others → take m buffer ≡ take m rest
 front-is m n buffer mid after rest others r g e = sym (take-take m n buffer g) ∙ ap (take m) (piece-is n buffer mid after rest others r e) ∙ take-take m n rest g
 
--- ---- answers for a run that stops
+-- ---- results for a run that stops
 
 pub stops-weaker : (P Q : Stopped → Type 0) (H : List Seen → Type 0) (paths : List (List ℕ)) (v : Verdict) → ((stopped : Stopped) → P stopped → Q stopped) → StopsAs P H paths v → StopsAs Q H paths v
 stops-weaker P Q H paths answer.Correct f h = absurd h

@@ -14,7 +14,7 @@ use Rattle.eo_run.specs.Verdict.{Refusal, Refused}
 use Rattle.eo_run.specs.Printed.{line, two_digits, refusal_text, verdict_due, bench_text}
 use Rattle.eo_run.specs.Pieces.{text_of, refusal_of_pieces, refused_due, counts_of_pieces}
 
--- a front of a list, behind another list and before a third
+-- a front of a list, after another list and before a third
 front_behind : (n : ℕ) (a b c : List ℕ) → n ≤ length b → take (length a + n) (a ++ (b ++ c)) ≡ a ++ take n b
 front_behind n a b c h = take-append-add a (b ++ c) n ∙ ap (λ z. a ++ z) (take-append-le n b c h)
 

@@ -69,7 +69,7 @@ open_scope : Prints (codes "(assume-push h false)") (codes "refused F40 ScopeOpe
 unfolding computed
 open_scope = refl
 
--- commands that may not stand in a scope
+-- commands that are not allowed in a scope
 in_scope : Prints (codes "(assume-push h true)(declare-const p Bool)") (codes "refused F31 InScope p.eo:1:20")
 unfolding computed
 in_scope = refl

@@ -1,4 +1,4 @@
--- A run of a file that goes on behind what its commands ask for.
+-- A run of a file that goes on after what its commands ask for.
 use Rattle.std.proofs.Common.{◌≡◌, refl, ℕ, zero, suc, ◌+◌, ◌-◌, ◌≤◌, Bool, true, false, List, [], ◌∷◌, ◌++◌, length, map, ap, sym, subst, ◌∙◌, arith, append_assoc}
 use Rattle.std.specs.Prelude.{◌≢◌, ◌^◌, min, Result, Ok, Err, Option, Some, None, IfErr, bytes_eq}
 use Rattle.std.proofs.Math.Nat.{min-le_left, min-le_right, le-min}
@@ -22,7 +22,7 @@ use Rattle.eo_run.specs.Reading.{Continuation, Asks, LeadsOn, AsksFor, IsRefused
 use Rattle.eo_run.specs.Seen.{Seen}
 use Rattle.eo_run.specs.Watching.{seen_as, passed, Sees, IsShown}
 use Rattle.eo_run.specs.Opening as opening
-use Rattle.eo_run.specs.Opening.{IsNumbered, FoldsHere, BeginsHere, opener_of, run_bytes, LeadsIn, FinishesIn, FailsIn, Told, StopsAs, StillSees, Opens, opens_in, GoesOn, ComesToEnd, IsFailing, IfWhole, IsTaken, IsLeft, TakesPiece, TakesEnd, RunsOpen, RefusesFile, RunsFile, Keeps, as_found}
+use Rattle.eo_run.specs.Opening.{IsNumbered, FoldsHere, BeginsHere, opener_of, run_bytes, LeadsIn, FinishesIn, FailsIn, Told, StillSees, Opens, opens_in, GoesOn, ComesToEnd, IsFailing, IfWhole, IsTaken, IsLeft, TakesPiece, TakesEnd, RunsOpen, RefusesFile, RunsFile, Keeps, as_found}
 use Rattle.eo_session.specs.Numbered.{origin_of, number_of}
 use Rattle.eo_run.specs.Answer.{Denotes, AnswerHasCause, FileHasCause}
 use Rattle.eo_session.specs.Origin as origin
@@ -40,7 +40,7 @@ use Rattle.eo_run.proofs.Pieces.{stops-weaker}
 use Rattle.eo_run.proofs.Numbers.{denotes-here, placed-in, begin-present}
 use Rattle.eo_run.proofs.Watched.{numbered-later, sees-more}
 
--- ---- where the same files are told later
+-- ---- where the same files are known later
 
 pub told-later : (told later : Option Files) (P : Files → Type 0) → later ≡ told → Told later P → Told told P
 told-later told later P same h = λ files k. h files (same ∙ k)
@@ -78,7 +78,7 @@ module _ {S F : Type 0} (told : S → Option F) (open_files : S → List Rest) (
   pub stays-trans : LibraryStays told open_files faults a b → LibraryStays told open_files faults b c → LibraryStays told open_files faults a c
   stays-trans h k = record { same = k.same ∙ h.same; closed = k.closed ∙ h.closed; later = omega (arith, h.later, k.later) }
 
-  -- a call behind a read
+  -- a call after a read
   pub reads-trans : told b ≡ told a → StaysOpen (open_files a) (open_files b) → faults a ≤ faults b → LibraryStays told open_files faults b c → LibraryReads told open_files faults a c
   reads-trans same stays later k = record { same = k.same ∙ same; stays = subst (StaysOpen (open_files a)) (sym k.closed) stays; later = omega (arith, later, k.later) }
 
@@ -86,7 +86,7 @@ pub stays-length : (before after : List Rest) → StaysOpen before after → len
 stays-length [] after h = absurd h
 stays-length (rest ∷ others) after h = ap length h.1
 
--- ---- behind a command, or the commands of a piece
+-- ---- after a command, or the commands of a piece
 
 -- A run leads on from its first point to this one, from which the commands of a file of this number are read.
 module _ {O : Type 0} (tells : O → List notes.Seen → Type 0) (told : Option Files) (s : Source) (old mid now : Point O) (numbered : IsNumbered mid.paths s) (table : now.paths ≡ mid.paths) (included : now.run.included ≡ mid.run.included) (opened : now.run.opened ≡ mid.run.opened)
@@ -103,7 +103,7 @@ module _ {O : Type 0} (tells : O → List notes.Seen → Type 0) (told : Option 
   abbrev Shown : List notes.Seen → Type 0
   Shown = IsShown tells mid.observer now.observer (number_of s.from)
 
-  -- what is accepted behind it, and where the run is then
+  -- what is accepted after it, and where the run is then
   abbrev all_seen : List Seen → List notes.Seen → List Seen
   all_seen seen ms = seen ++ map (seen_as s.path.now) ms
 
@@ -137,7 +137,7 @@ module _ {O : Type 0} (tells : O → List notes.Seen → Type 0) (told : Option 
         sees-now a.0 h.passes h.shown a.1,
       )
 
-  -- what is answered for what is not checked
+  -- the result for what is not checked
   pub stopped-here : (x : Stop) (v : Verdict) → v ≡ opening.stop_verdict x s → IsNumbered now.paths s → ((name : FaultName) (at : Spot) → x ≡ stop.Fault name at → IsRefused from Shown state_before state_now t name at) → Told told (λ files. IsFailing tells files s old now r v)
   stopped-here (stop.Fault name at) v e n h =
       subst (λ (w : Verdict). Told told (λ files. IsFailing tells files s old now r w)) (sym e)
@@ -186,7 +186,7 @@ module _ {O : Type 0} (tells : O → List notes.Seen → Type 0) (told : Option 
       let b = goes-on (λ closes more. Ends end) ms shown h files k seen sees in
       (b.0, b.1, record { runs = λ closes more. b.2.runs closes more }, λ other. b.2.ends true [])
 
--- ---- what is answered for a file that a command names
+-- ---- results for a file that a command names
 
 module _ {O : Type 0} (tells : O → List notes.Seen → Type 0) (told : Option Files) (s : Source) (left : ℕ) (opens : s.opens ≡ suc left) (at : Spot) (name : List ℕ) (w : Point O) where
   by_number : (files : Files) (what : Next) (p : Progress) → opens_in files s at what p ≡ opener_of files (suc left) s.path.now (origin_of s.from) at what p
@@ -280,16 +280,16 @@ module _ {O : Type 0} (tells : O → List notes.Seen → Type 0) (told : Option 
           stops-weaker (RefusesFile files i (progress_at mid seen)) (λ stopped. opens_in files s at (next.Reference name) (progress_at w seen) ≡ Err stopped) (SeesAt tells last) last.paths v
           (λ stopped g. runs-reference files g.0 seen g.1 ∙ g.2) (h files k seen (still seen sees))
 
--- ---- what is answered by how the run of a file ends
+-- ---- results by how the run of a file ends
 
--- a cause that is told stays one
+-- a cause stays one
 rose-grows : (a b m n : ℕ) → a ≤ b → m ≤ n → Rose b m → Rose a n
 rose-grows a b m n l k h =
     let low : min (a + 1) (2 ^ 64 - 1) ≤ min (b + 1) (2 ^ 64 - 1) = le-min (omega (arith, min-le_left (a + 1) (2 ^ 64 - 1), l)) (min-le_right (a + 1) (2 ^ 64 - 1)) in
     let high : min (b + 1) (2 ^ 64 - 1) ≤ m = h in
     omega (arith, low, high, k)
 
-cause-grows : {F : Type 0} (told : Option F) (v : Verdict) (a b m n : ℕ) → a ≤ b → m ≤ n → AnswerHasCause v told b m → AnswerHasCause v told a n
+pub cause-grows : {F : Type 0} (told : Option F) (v : Verdict) (a b m n : ℕ) → a ≤ b → m ≤ n → AnswerHasCause v told b m → AnswerHasCause v told a n
 cause-grows told answer.ReadFault a b m n l k h = rose-grows a b m n l k h
 cause-grows None (answer.Refused fault) a b m n l k h = λ e. rose-grows a b m n l k (h e)
 cause-grows (Some f) (answer.Refused fault) a b m n l k h = tt
@@ -318,7 +318,7 @@ opened-keeps (Ok None) run before mid after s at here grows k =
     record { going = tt; kind = placed-in after s (numbered-later mid after (number_of s.from) s.path.now k.table here); table = extends-trans before mid after grows k.table }
 opened-keeps (Err v) run before mid after s at here grows k = record { going = tt; kind = k.kind; table = extends-trans before mid after grows k.table }
 
--- ---- what is answered for a command at its own place
+-- ---- results for a command at its own place
 
 -- a number that is not zero
 pub one-less : (n : ℕ) → n ≢ 0 → n ≡ suc (n - 1)

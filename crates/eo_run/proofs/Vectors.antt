@@ -7,14 +7,14 @@ use Rattle.eo_run.specs.Printed.{line, verdict_text}
 use Rattle.eo_run.specs.declared.CheckJob.{CheckJob}
 
 -- the files `r.smt2` and `p.eo`
-abbrev files : (reference proof : List ℕ) → Files
+abbrev pub files : (reference proof : List ℕ) → Files
 files reference proof = (codes "r.smt2", reference) ∷ (codes "p.eo", proof) ∷ []
 
-abbrev job : CheckJob
+abbrev pub job : CheckJob
 job = record { include = None; reference = Some (codes "r.smt2"); proof = codes "p.eo"; closed = false }
 
 -- the check of r.smt2 and p.eo with these bytes prints this line
-abbrev Prints : (reference proof text : List ℕ) → Type 0
+abbrev pub Prints : (reference proof text : List ℕ) → Type 0
 Prints reference proof text = verdict_text (verdict (files reference proof) job) ≡ line text
 
 assumed : Prints (line (codes "(assert false)")) (line (codes "(assume @p1 false)")) (codes "correct")
@@ -42,7 +42,7 @@ open_pair : Prints (line (codes "(assert false)")) (line (codes "(") ++ line (co
 unfolding computed
 open_pair = refl
 
--- a token behind the outer pair
+-- a token after the outer pair
 behind_pair : Prints (line (codes "(assert false)")) (codes "()x") (codes "refused F03 ExtraClose p.eo:1:2")
 unfolding computed
 behind_pair = refl
@@ -194,7 +194,7 @@ other_formula : Refuses (codes "(declare-const p Bool)(assume a p)") (codes "ref
 unfolding computed
 other_formula = refl
 
--- a macro stands for its tree, and a `let` for its body
+-- a macro means its tree, and a `let` its body
 macro_formula : Prints (line (codes "(assert false)")) (codes "(define f ((x Bool)) x)(assume a (let ((y (f false))) y))") (codes "correct")
 unfolding computed
 macro_formula = refl

@@ -53,7 +53,7 @@ numbered-later old new i path h e = subst (λ (ps : List (List ℕ)). position (
 
 -- ---- commands of one file
 
--- what comes later stands after it
+-- what comes later is after it
 logged : (path : List ℕ) (seen : List Seen) (ms ns : List notes.Seen) → (seen ++ map (seen_as path) ms) ++ map (seen_as path) ns ≡ seen ++ map (seen_as path) (ms ++ ns)
 logged path seen ms ns = append_assoc seen (map (seen_as path) ms) (map (seen_as path) ns) ∙ ap (λ ks. seen ++ ks) (sym (map-append (seen_as path) ms ns))
 

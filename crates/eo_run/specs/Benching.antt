@@ -1,4 +1,4 @@
--- What a bench answers, and what is due for it.
+-- What a bench returns, and what is due for it.
 use Rattle.std.specs.Prelude.{◌≡◌, ℕ, List, slice_get, IsSome, Ok, ⊤}
 use Rattle.eo_io.specs.Library.{Files}
 use Rattle.eo_run.specs.Answer.{Answers, FileInRange, answer_due}
@@ -17,7 +17,7 @@ use Rattle.eo_run.specs.declared.CheckJob.{CheckJob}
 use Rattle.eo_run.specs.declared.Verdict.{Verdict}
 use Rattle.eo_run.specs.declared.Verdict.TheVariants as answer
 
--- ---- what is answered
+-- ---- results
 
 -- The check is correct, and at its end so many commands were accepted, and so many different trees are alive.
 pub record Counts (files : Files) (job : CheckJob) (commands terms : ℕ) : Type 0 where
@@ -27,19 +27,19 @@ pub record Counts (files : Files) (job : CheckJob) (commands terms : ℕ) : Type
   pub accepted : commands ≡ last.state.commands
   pub alive : terms ≡ live_count last.state
 
--- An answer for a check that is not correct, over files that are all told. The file of a refusal is one of the paths.
+-- A result for a check that is not correct, over files that are all known. The file of a refusal is one of the paths.
 abbrev pub IsOtherEnd : List (List ℕ) → Verdict → Type 0
 IsOtherEnd paths answer.Incomplete = ⊤
 IsOtherEnd paths (answer.Refused fault) = IsSome (slice_get paths fault.place.file)
 IsOtherEnd paths answer.OutOfMemory = ⊤
 IsOtherEnd paths v = ⊥
 
--- The answer is correct just where the verdict of the files is, with the numbers at the end of their run.
+-- The result is correct just where the verdict of the files is, with the numbers at the end of their run.
 abbrev pub AnswersBench : Files → CheckJob → List (List ℕ) → BenchEnd → Type 0
 AnswersBench files job paths (ends.Correct commands terms) = Counts files job commands terms
 AnswersBench files job paths (ends.Other v) = Answers paths v (verdict files job) × IsOtherEnd paths v
 
--- what is answered for the end of a check and the state there
+-- the result for the end of a check and the state there
 abbrev pub counted : CheckEnd → State → BenchEnd
 counted (checks.Correct r) st = ends.Correct st.commands (live_count st)
 counted (checks.Ended v) st = ends.Other v

@@ -16,7 +16,7 @@ loaded (Err stopped) = Refused stopped.refusal
 loaded (Ok p) = Loaded p.state.commands
 
 module _ (files : Files) where
-  -- the place behind the last byte of a file that the job names
+  -- the place after the last byte of a file that the job names
   abbrev pub file_end : List ℕ → Spot
   file_end name = option_map_or (spot_after first_spot) (option_and_then (file_at files) (fold_path [] name)) first_spot
 

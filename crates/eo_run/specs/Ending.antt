@@ -2,8 +2,10 @@
 use Rattle.std.specs.Prelude.{◌≡◌, ℕ, false, List, Option, Some, IfSome, IsSome, Ok, slice_get, bytes_eq, ⊤}
 use Rattle.std.specs.List.{list_any}
 use Rattle.eo_io.specs.Library.{Files}
+use Rattle.eo_io.specs.Paths.{Extends}
 use Rattle.eo_proof.specs.Scopes.{first_false}
 use Rattle.eo_session.specs.Notes as notes
+use Rattle.eo_run.specs.Answer.{AnswerHasCause}
 use Rattle.eo_run.specs.Check.{file_end}
 use Rattle.eo_run.specs.Judging.{IsCheckAnswer}
 use Rattle.eo_run.specs.Opening.{Told}
@@ -35,7 +37,7 @@ pub record IsRefutation (files : Files) (proof : List ℕ) (paths : List (List �
   pub offset : r.end.offset ≡ (file_end files proof).offset
   pub shared : r.shared ≡ list_any (bytes_eq (shown proof)) final.opened
 
--- Where it is correct and files are told, their run ends so.
+-- Where it is correct and files are known, their run ends so.
 abbrev pub RefutesJob : Option Files → (prelude : Option (List ℕ)) → CheckJob → List (List ℕ) → CheckEnd → Type 0
 RefutesJob told prelude job paths (ends.Correct r) = IfSome told (λ files. (final : Progress) × (run_check_after files prelude job ≡ Ok final) × IsRefutation files job.proof paths final r)
 RefutesJob told prelude job paths (ends.Ended v) = ⊤
@@ -45,6 +47,12 @@ abbrev pub IsCheckEnd : List (List ℕ) → CheckEnd → Type 0
 IsCheckEnd paths (ends.Correct r) = IsSome (slice_get paths r.end.file)
 IsCheckEnd paths (ends.Ended answer.Correct) = ⊥
 IsCheckEnd paths (ends.Ended v) = IsCheckAnswer paths v
+
+-- What is known at the end of a check whatever its files hold: why it gave up, that its places are in the table of paths, and that the paths from before keep their numbers.
+pub record KnownAtEnd {F : Type 0} (told : Option F) (before now : ℕ) (old new : List (List ℕ)) (e : CheckEnd) : Type 0 where
+  pub cause : AnswerHasCause (verdict_of e) told before now
+  pub kind : IsCheckEnd new e
+  pub grows : Extends old new
 
 -- ---- the run of a correct check
 

@@ -1,4 +1,4 @@
--- What is answered for the files of a job.
+-- The result for the files of a job.
 use Rattle.std.specs.Prelude.{◌≡◌, ℕ, ◌≤◌, Bool, true, false, List, [], Option, Some, IfSome, IsSome, Result, Ok, Err, slice_get, option_map, ⊤}
 use Rattle.std.specs.Borrow.{Bor}
 use Rattle.eo_base.specs.Checks.{Checked}
@@ -56,13 +56,13 @@ pub record EndsRun (files : Files) (name : List ℕ) (from : Origin) (ran : Ran)
   pub line : IfWhole from (place.line ≡ (file_end files name).line)
   pub offset : IfWhole from (place.offset ≡ (file_end files name).offset)
 
--- It was run to its end, or what is answered for it is told.
+-- It was run to its end, or the result is that of its refusal.
 abbrev pub RunsNamed : {O : Type 0} → (O → List notes.Seen → Type 0) → Option Files → Named → Result Place Verdict → (old new : Point O) → Type 0
 RunsNamed tells told n (Ok place) old new = Told told (λ files. (seen : List Seen) → SeesAt tells old seen → (all : List Seen) × SeesAt tells new all
     × EndsRun files n.name.now (origin_of n.from) (run_of files n (progress_at old seen)) (progress_at new all) new.paths place)
 RunsNamed tells told n (Err v) old new = Told told (λ files. Refuses tells old new v (λ p stopped. run_of files n p ≡ Err stopped))
 
--- the place of its end is in one of the paths, or it is an answer for a run that stops
+-- the place of its end is in one of the paths, or it is a result for a run that stops
 abbrev pub IsPlaced : List (List ℕ) → Result Place Verdict → Type 0
 IsPlaced paths (Ok place) = IsSome (slice_get paths place.file)
 IsPlaced paths (Err v) = IsStop paths v
@@ -89,21 +89,21 @@ RunsPart tells told run result old new = Told told (λ files. Runs tells old new
 
 -- ---- the first byte of a file that the job names
 
--- The answer is that of the refusal, unless memory ran out.
+-- The result is that of the refusal, unless memory ran out.
 abbrev pub StandsFor : List (List ℕ) → Verdict → Refusal → Type 0
 StandsFor paths (answer.Refused fault) refusal = Denotes paths fault refusal
 StandsFor paths answer.OutOfMemory refusal = ⊤
 StandsFor paths v refusal = ⊥
 
--- The job's reference file begins, or its fault stands at its first byte.
+-- The job's reference file begins, or its fault is at its first byte.
 abbrev pub BeginsNamed : List (List ℕ) → (name : List ℕ) → Result (Unit {0}) Verdict → Checked State → (new : State) → Type 0
 BeginsNamed paths name (Ok x) m new = m ≡ Ok new
 BeginsNamed paths name (Err answer.OutOfMemory) m new = ⊤
 BeginsNamed paths name (Err v) m new = (fault : FaultName) × (m ≡ Err fault) × StandsFor paths v (refusal_at (shown name) first_spot fault)
 
--- ---- answers
+-- ---- results
 
--- An answer that a check may give. The file of a refusal is one of the paths.
+-- A result that a check may give. The file of a refusal is one of the paths.
 abbrev pub IsCheckAnswer : List (List ℕ) → Verdict → Type 0
 IsCheckAnswer paths answer.Correct = ⊤
 IsCheckAnswer paths answer.Incomplete = ⊤
@@ -112,7 +112,7 @@ IsCheckAnswer paths (answer.Refused fault) = IsSome (slice_get paths fault.place
 IsCheckAnswer paths answer.ReadFault = ⊤
 IsCheckAnswer paths answer.OutOfMemory = ⊤
 
--- An answer that a load may give.
+-- A result that a load may give.
 abbrev pub IsLoadAnswer : List (List ℕ) → Verdict → Type 0
 IsLoadAnswer paths answer.Correct = ⊥
 IsLoadAnswer paths answer.Incomplete = ⊥
@@ -121,24 +121,24 @@ IsLoadAnswer paths (answer.Refused fault) = IsSome (slice_get paths fault.place.
 IsLoadAnswer paths answer.ReadFault = ⊤
 IsLoadAnswer paths answer.OutOfMemory = ⊤
 
--- the answer is the verdict of the job, where files are told
+-- the result is the verdict of the job, where files are known
 abbrev pub AnswersJob : Option Files → CheckJob → List (List ℕ) → Verdict → Type 0
 AnswersJob told job paths v = IfSome told (λ files. Answers paths v (verdict files job))
 
--- this holds of an answer for a run that ends, or is refused
+-- this holds of a result for a run that ends, or is refused
 abbrev pub IfRun : Verdict → Type 0 → Type 0
 IfRun answer.ReadFault P = ⊤
 IfRun answer.OutOfMemory P = ⊤
 IfRun v P = P
 
--- The answer is the verdict of the proof behind what was read before it, and the observer has seen what was accepted.
+-- The result is the verdict of the proof after what was read before it, and the observer has seen what was accepted.
 abbrev pub AnswersProof : {O : Type 0} → (O → List notes.Seen → Type 0) → Option Files → (proof : List ℕ) → (Files → Progress → Ran) → (old new : Point O) → Verdict → Type 0
 AnswersProof tells told proof run old new v = Told told (λ files. (seen : List Seen) → SeesAt tells old seen
     → Answers new.paths v (checked files proof (run files (progress_at old seen))) × IfRun v (SeesAt tells new (seen_in (run files (progress_at old seen)))))
 
 -- ---- an observed check
 
--- The answer is the verdict of the job behind the prelude.
+-- The result is the verdict of the job after the prelude.
 abbrev pub AnswersObserved : Option Files → (prelude : Option (List ℕ)) → CheckJob → List (List ℕ) → Verdict → Type 0
 AnswersObserved told prelude job paths v = IfSome told (λ files. Answers paths v (checked files job.proof (run_check_after files prelude job)))
 

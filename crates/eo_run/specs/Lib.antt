@@ -15,3 +15,4 @@ pub mod Refutation
 pub mod Bench
 pub mod Benching
 pub mod Loading
+pub mod SingleNames

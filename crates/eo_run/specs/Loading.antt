@@ -1,4 +1,4 @@
--- What a load answers, and one whose session is kept.
+-- What a load returns, and one whose session is kept.
 use Rattle.std.specs.Prelude.{◌≡◌, ℕ, false, List, [], Option, Some, IsSome, Result, Ok, Err, slice_get, ⊤}
 use Rattle.eo_base.specs.declared.Place.{Place}
 use Rattle.eo_io.specs.Library.{Files}
@@ -17,7 +17,7 @@ use Rattle.eo_run.specs.declared.LoadEnd.{LoadEnd}
 use Rattle.eo_run.specs.declared.LoadEnd.TheVariants as ends
 use Rattle.eo_run.specs.declared.Verdict.{Verdict}
 
--- From its beginning, where nothing was accepted, the file is run to its end, which is this place, or what is answered for it is told.
+-- From its beginning, where nothing was accepted, the file is run to its end, which is this place, or the result is that of its refusal.
 abbrev pub RunsLoad : {O : Type 0} → (O → List notes.Seen → Type 0) → Option Files → (name : List ℕ) → Result Place Verdict → (old new : Point O) → Type 0
 RunsLoad tells told name (Ok place) old new =
     Told told (λ files. SeesAt tells old [] → (all : List Seen) × SeesAt tells new all × EndsRun files name Signature (run_load files name) (progress_at new all) new.paths place)
@@ -34,22 +34,22 @@ pub record EndsLoad (files : Files) (name : List ℕ) (st : State) (paths : List
   pub line : place.line ≡ (file_end files name).line
   pub offset : place.offset ≡ (file_end files name).offset
 
--- The session is in the state at the end of the file, or what is answered for its run is told.
+-- The session is in the state at the end of the file, or the result is that of its refusal.
 abbrev pub AnswersSession : Option Files → (name : List ℕ) → List (List ℕ) → LoadEnd → Type 0
 AnswersSession told name paths (ends.Ready session place) = Told told (λ files. EndsLoad files name session.state paths place)
 AnswersSession told name paths (ends.Ended v) = Told told (λ files. StopsAs (λ stopped. run_load files name ≡ Err stopped) (λ seen. ⊤) paths v)
 
--- The session goes on, and the place is in one of the paths, or it is an answer for a run that stops.
+-- The session goes on, and the place is in one of the paths, or it is a result for a run that stops.
 abbrev pub IsLoadEnd : List (List ℕ) → LoadEnd → Type 0
 IsLoadEnd paths (ends.Ready session place) = (session.ended ≡ false) × IsSome (slice_get paths place.file)
 IsLoadEnd paths (ends.Ended v) = IsStop paths v
 
--- why a load gives up, and why a file is absent where the library tells no files
+-- why a load gives up, and why a file is absent where the library's files are not known
 abbrev pub LoadHasCause : {F : Type 0} → LoadEnd → Option F → (before now : ℕ) → Type 0
 LoadHasCause (ends.Ready session place) told before now = ⊤
 LoadHasCause (ends.Ended v) told before now = AnswerHasCause v told before now
 
--- what is answered, with the session of a run that ends so
+-- what is returned, with the session of a run that ends so
 abbrev pub as_loaded : Standing → Result Place Verdict → LoadEnd
 as_loaded session (Ok place) = ends.Ready session place
 as_loaded session (Err v) = ends.Ended v

@@ -1,4 +1,4 @@
--- What the run of a file, with the files that its commands open, does to a run, where files are told.
+-- What the run of a file, with the files that its commands open, does to a run, where files are known.
 use Rattle.std.specs.Prelude.{◌≡◌, ◌≢◌, ℕ, zero, suc, ◌+◌, ◌-◌, ◌≤◌, ◌<◌, Bool, true, false, List, [], ◌∷◌, length, slice_get, position, bytes_eq, IsSome, Option, Some, None, Result, Ok, Err, OnOk, IfErr, ⊤}
 use Rattle.eo_base.specs.Checks.{Checked}
 use Rattle.eo_base.specs.declared.FaultName.{FaultName}
@@ -54,13 +54,13 @@ FailsIn files s old r stopped = Fails (opener_of files s.opens) s.path.now (orig
 abbrev pub FinishesIn : Files → Source → (old new : Progress) → Continuation → Type 0
 FinishesIn files s old new r = Finishes (opener_of files s.opens) s.path.now (origin_of s.from) old new r
 
--- where files are told
+-- where files are known
 abbrev pub Told : Option Files → (Files → Type 0) → Type 0
 Told told P = (files : Files) → told ≡ Some files → P files
 
 -- ---- what is returned for a run that stops
 
--- The run ends with the refusal that the verdict stands for, and this holds of the commands that were accepted before.
+-- The run ends with the refusal that the verdict represents, and this holds of the commands that were accepted before.
 abbrev pub StopsAs : (Stopped → Type 0) → (List Seen → Type 0) → List (List ℕ) → Verdict → Type 0
 StopsAs Stops Holds paths (answer.Refused fault) = (stopped : Stopped) × Stops stopped × Denotes paths fault stopped.refusal × Holds stopped.seen
 StopsAs Stops Holds paths answer.ReadFault = ⊤
@@ -237,13 +237,13 @@ module _ {O : Type 0} (tells : O → List notes.Seen → Type 0) where
       × (run_bytes files s bytes (progress_at old seen) ≡ Ok (progress_at new all)) × IfWhole (origin_of s.from) (at ≡ spot_after first_spot bytes)
   RunsBytes files s (Err v) old new bytes = Refuses old new v (λ p stopped. run_bytes files s bytes p ≡ Err stopped)
 
-  -- the file opened last is run to its end, where it is told
+  -- the file opened last is run to its end, where its rest is known
   abbrev pub RunsOpen : Option Files → Source → Result Spot Verdict → (old new : Point O) → List Rest → Type 0
   RunsOpen told s result old new [] = ⊥
   RunsOpen told s result old new (None ∷ others) = ⊤
   RunsOpen told s result old new (Some bytes ∷ others) = Told told (λ files. RunsBytes files s result old new bytes)
 
-  -- The file of the source is absent, or it is run to its end, or the verdict of its refusal is told.
+  -- The file of the source is absent, or it is run to its end, or the result is the verdict of its refusal.
   abbrev pub RunsFile : Option Files → Source → Result (Option Spot) Verdict → (old new : Point O) → Type 0
   RunsFile told s (Ok None) old new = Told told (λ files. (file_at files s.path.now ≡ None) × StillSees old new)
   RunsFile told s (Ok (Some at)) old new = Told told (λ files. (bytes : List ℕ) × (file_at files s.path.now ≡ Some bytes) × RunsBytes files s (Ok at) old new bytes)

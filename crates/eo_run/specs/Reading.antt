@@ -19,7 +19,7 @@ use Rattle.eo_session.specs.Origin.{Origin}
 use Rattle.eo_session.specs.Origin as origin
 use Rattle.eo_session.specs.declared.Next.{Next}
 use Rattle.eo_session.specs.declared.Next.TheVariants as next
-use Rattle.eo_run.specs.declared.reading.Asked.{Asked}
+use Rattle.eo_run.specs.declared.reading.FileRequest.{FileRequest}
 use Rattle.eo_run.specs.declared.reading.Stop.{Stop}
 use Rattle.eo_run.specs.declared.reading.Stop.TheVariants as stop
 
@@ -96,7 +96,7 @@ IsOfText (Err stop.Memory) = ⊤
 
 -- ---- libraries
 
--- what is told stays, the same files are open, and faults are counted on
+-- what is known of the files stays, the same files are open, and faults are counted on
 pub record LibraryStays {S F : Type 0} (told : S → Option F) (open_files : S → List Rest) (faults : S → ℕ) (old new : S) : Type 0 where
   pub same : told new ≡ told old
   pub closed : open_files new ≡ open_files old
@@ -155,7 +155,7 @@ module _ (from : Origin) (Shown : List notes.Seen → Type 0) (old new : State) 
     pub waiting : IsWaiting limits d
     pub here : (here_of d).offset ≤ (here_of c).offset + length piece
 
-  pub record IsAsked (c d : Collecting) (piece : List ℕ) (a : Asked) : Type 0 where
+  pub record IsAsked (c d : Collecting) (piece : List ℕ) (a : FileRequest) : Type 0 where
     pub passes : List notes.Seen
     pub shown : Shown passes
     pub size : a.used ≤ length piece
@@ -172,7 +172,7 @@ module _ (from : Origin) (Shown : List notes.Seen → Type 0) (old new : State) 
 
   -- the end
 
-  pub record IsAskedAtEnd (c d : Collecting) (a : Asked) : Type 0 where
+  pub record IsAskedAtEnd (c d : Collecting) (a : FileRequest) : Type 0 where
     pub passes : List notes.Seen
     pub shown : Shown passes
     pub asks : AsksFor from old (at_end c) passes new (at_end d) a.next a.at
@@ -188,7 +188,7 @@ module _ (from : Origin) (Shown : List notes.Seen → Type 0) (old new : State) 
     pub live : IsLive d
 
 -- A piece is fed to a collector, and each command that it makes whole is checked, up to one that asks for something.
-abbrev pub ChecksPiece : Origin → (List notes.Seen → Type 0) → Result (Option Asked) Stop → (old new : State) → (c d : Collecting) → List ℕ → Type 0
+abbrev pub ChecksPiece : Origin → (List notes.Seen → Type 0) → Result (Option FileRequest) Stop → (old new : State) → (c d : Collecting) → List ℕ → Type 0
 ChecksPiece from Shown (Ok None) old new c d piece = IsFed from Shown old new c d piece
 ChecksPiece from Shown (Ok (Some a)) old new c d piece = IsAsked from Shown old new c d piece a
 ChecksPiece from Shown (Err (stop.Fault name at)) old new c d piece = IsRefused from Shown old new (behind c piece) name at
@@ -196,7 +196,7 @@ ChecksPiece from Shown (Err stop.ReadFault) old new c d piece = ⊤
 ChecksPiece from Shown (Err stop.Memory) old new c d piece = ⊤
 
 -- The file has ended, but for the commands that its end makes whole.
-abbrev pub ChecksEnd : Origin → (List notes.Seen → Type 0) → Result (Option Asked) Stop → (old new : State) → (c d : Collecting) → Type 0
+abbrev pub ChecksEnd : Origin → (List notes.Seen → Type 0) → Result (Option FileRequest) Stop → (old new : State) → (c d : Collecting) → Type 0
 ChecksEnd from Shown (Ok None) old new c d = IsEnded from Shown old new c d
 ChecksEnd from Shown (Ok (Some a)) old new c d = IsAskedAtEnd from Shown old new c d a
 ChecksEnd from Shown (Err (stop.Fault name at)) old new c d = IsRefused from Shown old new (at_end c) name at

@@ -15,7 +15,7 @@ pub record Refutes (files : Files) (job : CheckJob) : Type 0 where
   pub ends : run_check files job ≡ Ok final
   pub derives : Derives final.state.signature final.state.assertions (truth false)
 
--- Where the answer is that the proof is correct, and files are told, their run refutes what was asserted.
+-- Where the result is that the proof is correct, and files are known, their run refutes what was asserted.
 abbrev pub CorrectRefutes : Option Files → CheckJob → Verdict → Type 0
 CorrectRefutes told job v = v ≡ answer.Correct → IfSome told (λ files. Refutes files job)
 

@@ -87,15 +87,15 @@ or_fault p path at name None = Err (stopped_at p path at name)
 
 -- ---- the commands of a file
 
--- A file counts with its bytes up to the limit, behind which it is too long.
+-- The bytes of a file count up to the limit, after which it is too long.
 abbrev pub commands_of : (proof : Bool) → List ℕ → Reads
 commands_of proof bytes = reads_file limits proof bytes
 
--- What is done behind a command: the path of its file, its origin and its place, and what it asks for.
+-- What is done after a command: the path of its file, its origin and its place, and what it asks for.
 abbrev pub Opener : Type 0
 Opener = List ℕ → Origin → Spot → Next → Progress → Ran
 
--- nothing of the file is read behind this
+-- nothing of the file is read after this
 abbrev pub is_exit : Next → Bool
 is_exit next.Done = false
 is_exit (next.Include path) = false

@@ -28,7 +28,7 @@ act_by st from (Err fault) = Other
 unfoldable pub noted : State → Origin → Sexp → Act
 noted st from s = act_by st from (command_of (is_in_reference from) s)
 
--- An accepted command: its bytes, the path of its file and its place there, how many commands were accepted before it, whether it stands in a reference file, how many scopes are open before it, and what it does.
+-- An accepted command: its bytes, the path of its file and its place there, how many commands were accepted before it, whether it is in a reference file, how many scopes are open before it, and what it does.
 pub record Seen : Type 0 where
   pub bytes : List ℕ
   pub file : List ℕ

@@ -1,4 +1,4 @@
-//! A check of a proof that is made in memory, which tells how fast the program is.
+//! A check of a proof that is made in memory, which shows how fast the program is.
 ghost use Rattle.std.specs.Prelude.{◌≡◌, ◌++◌, [], false, IfOk, OnOk, codes, string_bytes};
 ghost use Rattle.eo_io.specs.Stored.{with_file};
 ghost use Rattle.eo_run.specs.Bench.{bench_files, bench_job, bench_reference, bench_proof};
@@ -8,13 +8,13 @@ ghost use Rattle.eo_run.specs.Ending.{IfCorrect};
 
 use crate::checking::{check_job, first_run};
 use crate::{BenchEnd, CheckEnd, CheckJob, Verdict};
-use eo_base::{Text, both};
+use eo_base::{Text, ok_with};
 use eo_io::{HonestLibrary, Paths};
 use eo_session::{Nobody, Session};
 use std::alloc::{AllocError, Global};
 use std::fmt::Write;
 
-/// The include file: `at` holds of the number behind each number of which it holds.
+/// The include file: `at` holds of the number after each number of which it holds.
 const SIGNATURE: &[u8] = b"(declare-const Int Type)\n\
 (declare-consts <numeral> Int)\n\
 (declare-const not (-> Bool Bool))\n\
@@ -108,7 +108,7 @@ fn files_of(alloc: Global, n: u32) -> Result<HonestLibrary, AllocError>
     ensures none_open { IfOk result (λ files. files.unread ≡ []) }
 {
     let mut first = HonestLibrary::new(alloc)?;
-    let ((), files) = both(add_files(alloc, n, &mut first), first)?;
+    let ((), files) = ok_with(add_files(alloc, n, &mut first), first)?;
     Ok(files)
 }
 
@@ -176,7 +176,7 @@ fn add_clause(text: &mut String, k: u32) -> Result<(), AllocError>
     writeln!(text, "(step @h{k} :rule hop :args ({k}))")
 }
 
-/// Adds the step that concludes the fact behind a hop.
+/// Adds the step that concludes the fact after a hop.
 fn add_fact(text: &mut String, k: u32, next: u64) -> Result<(), AllocError>
     ensures { OnOk result (string_bytes text.new ≡ string_bytes text.old ++ hop_fact k next) }
 {

@@ -3,7 +3,7 @@ ghost use Rattle.std.specs.Prelude.{◌≡◌, [], false, None, Some, IfOk, IfEr
 ghost use Rattle.std.specs.List.{list_any};
 ghost use Rattle.eo_proof.specs.Scopes.{first_false};
 ghost use Rattle.eo_run.specs.Answer.{AnswerHasCause};
-ghost use Rattle.eo_run.specs.Ending.{verdict_of, IsCheckEnd, LeavesLast, RefutesJob};
+ghost use Rattle.eo_run.specs.Ending.{verdict_of, KnownAtEnd, LeavesLast, RefutesJob};
 ghost use Rattle.eo_run.specs.Judging.{IsCheckAnswer, IsLoadAnswer, IsPlaced, RunsNamed, RunsPart, AnswersJob, AnswersProof, AnswersLoad};
 ghost use Rattle.eo_run.specs.Judging.{before_files, run_job, run_after, given, opened_after, AnswersObserved, SeesJob};
 ghost use Rattle.eo_run.specs.Judging.{MayRun, StandsFor, BeginsNamed};
@@ -19,10 +19,10 @@ ghost use Rattle.eo_io.specs.Paths.{fold_path, Extends};
 ghost use Rattle.eo_sexp.specs.Texts.{first_spot};
 
 use crate::laws::soundness_law;
-use crate::opening::{OPENS, Run, Source, check_file, refused};
+use crate::opening::{OPENS, Run, Source, check_file, refusal_at};
 use crate::prelude::check_prelude;
 use crate::{CheckEnd, CheckJob, Refutation, Verdict};
-use eo_base::{Fault, FaultName, Place, Text, both};
+use eo_base::{Fault, FaultName, Place, Text, ok_with};
 use eo_io::{Library, PathRefused, Paths, fold_path};
 use eo_session::{EndAnswer, Nobody, Observer, Origin, Refused, Session};
 use eo_sexp::Spot;
@@ -60,8 +60,8 @@ pub(crate) struct Named<'a> {
 /// - `Refused` with a fault of the text, at its place: `BadByte`, `Unclosed`, `ExtraClose`,
 ///   `TokenLong`, `CommandLong`, `Nesting`, `Width` or `FileLong`, once each command before it is
 ///   accepted.
-/// - `Refused` at a command's first byte, with the fault that [`Session::command`] answers.
-/// - `Refused` behind the last byte of the proof, with `ScopeOpen`: a scope is open,
+/// - `Refused` at a command's first byte, with the fault that [`Session::command`] returns.
+/// - `Refused` after the last byte of the proof, with `ScopeOpen`: a scope is open,
 ///   `NoReference`: there is no reference file, or `NoRefutation`: `false` is no fact.
 /// - `Incomplete`: none of these, but a step used a rule that is marked as unproved.
 /// - `Correct`: none of these. Then `false` is derivable from what the reference file asserts, by the
@@ -88,7 +88,7 @@ pub fn check_files<L: Library>(
     ensures stays { LibraryStays L.told L.open_files L.faults files.old files.new }
 {
     soundness_law();
-    match check_whole(alloc, None, job, files, paths, &mut Nobody) {
+    match check_observed(alloc, None, job, files, paths, &mut Nobody) {
         CheckEnd::Correct(_) => Verdict::Correct,
         CheckEnd::Ended(verdict) => verdict,
     }
@@ -121,31 +121,7 @@ pub fn check_observed<L: Library, O: Observer>(
     ensures verdict { AnswersObserved (L.told files.old) (given prelude.entry) job.now paths.new (verdict_of result) }
     ensures refutes { RefutesJob (L.told files.old) (given prelude.entry) job.now paths.new result }
     ensures sees { SeesJob O.tells observer.new (L.told files.old) (given prelude.entry) job.now paths.new (verdict_of result) }
-    ensures cause { AnswerHasCause (verdict_of result) (L.told files.old) (L.faults files.old) (L.faults files.new) }
-    ensures kind { IsCheckEnd paths.new result }
-    ensures grows { Extends paths.old paths.new }
-    ensures stays { LibraryStays L.told L.open_files L.faults files.old files.new }
-{
-    check_whole(alloc, prelude, job, files, paths, observer)
-}
-
-/// The same by a run of its own.
-fn check_whole<L: Library, O: Observer>(
-    alloc: Global,
-    prelude: Option<&[u8]>,
-    job: &CheckJob,
-    files: &mut L,
-    paths: &mut Paths,
-    observer: &mut O,
-) -> CheckEnd
-    requires none_open { L.open_files files.old ≡ [] }
-    requires nothing_seen { O.tells observer.old [] }
-    ensures verdict { AnswersObserved (L.told files.old) (given prelude.entry) job.now paths.new (verdict_of result) }
-    ensures refutes { RefutesJob (L.told files.old) (given prelude.entry) job.now paths.new result }
-    ensures sees { SeesJob O.tells observer.new (L.told files.old) (given prelude.entry) job.now paths.new (verdict_of result) }
-    ensures cause { AnswerHasCause (verdict_of result) (L.told files.old) (L.faults files.old) (L.faults files.new) }
-    ensures kind { IsCheckEnd paths.new result }
-    ensures grows { Extends paths.old paths.new }
+    ensures end { KnownAtEnd (L.told files.old) (L.faults files.old) (L.faults files.new) paths.old paths.new result }
     ensures stays { LibraryStays L.told L.open_files L.faults files.old files.new }
 {
     let Ok(mut run) = first_run(alloc, job) else {
@@ -172,9 +148,7 @@ fn check_after<L: Library, O: Observer>(
         (point run.old observer.old paths.old) (point run.new observer.new paths.new) (verdict_of result) }
     ensures last { LeavesLast O.tells (L.told files.old) job.now.proof (λ f. run_after f (given prelude.entry) job.now) result
         (point run.old observer.old paths.old) (point run.new observer.new paths.new) }
-    ensures cause { AnswerHasCause (verdict_of result) (L.told files.old) (L.faults files.old) (L.faults files.new) }
-    ensures kind { IsCheckEnd paths.new result }
-    ensures grows { Extends paths.old paths.new }
+    ensures end { KnownAtEnd (L.told files.old) (L.faults files.old) (L.faults files.new) paths.old paths.new result }
     ensures stays { LibraryStays L.told L.open_files L.faults files.old files.new }
 {
     match check_first(alloc, prelude, files, run, paths, observer) {
@@ -223,9 +197,7 @@ pub(crate) fn check_job<L: Library, O: Observer>(
         (point run.new observer.new paths.new) (verdict_of result) }
     ensures last { LeavesLast O.tells (L.told files.old) job.now.proof (λ f. run_job f job.now) result
         (point run.old observer.old paths.old) (point run.new observer.new paths.new) }
-    ensures cause { AnswerHasCause (verdict_of result) (L.told files.old) (L.faults files.old) (L.faults files.new) }
-    ensures kind { IsCheckEnd paths.new result }
-    ensures grows { Extends paths.old paths.new }
+    ensures end { KnownAtEnd (L.told files.old) (L.faults files.old) (L.faults files.new) paths.old paths.new result }
     ensures stays { LibraryStays L.told L.open_files L.faults files.old files.new }
 {
     match check_before(alloc, job, files, run, paths, observer) {
@@ -390,9 +362,7 @@ fn check_proof<L: Library, O: Observer>(
         (point run.new observer.new paths.new) (verdict_of result) }
     ensures last { LeavesLast O.tells (L.told files.old) name.now (λ f. run_proof f name.now) result (point run.old observer.old paths.old)
         (point run.new observer.new paths.new) }
-    ensures cause { AnswerHasCause (verdict_of result) (L.told files.old) (L.faults files.old) (L.faults files.new) }
-    ensures kind { IsCheckEnd paths.new result }
-    ensures grows { Extends paths.old paths.new }
+    ensures end { KnownAtEnd (L.told files.old) (L.faults files.old) (L.faults files.new) paths.old paths.new result }
     ensures stays { LibraryStays L.told L.open_files L.faults files.old files.new }
 {
     let named = Named {
@@ -435,7 +405,7 @@ fn correct_end(run: &Run, paths: &Paths, end: Place) -> Refutation
 /// Runs a signature file, with the files that it includes and the reference file that it names.
 ///
 /// `Loaded`: it is accepted, with how many commands. The refusals are those of [`check_files`], but
-/// for those behind the last byte of a proof. No file of the library is open, before or after.
+/// for those after the last byte of a proof. No file of the library is open, before or after.
 pub fn load_files<L: Library>(
     alloc: Global,
     file: &Text,
@@ -510,7 +480,7 @@ pub(crate) fn load_to_end<L: Library, O: Observer>(
 }
 
 /// Reads a file that the job names and checks its commands, with those of the files that they open.
-/// Answers the place behind its last byte. At its first byte: `BadPath`: its path is none;
+/// Returns the place after its last byte. At its first byte: `BadPath`: its path is none;
 /// `FileAbsent`: it is not there.
 fn check_named<L: Library, O: Observer>(
     alloc: Global,
@@ -574,7 +544,7 @@ fn check_path<L: Library, O: Observer>(
             line: at.line,
             offset: at.offset,
         }),
-        None => Err(refused(FaultName::FileAbsent, &source, START)),
+        None => Err(refusal_at(FaultName::FileAbsent, &source, START)),
     }
 }
 
@@ -599,7 +569,7 @@ pub(crate) fn first_run(alloc: Global, job: &CheckJob) -> Result<Run, AllocError
 fn new_run(alloc: Global, included: Paths, closed: bool) -> Result<Run, AllocError>
     ensures { IfOk result (λ r. Begins r (begun (first_state closed) included)) }
 {
-    let (session, included) = both(Session::new(alloc, closed), included)?;
+    let (session, included) = ok_with(Session::new(alloc, closed), included)?;
     Ok(Run {
         session,
         included,
@@ -612,7 +582,7 @@ fn first_included(alloc: Global, job: &CheckJob) -> Result<Paths, AllocError>
     ensures { IfOk result (λ paths. paths ≡ (first_progress job.now).included) }
 {
     let mut first = Paths::new(alloc);
-    let ((), included) = both(add_first(alloc, job, &mut first), first)?;
+    let ((), included) = ok_with(add_first(alloc, job, &mut first), first)?;
     Ok(included)
 }
 
@@ -638,7 +608,7 @@ fn first_of(alloc: Global, file: &Text) -> Result<Paths, AllocError>
     ensures { IfOk result (λ paths. paths ≡ with_folded [] (Some file.now)) }
 {
     let mut first = Paths::new(alloc);
-    let ((), included) = both(add_folded(alloc, &mut first, file.as_bytes()), first)?;
+    let ((), included) = ok_with(add_folded(alloc, &mut first, file.as_bytes()), first)?;
     Ok(included)
 }
 

@@ -19,7 +19,7 @@ pub use checking::{check_files, check_observed, load_files};
 use eo_base::{Fault, Place, Text};
 use eo_session::Session;
 pub use eo_session::{Act, Note, Numbers, Observer, StepNote};
-pub use laws::soundness_law;
+pub use laws::{single_names_law, soundness_law};
 pub use loading::load_session;
 pub use printing::{print_bench, print_line, print_verdict};
 
@@ -36,7 +36,7 @@ pub struct CheckJob {
     pub closed: bool,
 }
 
-/// What a check or a load answers.
+/// What a check or a load returns.
 #[derive(Clone, Copy, Debug, PartialEq, Eq)]
 pub enum Verdict {
     /// The proof is correct.
@@ -75,16 +75,16 @@ pub struct Refutation {
     pub shared: bool,
 }
 
-/// What a load answers whose session is kept.
+/// What a load returns whose session is kept.
 #[derive(Drop)]
 pub enum LoadEnd {
     /// The file is accepted, and the session is in the state at its end, which is this place.
     Ready { session: Session, end: Place },
-    /// It is not accepted: what a load answers, but never that it is loaded.
+    /// It is not accepted: what a load returns, but never that it is loaded.
     Ended(Verdict),
 }
 
-/// What a bench answers.
+/// What a bench returns.
 #[derive(Clone, Copy, Debug, PartialEq, Eq)]
 pub enum BenchEnd {
     /// Its check is correct, with so many accepted commands, and so many terms that are alive at

@@ -16,7 +16,7 @@ ghost use Rattle.eo_run.specs.Progress.{point};
 ghost use Rattle.eo_run.specs.Reading.{LibraryStays, LibraryReads};
 
 use crate::Verdict;
-use crate::reading::{Stop, check_end, check_piece, exits};
+use crate::reading::{Stop, check_end, check_piece, is_exit};
 use eo_base::{Fault, FaultName, Place, Text, limits};
 use eo_io::{Got, Library, Opened, PathRefused, Paths, fold_path};
 use eo_session::{Next, Observer, Origin, Refused, Session};
@@ -77,13 +77,16 @@ pub(crate) fn check_file<L: Library, O: Observer>(
         Opened::Failed => Err(Verdict::ReadFault),
         Opened::Ready => {
             let end = check_open(alloc, source, files, run, paths, observer);
-            closed(files, end)
+            close_file(files, end)
         }
     }
 }
 
 /// Closes the file opened last, whose run ends so.
-fn closed<L: Library>(files: &mut L, end: Result<Spot, Verdict>) -> Result<Option<Spot>, Verdict>
+fn close_file<L: Library>(
+    files: &mut L,
+    end: Result<Spot, Verdict>,
+) -> Result<Option<Spot>, Verdict>
     requires { L.open_files files.old ≢ [] }
     ensures is { result ≡ as_found end }
     ensures same { L.told files.new ≡ L.told files.old }
@@ -171,7 +174,7 @@ fn check_pieces<L: Library, O: Observer>(
             if take_piece(
                 alloc, source, collector, counted, files, run, paths, observer,
             )? {
-                return Err(refused(FaultName::FileLong, source, collector.here()));
+                return Err(refusal_at(FaultName::FileLong, source, collector.here()));
             }
             return Ok(collector.here());
         }
@@ -217,10 +220,10 @@ pub(crate) fn take_piece<L: Library, O: Observer>(
     let mut rest = piece;
     'commands: loop {
         match check_piece(collector, source.from, &mut run.session, observer, rest) {
-            Err(stop) => return Err(stopped(stop, source)),
+            Err(stop) => return Err(verdict_of_stop(stop, source)),
             Ok(None) => return Ok(true),
             Ok(Some(asked)) => {
-                let ends = exits(&asked.next);
+                let ends = is_exit(&asked.next);
                 open_next(
                     alloc, source, asked.next, asked.at, files, run, paths, observer,
                 )?;
@@ -264,10 +267,10 @@ pub(crate) fn check_rest<L: Library, O: Observer>(
 {
     'atoms: loop {
         match check_end(collector, source.from, &mut run.session, observer) {
-            Err(stop) => return Err(stopped(stop, source)),
+            Err(stop) => return Err(verdict_of_stop(stop, source)),
             Ok(None) => return Ok(collector.here()),
             Ok(Some(asked)) => {
-                let ends = exits(&asked.next);
+                let ends = is_exit(&asked.next);
                 open_next(
                     alloc, source, asked.next, asked.at, files, run, paths, observer,
                 )?;
@@ -304,7 +307,7 @@ fn open_next<L: Library, O: Observer>(
     }
     match next {
         Next::Include(name) => {
-            let file = folded(alloc, source, &name, at)?;
+            let file = fold_named(alloc, source, &name, at)?;
             include(
                 alloc,
                 source,
@@ -317,7 +320,7 @@ fn open_next<L: Library, O: Observer>(
             )
         }
         Next::Reference(name) => {
-            let file = folded(alloc, source, &name, at)?;
+            let file = fold_named(alloc, source, &name, at)?;
             refer(
                 alloc,
                 source,
@@ -358,7 +361,7 @@ fn include<L: Library, O: Observer>(
         return Ok(());
     }
     if source.opens == 1 {
-        return Err(refused(FaultName::IncludeDepth, source, at));
+        return Err(refusal_at(FaultName::IncludeDepth, source, at));
     }
     let Ok(()) = count_included(run, file) else {
         return Err(Verdict::OutOfMemory);
@@ -368,7 +371,7 @@ fn include<L: Library, O: Observer>(
     };
     let inner = included_in(source, file, number);
     let end = check_file(alloc, &inner, files, run, paths, observer);
-    opened(end, source, at)
+    verdict_of_inner(end, source, at)
 }
 
 /// Whether this file counts as included.
@@ -423,7 +426,7 @@ fn refer<L: Library, O: Observer>(
     ensures keeps { Keeps result run.new paths.old paths.new }
     ensures stays { LibraryStays L.told L.open_files L.faults files.old files.new }
 {
-    begin(run, source, file, at)?;
+    begin_reference_at(run, source, file, at)?;
     let Ok(number) = paths.add(file) else {
         return Err(Verdict::OutOfMemory);
     };
@@ -434,23 +437,32 @@ fn refer<L: Library, O: Observer>(
         opens: 0,
     };
     let end = check_file(alloc, &reference, files, run, paths, observer);
-    opened(end, source, at)
+    verdict_of_inner(end, source, at)
 }
 
 /// What is returned for a command at this place that names a file, by how the run of the file ends.
-fn opened(end: Result<Option<Spot>, Verdict>, source: &Source<'_>, at: Spot) -> Result<(), Verdict>
+fn verdict_of_inner(
+    end: Result<Option<Spot>, Verdict>,
+    source: &Source<'_>,
+    at: Spot,
+) -> Result<(), Verdict>
     ensures { result ≡ opened_at end source.now at }
 {
     match end {
         Ok(Some(_)) => Ok(()),
-        Ok(None) => Err(refused(FaultName::FileAbsent, source, at)),
+        Ok(None) => Err(refusal_at(FaultName::FileAbsent, source, at)),
         Err(stop) => Err(stop),
     }
 }
 
 /// Begins the reference file that a command at this place names. It counts as opened, and not as
 /// included.
-fn begin(run: &mut Run, source: &Source<'_>, file: &[u8], at: Spot) -> Result<(), Verdict>
+fn begin_reference_at(
+    run: &mut Run,
+    source: &Source<'_>,
+    file: &[u8],
+    at: Spot,
+) -> Result<(), Verdict>
     requires going { run.old.session.ended ≡ false }
     ensures going { OnOk result (run.new.session.ended ≡ false) }
     ensures included { OnOk result (run.new.included ≡ run.old.included) }
@@ -459,7 +471,7 @@ fn begin(run: &mut Run, source: &Source<'_>, file: &[u8], at: Spot) -> Result<()
 {
     match run.session.begin_reference() {
         Ok(()) => {}
-        Err(Refused::Fault(name)) => return Err(refused(name, source, at)),
+        Err(Refused::Fault(name)) => return Err(refusal_at(name, source, at)),
         Err(Refused::Ended) => unreachable!(),
         Err(Refused::Memory(_)) => return Err(Verdict::OutOfMemory),
     }
@@ -471,29 +483,29 @@ fn begin(run: &mut Run, source: &Source<'_>, file: &[u8], at: Spot) -> Result<()
 
 /// The path of the file that is named here, seen from this file. `BadPath` at this place: it is
 /// none.
-fn folded(alloc: Global, source: &Source<'_>, name: &Text, at: Spot) -> Result<Text, Verdict>
+fn fold_named(alloc: Global, source: &Source<'_>, name: &Text, at: Spot) -> Result<Text, Verdict>
     ensures { FoldsHere source.now at name.now result }
 {
     match fold_path(alloc, source.path, name.as_bytes()) {
         Ok(file) => Ok(file),
-        Err(PathRefused::Bad) => Err(refused(FaultName::BadPath, source, at)),
+        Err(PathRefused::Bad) => Err(refusal_at(FaultName::BadPath, source, at)),
         Err(PathRefused::Memory(_)) => Err(Verdict::OutOfMemory),
     }
 }
 
 /// The verdict of a file that is not read to its end.
-fn stopped(stop: Stop, source: &Source<'_>) -> Verdict
+fn verdict_of_stop(stop: Stop, source: &Source<'_>) -> Verdict
     ensures { result ≡ stop_verdict stop source.now }
 {
     match stop {
-        Stop::Fault { name, at } => refused(name, source, at),
+        Stop::Fault { name, at } => refusal_at(name, source, at),
         Stop::ReadFault => Verdict::ReadFault,
         Stop::Memory => Verdict::OutOfMemory,
     }
 }
 
 /// The verdict of a fault at a place of this file.
-pub(crate) fn refused(name: FaultName, source: &Source<'_>, at: Spot) -> Verdict
+pub(crate) fn refusal_at(name: FaultName, source: &Source<'_>, at: Spot) -> Verdict
     ensures { result ≡ refused_at name source.now at }
 {
     Verdict::Refused(Fault {

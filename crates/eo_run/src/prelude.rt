@@ -12,7 +12,7 @@ ghost use Rattle.eo_session.specs.Numbered.{origin_of, number_of};
 ghost use Rattle.eo_session.specs.Origin.{Signature};
 
 use crate::Verdict;
-use crate::opening::{OPENS, Run, Source, check_rest, refused, take_piece};
+use crate::opening::{OPENS, Run, Source, check_rest, refusal_at, take_piece};
 use eo_base::{FaultName, limits};
 use eo_io::{Library, Paths};
 use eo_session::{Observer, Origin};
@@ -138,7 +138,7 @@ fn take_long<L: Library, O: Observer>(
     if take_piece(
         alloc, source, collector, counted, files, run, paths, observer,
     )? {
-        return Err(refused(FaultName::FileLong, source, collector.here()));
+        return Err(refusal_at(FaultName::FileLong, source, collector.here()));
     }
     Ok(())
 }

@@ -13,7 +13,7 @@ use eo_base::{Fault, Status};
 use eo_io::{Paths, Sink, write_all};
 use itoa::Buffer;
 
-/// Writes the line of a verdict, and answers the status that goes with it.
+/// Writes the line of a verdict, and returns the status that goes with it.
 ///
 /// | verdict | line | status |
 /// |---|---|---|
@@ -43,7 +43,7 @@ pub fn print_verdict<W: Sink>(out: &mut W, v: &Verdict, paths: &Paths) -> Status
 }
 
 /// Writes the line of a bench of n hops, as `bench 10: correct, 33 commands, 99 terms`, or that of
-/// its verdict, and answers the status that goes with it, as [`print_verdict`] does.
+/// its verdict, and returns the status that goes with it, as [`print_verdict`] does.
 pub fn print_bench<W: Sink>(out: &mut W, n: u32, end: &BenchEnd, paths: &Paths) -> Status
     requires { EndInRange paths.now end.now }
     ensures due { WritesDue result (end_due n paths.now end.now) (W.written out.old) (W.written out.new) }
@@ -154,7 +154,7 @@ fn refusal_pieces<'a>(
     ]
 }
 
-/// Writes a line in pieces, and answers the status that goes with it.
+/// Writes a line in pieces, and returns the status that goes with it.
 ///
 /// `WriteFault` comes only where the sink's count of faults rose. Then a front of the line is
 /// written.
@@ -171,7 +171,7 @@ pub fn print_line<W: Sink>(out: &mut W, status: Status, pieces: &[&[u8]]) -> Sta
     }
 }
 
-/// Writes the pieces one after another, and answers whether it could. Where it could not, a front
+/// Writes the pieces one after another, and returns whether it could. Where it could not, a front
 /// of them is written.
 fn write_pieces<W: Sink>(out: &mut W, pieces: &[&[u8]]) -> bool
     ensures all { OnTrue result (Adds (text_of pieces.now) (W.written out.old) (W.written out.new)) }

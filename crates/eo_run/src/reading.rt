@@ -27,7 +27,7 @@ pub(crate) enum Stop {
 
 /// A command that asks for a file, or ends its own.
 #[derive(Drop)]
-pub(crate) struct Asked {
+pub(crate) struct FileRequest {
     /// What it asks for.
     pub(crate) next: Next,
     /// Its place.
@@ -44,7 +44,7 @@ pub(crate) fn check_piece<O: Observer>(
     session: &mut Session,
     observer: &mut O,
     piece: &[u8],
-) -> Result<Option<Asked>, Stop>
+) -> Result<Option<FileRequest>, Stop>
     requires live { IsLive collector.old }
     requires waiting { IsWaiting limits collector.old }
     requires room { HasRoom collector.old piece.now }
@@ -63,10 +63,10 @@ pub(crate) fn check_piece<O: Observer>(
             Fed::Command { used } => {
                 let next = check_command(collector, from, session, observer)?;
                 rest = &rest[used..];
-                if asks(&next) {
+                if is_request(&next) {
                     let at = collector.start();
                     let used = piece.len() - rest.len();
-                    return Ok(Some(Asked { next, at, used }));
+                    return Ok(Some(FileRequest { next, at, used }));
                 }
             }
             Fed::Fault { name, at } => return Err(Stop::Fault { name, at }),
@@ -76,14 +76,14 @@ pub(crate) fn check_piece<O: Observer>(
 }
 
 /// Ends a file, and checks the commands that the end makes whole, up to one that asks for
-/// something. Where none does, the collector stands after the last byte. The observer is shown those
+/// something. Where none does, the collector is after the last byte. The observer is shown those
 /// that are accepted.
 pub(crate) fn check_end<O: Observer>(
     collector: &mut Collector,
     from: Origin,
     session: &mut Session,
     observer: &mut O,
-) -> Result<Option<Asked>, Stop>
+) -> Result<Option<FileRequest>, Stop>
     requires live { IsLive collector.old }
     requires waiting { IsWaiting limits collector.old }
     requires going { session.old.ended ≡ false }
@@ -99,9 +99,9 @@ pub(crate) fn check_end<O: Observer>(
             Finished::End => return Ok(None),
             Finished::Command => {
                 let next = check_command(collector, from, session, observer)?;
-                if asks(&next) {
+                if is_request(&next) {
                     let at = collector.start();
-                    return Ok(Some(Asked { next, at, used: 0 }));
+                    return Ok(Some(FileRequest { next, at, used: 0 }));
                 }
             }
             Finished::Fault { name, at } => return Err(Stop::Fault { name, at }),
@@ -124,6 +124,9 @@ fn check_command<O: Observer>(
     ensures shows { ShowsLast O.tells observer.old observer.new (origin_of from) (number_of from) result session.old.state collector.now }
     ensures of_text { IsOfText result }
 {
+    if !observer.watches() {
+        return check_unseen(collector, from, session);
+    }
     let at = collector.start();
     let place = Place {
         file: from.file(),
@@ -144,8 +147,27 @@ fn check_command<O: Observer>(
     }
 }
 
+/// The same where nobody watches: neither the place of the command nor its bytes are asked for.
+fn check_unseen(collector: &Collector, from: Origin, session: &mut Session) -> Result<Next, Stop>
+    requires command { IsAtCommand collector.now }
+    requires going { session.old.ended ≡ false }
+    ensures going { OnOk result (session.new.ended ≡ false) }
+    ensures checks { ChecksLast (origin_of from) result session.old.state session.new.state collector.now }
+    ensures of_text { IsOfText result }
+{
+    match session.command(&collector.command(), from) {
+        Ok(next) => Ok(next),
+        Err(Refused::Fault(name)) => {
+            let at = collector.start();
+            Err(Stop::Fault { name, at })
+        }
+        Err(Refused::Ended) => unreachable!(),
+        Err(Refused::Memory(_)) => Err(Stop::Memory),
+    }
+}
+
 /// Whether something is asked for.
-fn asks(next: &Next) -> bool
+fn is_request(next: &Next) -> bool
     ensures { IsFalse result ↔ (next.now ≡ Done) }
 {
     match next {
@@ -157,7 +179,7 @@ fn asks(next: &Next) -> bool
 }
 
 /// Whether nothing of the file is read after it.
-pub(crate) fn exits(next: &Next) -> bool
+pub(crate) fn is_exit(next: &Next) -> bool
     ensures { result ≡ is_exit next.now }
 {
     matches!(next, Next::Exit)

@@ -1,4 +1,4 @@
--- Rules whose premises and conclusion are made of formulas by connectives keep truth, where their truth tables say so.
+-- Rules whose premises and conclusion are made of formulas by connectives preserve truth, where their truth tables say so.
 use Rattle.std.specs.Prelude.{◌≡◌, ℕ, zero, suc, ◌+◌, Bool, true, false, not, ◌&&◌, ◌||◌, List, [], ◌∷◌, map, length, Option, Some, None, is_some, is_none, slice_get, Contains, refl}
 use Rattle.std.specs.List.{list_all}
 use Rattle.std.specs.Option.{option_map_or}

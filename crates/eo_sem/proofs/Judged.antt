@@ -1,11 +1,11 @@
 -- What is returned for a proof of validity, by how its check ends and by what was observed.
 use Rattle.std.specs.Prelude.{◌≡◌, ◌≢◌, ℕ, Bool, true, false, if◌then◌else◌, nat_lt, List, [], length, Option, Some, None, option_map, IsSome, slice_get, position, bytes_eq, Ok, Err, refl}
 use Rattle.std.specs.Option.{option_map_or}
-use Rattle.std.proofs.Common.{get_or, sym, ap, subst, ◌∙◌}
+use Rattle.std.proofs.Common.{get_or, sym, ap, subst, ◌∙◌, lt-ltb}
 use Rattle.std.proofs.Math.Path.{transport}
 use Rattle.std.proofs.lemmas.Bool.{ltb-true}
-use Rattle.std.proofs.lemmas.List.Quantifiers.{position-Some}
 use Rattle.std.proofs.lemmas.Option.{slice_get-get_or}
+use Rattle.std.proofs.lemmas.List.Quantifiers.{position-Some}
 use Rattle.std.proofs.lemmas.Slice.Eq.{bytes_eq-Decides}
 use Rattle.eo_base.specs.declared.FaultName.TheVariants.{NotSemantic}
 use Rattle.eo_base.specs.declared.Place.{Place}
@@ -25,7 +25,7 @@ use Rattle.eo_run.specs.declared.CheckEnd.TheVariants as ends
 use Rattle.eo_run.specs.declared.Verdict.{Verdict}
 use Rattle.eo_run.specs.declared.Verdict.TheVariants as answer
 use Rattle.eo_sem.proofs.Others.{AreBoth, first_noted, first_both, first_in, first_same}
-use Rattle.eo_sem.specs.ProveAnswers.{Proves, AnswersProve, ValidRefutes, ProveHasCause, IsProveAnswer, other_place, refused_in, end_at, end_by}
+use Rattle.eo_sem.specs.ProveAnswers.{Proves, AnswersProve, ValidRefutes, ProveHasCause, IsProveAnswer, other_place, placed_in, refused_at, end_at, end_by}
 use Rattle.eo_sem.specs.Proving.{Valid, Other, IsProved, IsRefuted, prove_job, prove_run, prove, judged, not_semantic}
 use Rattle.eo_sem.specs.Suite.{suite_signature}
 use Rattle.eo_sem.specs.declared.ProveEnd.{ProveEnd}
@@ -35,29 +35,28 @@ use Rattle.eo_sig.specs.Signature.{rules}
 
 -- ---- the kind of an answer, and its cause
 
-refused_kind : (paths : List (List ℕ)) (place : Place) → IsProveAnswer paths (end.Other (refused_in paths place))
-refused_kind paths place =
+refused_kind : (paths : List (List ℕ)) (last place : Place) → IsSome (slice_get paths last.file) → IsProveAnswer paths (refused_at (placed_in paths last place))
+refused_kind paths last place h =
     by (nat_lt place.file (length paths)) refl
   where
-    by : (b : Bool) → nat_lt place.file (length paths) ≡ b → IsProveAnswer paths (end.Other (if b then answer.Refused (record { name = NotSemantic; place = place }) else answer.OutOfMemory))
+    by : (b : Bool) → nat_lt place.file (length paths) ≡ b → IsProveAnswer paths (refused_at (if b then place else last))
     by true lt = subst IsSome (sym (slice_get-get_or paths place.file [] (ltb-true place.file (length paths) lt))) refl
-    by false lt = tt
+    by false lt = h
 
 pub end_kind : (paths : List (List ℕ)) (e : CheckEnd) (other : Option Place) → IsCheckEnd paths e → IsProveAnswer paths (end_by paths e other)
 end_kind paths (ends.Correct r) None h = tt
-end_kind paths (ends.Correct r) (Some place) h = refused_kind paths place
+end_kind paths (ends.Correct r) (Some place) h = refused_kind paths r.end place h
 end_kind paths (ends.Ended answer.Correct) other h = absurd h
 end_kind paths (ends.Ended v) other h = h
 
 module _ {F : Type 0} (told : Option F) (before now : ℕ) where
-  refused_cause : (t : Option F) (paths : List (List ℕ)) (place : Place) (b : Bool) → AnswerHasCause (if b then answer.Refused (record { name = NotSemantic; place = place }) else answer.OutOfMemory) t before now
-  refused_cause None paths place true = λ e. absurd (cc e)
-  refused_cause (Some files) paths place true = tt
-  refused_cause t paths place false = tt
+  refused_cause : (t : Option F) (place : Place) → ProveHasCause (refused_at place) t before now
+  refused_cause None place = λ e. absurd (cc e)
+  refused_cause (Some files) place = tt
 
   pub end_cause : (paths : List (List ℕ)) (e : CheckEnd) (other : Option Place) → AnswerHasCause (verdict_of e) told before now → ProveHasCause (end_by paths e other) told before now
   end_cause paths (ends.Correct r) None h = tt
-  end_cause paths (ends.Correct r) (Some place) h = refused_cause told paths place (nat_lt place.file (length paths))
+  end_cause paths (ends.Correct r) (Some place) h = refused_cause told (placed_in paths r.end place)
   end_cause paths (ends.Ended v) other h = h
 
 -- ---- the answer
@@ -83,16 +82,20 @@ is_correct files proof (Ok final) e = (final, refl)
 is_correct files proof (Err stopped) e = absurd (cc e)
 
 -- the first step by another rule, as it was observed, or none
-module _ (paths : List (List ℕ)) where
+module _ (paths : List (List ℕ)) (last : Place) where
   path_at : (n : ℕ) (path : List ℕ) → position (bytes_eq path) paths ≡ Some n → slice_get paths n ≡ Some path
   path_at n path e =
       let first = position-Some (bytes_eq path) paths n [] e in
       slice_get-get_or paths n [] first.0 ∙ ap Some (sym ((bytes_eq-Decides path (get_or paths n [])).0 first.1))
 
-  there_proves : (m : notes.Seen) (k : Seen) → IsSeen paths m k → Proves paths (end.Other (refused_in paths m.place)) (not_semantic k)
+  -- The file of its place is one of the paths, by the position of its path.
+  there_proves : (m : notes.Seen) (k : Seen) → IsSeen paths m k → Proves paths (refused_at (placed_in paths last m.place)) (not_semantic k)
   there_proves m k h =
-      by (nat_lt m.place.file (length paths))
+      subst (λ (b : Bool). Proves paths (refused_at (if b then m.place else last)) (not_semantic k)) (sym within) (verdict.Refused (refusal_at k.file k.start NotSemantic), refl, (refusal_at k.file k.start NotSemantic, refl, denotes))
     where
+      within : nat_lt m.place.file (length paths) ≡ true
+      within = lt-ltb m.place.file (length paths) (position-Some (bytes_eq k.file) paths m.place.file [] h.file).0
+
       denotes : Denotes paths (record { name = NotSemantic; place = m.place }) (refusal_at k.file k.start NotSemantic)
       denotes = record {
         name = refl;
@@ -101,21 +104,17 @@ module _ (paths : List (List ℕ)) where
         offset = ap (λ (x : Seen). x.start.offset) h.same;
       }
 
-      by : (b : Bool) → Proves paths (end.Other (if b then answer.Refused (record { name = NotSemantic; place = m.place }) else answer.OutOfMemory)) (not_semantic k)
-      by true = (verdict.Refused (refusal_at k.file k.start NotSemantic), refl, (refusal_at k.file k.start NotSemantic, refl, denotes))
-      by false = tt
-
-  both_prove : (o : Option notes.Seen) (p : Option Seen) → AreBoth paths o p → Proves paths (end_at paths (option_map (λ (m : notes.Seen). m.place) o)) (option_map_or not_semantic p Valid)
+  both_prove : (o : Option notes.Seen) (p : Option Seen) → AreBoth paths o p → Proves paths (end_at paths last (option_map (λ (m : notes.Seen). m.place) o)) (option_map_or not_semantic p Valid)
   both_prove None None h = refl
   both_prove (Some m) (Some k) h = there_proves m k h
   both_prove None (Some k) h = absurd h
   both_prove (Some m) None h = absurd h
 
-  correct_proves : (final : Progress) (other : Option Place) (ms : List notes.Seen) → rules final.state.signature ≡ rules suite_signature → other ≡ other_place ms → AreSeen paths ms final.seen → Proves paths (end_at paths other) (judged (Ok final) verdict.Correct)
+  correct_proves : (final : Progress) (other : Option Place) (ms : List notes.Seen) → rules final.state.signature ≡ rules suite_signature → other ≡ other_place ms → AreSeen paths ms final.seen → Proves paths (end_at paths last other) (judged (Ok final) verdict.Correct)
   correct_proves final other ms same is seen =
       let same_first = first_same final.state.signature suite_signature same final.seen in
-      subst (λ (o : Option Seen). Proves paths (end_at paths other) (option_map_or not_semantic o Valid)) (sym same_first)
-      (subst (λ (o : Option Place). Proves paths (end_at paths o) (option_map_or not_semantic (first_in suite_signature final.seen) Valid)) (sym is)
+      subst (λ (o : Option Seen). Proves paths (end_at paths last other) (option_map_or not_semantic o Valid)) (sym same_first)
+      (subst (λ (o : Option Place). Proves paths (end_at paths last o) (option_map_or not_semantic (first_in suite_signature final.seen) Valid)) (sym is)
       (both_prove (first_noted suite_signature ms) (first_in suite_signature final.seen) (first_both suite_signature paths ms final.seen seen)))
 
 module _ {O : Type 0} (tells : O → List notes.Seen → Type 0) (observer : O) (paths : List (List ℕ)) (reference proof : List ℕ) where
@@ -130,9 +129,9 @@ module _ {O : Type 0} (tells : O → List notes.Seen → Type 0) (observer : O) 
       let run = prove_run files reference proof in
       let c = is_correct files proof run a in
       let seen = subst (λ (x : Ran). Sees tells observer paths (seen_in x)) c.1 sees in
-      subst (λ (x : verdict.Verdict). Proves paths (end_at paths other) (judged run x)) (sym a)
-      (subst (λ (x : Ran). Proves paths (end_at paths other) (judged x verdict.Correct)) (sym c.1)
-      (correct_proves paths c.0 other seen.seen_by (same files c.0 c.1) (tell seen.seen_by seen.told) seen.are))
+      subst (λ (x : verdict.Verdict). Proves paths (end_at paths r.end other) (judged run x)) (sym a)
+      (subst (λ (x : Ran). Proves paths (end_at paths r.end other) (judged x verdict.Correct)) (sym c.1)
+      (correct_proves paths r.end c.0 other seen.seen_by (same files c.0 c.1) (tell seen.seen_by seen.told) seen.are))
 
   -- What is returned is what is said of the files.
   pub end_proves : (told : Option Files) (e : CheckEnd) (other : Option Place) → HasRules → ((ms : List notes.Seen) → tells observer ms → other ≡ other_place ms) → IsCheckEnd paths e → AnswersObserved told (Some suite) (prove_job reference proof) paths (verdict_of e)

@@ -26,7 +26,7 @@ use Rattle.eo_term.specs.Tree.{Tree}
 
 -- ---- a rule that keeps truth
 
--- the rule that a name stands for has this name
+-- the rule that a name means has this name
 named_so : (name : List ℕ) (rs : List Rule) (n : ℕ) (r : Rule) → position (λ (r : Rule). bytes_eq name r.name) rs ≡ Some n → slice_get rs n ≡ Some r → name ≡ r.name
 named_so name rs n r e at =
     (bytes_eq-Decides name r.name).0 (subst (λ (x : Rule). bytes_eq name x.name ≡ true) (get_or_from_slice_get rs n r r at) (position-Some (λ (r : Rule). bytes_eq name r.name) rs n r e).1)

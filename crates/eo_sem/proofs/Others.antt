@@ -1,4 +1,4 @@
--- The first step by a rule that does not keep truth, in signatures with the same rules and as an observer sees it.
+-- The first step by a rule that does not preserve truth, in signatures with the same rules and as an observer sees it.
 use Rattle.std.specs.Prelude.{◌≡◌, ℕ, Bool, true, false, not, cond, List, [], ◌∷◌, ◌++◌, Option, Some, None, option_map, slice_get, refl, ⊤}
 use Rattle.std.specs.List.{find}
 use Rattle.std.specs.Option.{option_map_or, option_or}

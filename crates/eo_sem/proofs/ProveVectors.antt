@@ -1,4 +1,4 @@
--- Whole checks after the suite, and whether their commands use rules that keep truth alone.
+-- Whole checks after the suite, and whether their commands use rules that preserve truth alone.
 use Rattle.std.specs.Prelude.{◌≡◌, ◌≢◌, refl, ℕ, true, false, List, [], ◌∷◌, ◌++◌, codes, Bool, Option, Some, None, is_some, option_and_then, Ok, Err}
 use Rattle.std.proofs.Common.{subst}
 use Rattle.std.proofs.lemmas.Option.{none-some, same_Some}
@@ -23,7 +23,7 @@ use Rattle.eo_session.specs.Origin as origin
 use Rattle.eo_session.specs.State.{State, begin_reference}
 use Rattle.eo_sexp.specs.Texts.{Reads}
 
--- ---- what the files lead to by rules that keep truth
+-- ---- what the files lead to by rules that preserve truth
 
 abbrev begun : Checked State → Option State
 begun (Ok st) = Some st
@@ -118,7 +118,7 @@ resolved_by_semantic : is_semantic_proof clauses resolving ≡ true
 unfolding computed suite_state
 resolved_by_semantic = refl
 
--- a correct check by a rule that is none of those that keep truth
+-- a correct check by a rule that is none of those that preserve truth
 abbrev chaining : List ℕ
 chaining =
     lines (assumed ++ codes "(step @p4 false :rule chain_resolution :premises (@p1 @p2 @p3) :args ((@list true true) (@list p q)))" ∷ [])

@@ -1,4 +1,4 @@
--- A proof by rules that keep truth refutes its assertions, and what a run of a proof reaches.
+-- A proof by rules that preserve truth refutes its assertions, and what a run of a proof reaches.
 use Rattle.std.specs.Prelude.{◌≡◌, ◌≢◌, ℕ, true, List, [], ◌∷◌, ◌++◌, Option, Some, None, Ok, Err, refl}
 use Rattle.std.specs.Option.{option_map_or}
 use Rattle.std.proofs.Common.{sym, ◌∙◌, ap, subst}
@@ -96,9 +96,9 @@ reached_keeping = record {
 pub run_reaches : (files : Files) (reference proof : List ℕ) (q : Progress) → prove_run files reference proof ≡ Ok q → ReachedBy any_rule suite_state q.state
 run_reaches = run_keeps Reached reached_keeping (λ seen. is_first)
 
--- ---- by rules that keep truth
+-- ---- by rules that preserve truth
 
--- The state follows the suite, and where no step by another rule is among these commands, it is reached by rules that keep truth.
+-- The state follows the suite, and where no step by another rule is among these commands, it is reached by rules that preserve truth.
 record Follows (st : State) (seen : List Seen) : Type 0 where
   follows : FollowsSuite st
   reached : first_in suite_signature seen ≡ None → ReachedBy is_semantic suite_state st

@@ -1,4 +1,4 @@
--- Trees over parameters that stand for formulas, made by connectives: their truth is computed from that of the parameters.
+-- Trees over parameters for formulas, made by connectives: their truth is computed from that of the parameters.
 use Rattle.std.specs.Prelude.{if◌then◌else◌, ◌≡◌, ℕ, Bool, true, false, not, ◌&&◌, ◌||◌, nat_eq, List, Option, Some, None, slice_get, unwrap_or, refl}
 use Rattle.std.specs.Option.{option_map_or}
 use Rattle.std.specs.Bool.{beq}
@@ -111,7 +111,7 @@ three_there None x y z b e = absurd (none-some b e)
 -- ---- schemas
 
 module _ (S : Signature) (V : Valuation) (σ : Assignment) where
-  -- a formula of this truth stands for the parameter
+  -- the value of the parameter is a formula of this truth
   pub record Reads (i : ℕ) (b : Bool) : Type 0 where
     pub tree : Tree
     pub value : σ i ≡ Some tree

@@ -1,4 +1,4 @@
--- What is derivable by the rules of the suite that keep truth is true where the formulas are that it is derivable from.
+-- What is derivable by the rules of the suite that preserve truth is true where the formulas are that it is derivable from.
 use Rattle.std.specs.Prelude.{◌≡◌, ℕ, zero, suc, ◌<◌, true, false, List, [], ◌∷◌, ◌++◌, take, drop, length, Option, Some, None, is_none, option_map, slice_get, slice_index_or, Contains, refl}
 use Rattle.std.proofs.Common.{◌⊎◌, inl, inr, sym, ◌∙◌, ap, subst, arith, true≢false}
 use Rattle.std.proofs.lemmas.Option.{none-some}

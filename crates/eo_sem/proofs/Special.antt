@@ -1,4 +1,4 @@
--- The rules that take items of conjunctions, join premises, resolve clauses and discharge assumptions keep truth.
+-- The rules that take items of conjunctions, join premises, resolve clauses and discharge assumptions preserve truth.
 use Rattle.std.specs.Prelude.{◌≡◌, ℕ, Bool, true, false, not, ◌||◌, List, [], ◌∷◌, Option, Some, None, is_some, slice_get, refl}
 use Rattle.std.specs.List.{list_all}
 use Rattle.std.proofs.Common.{sym, ◌∙◌, ap, subst}
@@ -29,7 +29,7 @@ pub record HasSuite (S : Signature) : Type 0 where
   pub clauses : HasClauses S
 
 module _ (stage : Signature) (r : Rule) (σ : Assignment) (hypothesis : Option Tree) (premises arguments : List Tree) (formula : Tree) (u : IsInstance stage r hypothesis premises arguments formula σ) where
-  -- a parameter that gets a value stands for a term without operators
+  -- the value that a parameter gets is a term without operators
   parameter_plain : (i : ℕ) (p : Parameter) → slice_get r.parameters i ≡ Some p → is_solved r i ≡ true → is_plain (put σ (Par i)) ≡ true
   parameter_plain i p at solved = by (σ i) refl (u.solves i ∙ solved)
     where

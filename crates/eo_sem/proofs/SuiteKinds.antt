@@ -1,4 +1,4 @@
--- The rules of the suite that keep truth: four, and those whose truth tables say so.
+-- The rules of the suite that preserve truth: four, and those whose truth tables say so.
 use Rattle.std.specs.Prelude.{◌≡◌, ℕ, zero, suc, true, List, [], ◌∷◌, Some, slice_get, refl}
 use Rattle.std.proofs.Common.{subst}
 use Rattle.std.proofs.lemmas.Option.{none-some, same_Some}

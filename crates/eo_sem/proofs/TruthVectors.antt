@@ -13,16 +13,16 @@ abbrev S : Signature
 S = suite_signature ++ (constant (codes "p") [] bool_tree Plain ∷ constant (codes "q") [] bool_tree Plain ∷ constant (codes "m") [] int Plain ∷ constant (codes "n") [] int Plain ∷ [])
 
 abbrev p : Tree
-p = Con 21
+p = Con 23
 
 abbrev q : Tree
-q = Con 22
+q = Con 24
 
 abbrev m : Tree
-m = Con 23
+m = Con 25
 
 abbrev n : Tree
-n = Con 24
+n = Con 26
 
 atom : holds S (p ∷ []) p ≡ true
 atom = refl

@@ -1,4 +1,4 @@
--- A state that is reached after the suite by rules that keep truth: where `false` is a fact of it, its assertions have no model.
+-- A state that is reached after the suite by rules that preserve truth: where `false` is a fact of it, its assertions have no model.
 use Rattle.std.specs.Prelude.{if◌then◌else◌, ◌≡◌, Bool, true, false, [], ◌++◌, None, Ok, Err, refl}
 use Rattle.std.proofs.Common.{sym, ◌∙◌, ap, subst, append-nil, append_assoc}
 use Rattle.eo_base.proofs.ChecksLemmas.{ok_injective, err_is_not_ok}

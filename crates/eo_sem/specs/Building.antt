@@ -3,7 +3,7 @@ use Rattle.std.specs.Prelude.{ℕ, true, false, List, [], Some, None}
 use Rattle.eo_term.specs.declared.OpName.{OpName}
 use Rattle.eo_term.specs.declared.OpCode.{OpCode}
 use Rattle.eo_term.specs.Tree.{Tree, Con, Op, bool_tree, to_trees}
-use Rattle.eo_sig.specs.Signature.{Parameter, Attribute, Case, Rule, SignatureEntry, IsConstant, Each, Joined}
+use Rattle.eo_sig.specs.Signature.{Parameter, Attribute, Constant, Case, Rule, SignatureEntry, IsConstant, Each, Joined, counts_of}
 
 -- ---- trees
 
@@ -42,9 +42,12 @@ items name = item_list name bool_tree
 
 -- ---- declarations
 
+-- with the numbers of arguments that it takes
+abbrev pub counted : Constant → SignatureEntry
+counted c = IsConstant c (counts_of c)
+
 abbrev pub constant : List ℕ → List Parameter → Tree → Attribute → SignatureEntry
-constant name parameters t a =
-    IsConstant (record { name = name; parameters = parameters; type = t; attribute = a; from_reference = false })
+constant name parameters t a = counted (record { name = name; parameters = parameters; type = t; attribute = a; from_reference = false })
 
 abbrev pub case : List Tree → Tree → Case
 case ps b = record { patterns = ps; body = b }

@@ -1,4 +1,4 @@
--- What the commands of a session keep, where only rules that keep truth are used.
+-- What the commands of a session keep, where only rules that preserve truth are used.
 use Rattle.std.specs.Prelude.{◌≡◌, ◌≢◌, Bool, true, false, None, Ok}
 use Rattle.eo_rule.specs.ByRules.{DerivesBy}
 use Rattle.eo_session.specs.Commands.{step}

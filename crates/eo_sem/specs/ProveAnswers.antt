@@ -1,5 +1,5 @@
--- What is answered for a proof of validity.
-use Rattle.std.specs.Prelude.{◌≡◌, ℕ, Bool, true, false, if◌then◌else◌, nat_lt, List, length, Option, Some, None, option_map, IfSome, ⊤}
+-- The result for a proof of validity.
+use Rattle.std.specs.Prelude.{◌≡◌, ℕ, Bool, true, false, if◌then◌else◌, nat_lt, List, length, map, Option, Some, None, option_map, IfSome, ⊤}
 use Rattle.std.specs.List.{find}
 use Rattle.eo_base.specs.declared.FaultName.TheVariants.{NotSemantic}
 use Rattle.eo_base.specs.declared.Place.{Place}
@@ -9,24 +9,24 @@ use Rattle.eo_run.specs.Judging.{IsCheckAnswer, IfRun}
 use Rattle.eo_run.specs.Verdict as verdict
 use Rattle.eo_run.specs.declared.CheckEnd.{CheckEnd}
 use Rattle.eo_run.specs.declared.CheckEnd.TheVariants as ends
-use Rattle.eo_run.specs.declared.Verdict.{Verdict}
 use Rattle.eo_run.specs.declared.Verdict.TheVariants as answer
 use Rattle.eo_sem.specs.Proving.{ProveVerdict, Valid, Other, IsProved, IsRefuted, prove, uses_other}
 use Rattle.eo_sem.specs.Suite.{suite_signature}
 use Rattle.eo_sem.specs.declared.ProveEnd.{ProveEnd}
 use Rattle.eo_sem.specs.declared.ProveEnd.TheVariants as end
 use Rattle.eo_session.specs.Notes.{Seen}
+use Rattle.eo_sig.specs.Signature.{Rule, rules}
 
--- The answer is what is said of the files, but for a fault of reading and for being out of memory.
+-- The result is the outcome for the files, but for a read fault and for being out of memory.
 abbrev pub Proves : List (List ℕ) → ProveEnd → ProveVerdict → Type 0
 Proves paths end.Valid said = said ≡ Valid
 Proves paths (end.Other v) said = IfRun v ((of : verdict.Verdict) × (said ≡ Other of) × Answers paths v of)
 
--- where files are told
+-- where files are known
 abbrev pub AnswersProve : Option Files → (reference proof : List ℕ) → List (List ℕ) → ProveEnd → Type 0
 AnswersProve told reference proof paths r = IfSome told (λ files. Proves paths r (prove files reference proof))
 
--- `Valid` says that the check is correct by rules that keep truth alone, and that no valuation makes all assertions true.
+-- `Valid` says that the check is correct by rules that preserve truth alone, and that no valuation makes all assertions true.
 abbrev pub ValidRefutes : Option Files → (reference proof : List ℕ) → ProveEnd → Type 0
 ValidRefutes told reference proof end.Valid = IfSome told (λ files. IsProved files reference proof × IsRefuted files reference proof)
 ValidRefutes told reference proof (end.Other v) = ⊤
@@ -35,7 +35,7 @@ abbrev pub ProveHasCause : {F : Type 0} → ProveEnd → Option F → (before no
 ProveHasCause end.Valid told before now = ⊤
 ProveHasCause (end.Other v) told before now = AnswerHasCause v told before now
 
--- An answer of a check that is not correct, or `Valid`. The file of a refusal is one of the paths.
+-- A result of a check that is not correct, or `Valid`. The file of a refusal is one of the paths.
 abbrev pub IsProveAnswer : List (List ℕ) → ProveEnd → Type 0
 IsProveAnswer paths end.Valid = ⊤
 IsProveAnswer paths (end.Other answer.Correct) = ⊥
@@ -43,7 +43,11 @@ IsProveAnswer paths (end.Other v) = IsCheckAnswer paths v
 
 -- ---- what is observed
 
--- the place of the first command that is a step by a rule of the suite that does not keep truth
+-- the names of the suite's rules, in order
+abbrev pub rule_names : List (List ℕ)
+rule_names = map (λ (r : Rule). r.name) (rules suite_signature)
+
+-- the place of the first command that is a step by a rule of the suite that does not preserve truth
 abbrev pub other_place : List Seen → Option Place
 other_place seen = option_map (λ (m : Seen). m.place) (find (λ (m : Seen). uses_other suite_signature m.act) seen)
 
@@ -53,16 +57,18 @@ with_place (Some first) place is_other = Some first
 with_place None place true = Some place
 with_place None place false = None
 
--- the refusal at the place of such a command, whose file is one of the paths
-abbrev pub refused_in : List (List ℕ) → Place → Verdict
-refused_in paths place =
-    if nat_lt place.file (length paths) then answer.Refused (record { name = NotSemantic; place = place }) else answer.OutOfMemory
+-- the place of such a command where its file is one of the paths, and else the end of the proof
+abbrev pub placed_in : List (List ℕ) → (last place : Place) → Place
+placed_in paths last place = if nat_lt place.file (length paths) then place else last
 
-abbrev pub end_at : List (List ℕ) → Option Place → ProveEnd
-end_at paths None = end.Valid
-end_at paths (Some place) = end.Other (refused_in paths place)
+abbrev pub refused_at : Place → ProveEnd
+refused_at place = end.Other (answer.Refused (record { name = NotSemantic; place = place }))
 
--- what is answered by how the check ends, and by that place
+abbrev pub end_at : List (List ℕ) → (last : Place) → Option Place → ProveEnd
+end_at paths last None = end.Valid
+end_at paths last (Some place) = refused_at (placed_in paths last place)
+
+-- what is returned by how the check ends, and by that place
 abbrev pub end_by : List (List ℕ) → CheckEnd → Option Place → ProveEnd
-end_by paths (ends.Correct r) other = end_at paths other
+end_by paths (ends.Correct r) other = end_at paths r.end other
 end_by paths (ends.Ended v) other = end.Other v

@@ -1,4 +1,4 @@
--- Whether the assertions of a reference file have no model, as a proof shows by rules that keep truth.
+-- Whether the assertions of a reference file have no model, as a proof shows by rules that preserve truth.
 use Rattle.std.specs.Prelude.{◌≡◌, ℕ, Bool, true, false, not, List, Option, Some, None, Ok}
 use Rattle.std.specs.List.{find}
 use Rattle.std.specs.Option.{option_map_or}
@@ -27,7 +27,7 @@ prove_run files reference proof = run_check_after files (Some suite) (prove_job 
 
 -- ---- what is said of it
 
--- whether the rule of this number is one of those that keep truth
+-- whether the rule of this number is one of those that preserve truth
 abbrev pub keeps_truth : Signature → (number : ℕ) → Bool
 keeps_truth S number = option_map_or (λ (rule : Rule). is_semantic rule.name) (rule_at S number) false
 
@@ -58,7 +58,7 @@ prove files reference proof = judged (prove_run files reference proof) (checked 
 
 -- ---- what it means
 
--- The check is correct, and its last state is reached from the one after the suite by rules that keep truth alone.
+-- The check is correct, and its last state is reached from the one after the suite by rules that preserve truth alone.
 pub record IsProved (files : Files) (reference proof : List ℕ) : Type 0 where
   pub final : Progress
   pub ends : prove_run files reference proof ≡ Ok final

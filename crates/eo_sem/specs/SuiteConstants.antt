@@ -70,3 +70,9 @@ constant_forall = constant (codes "forall") [] (Arr list (Arr bool_tree bool_tre
 
 abbrev pub constant_exists : SignatureEntry
 constant_exists = constant (codes "exists") [] (Arr list (Arr bool_tree bool_tree)) (Binder 18)
+
+abbrev pub constant_minus : SignatureEntry
+constant_minus = constant (codes "-") [] (Arr int (Arr int int)) Left
+
+abbrev pub constant_negative : SignatureEntry
+constant_negative = constant (codes "-") [] (Arr int int) Plain

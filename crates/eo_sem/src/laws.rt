@@ -1,4 +1,4 @@
-//! What a proof by rules that keep truth refutes. A call costs nothing: it tells a proof what its clauses say.
+//! What a proof by rules that preserve truth refutes. A call costs nothing: it gives a proof what its clauses say.
 ghost use Rattle.std.specs.Prelude.{◌≡◌, ℕ, List, None, Ok, false};
 ghost use Rattle.eo_io.specs.Library.{Files};
 ghost use Rattle.eo_rule.specs.ByRules.{any_rule};
@@ -13,16 +13,16 @@ ghost use Rattle.eo_sig.specs.Signature.{rules};
 
 use eo_sound::{allowed_law, commands_law};
 
-/// A law: a correct proof whose steps use rules that keep truth leaves no valuation that makes all
+/// A law: after a correct proof whose steps use rules that preserve truth, no valuation makes all
 /// assertions true.
 ///
-/// These rules keep truth by the truth tables of the suite's connectives, whatever formulas stand
-/// for their parameters. So each fact of a scope is true where the assertions and the assumptions
+/// These rules preserve truth by the truth tables of the suite's connectives, whatever formulas
+/// their parameters are. So each fact of a scope is true where the assertions and the assumptions
 /// of that scope and of the scopes around it are, and `false` is never true.
 ///
 /// It is so in each state that is reached from the one after the suite by such rules, and each run
 /// of a proof after the suite reaches its last state by the rules that its steps use: where it is
-/// `Valid`, by those that keep truth alone. The rules of its signature are those of the suite.
+/// `Valid`, by those that preserve truth alone. The rules of its signature are those of the suite.
 pub fn validity_law()
     ensures state { (st : State) → ReachedBy is_semantic suite_state st → end_fault st ≡ None → st.sorry ≡ false →
         HaveNoModel st.signature st.assertions }

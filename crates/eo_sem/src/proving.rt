@@ -2,18 +2,18 @@
 ghost use Rattle.std.specs.Prelude.{◌≡◌, [], IfOk};
 ghost use Rattle.eo_run.specs.Reading.{LibraryStays};
 ghost use Rattle.eo_sem.specs.Proving.{prove_job};
-ghost use Rattle.eo_sem.specs.ProveAnswers.{AnswersProve, ValidRefutes, ProveHasCause, IsProveAnswer, end_by, end_at, refused_in};
+ghost use Rattle.eo_sem.specs.ProveAnswers.{AnswersProve, ValidRefutes, ProveHasCause, IsProveAnswer, end_by, end_at, placed_in};
 
 use crate::ProveEnd;
 use crate::laws::validity_law;
 use crate::watching::Watch;
-use eo_base::{Fault, FaultName, Place, Text, both};
+use eo_base::{Fault, FaultName, Place, Text, ok_with};
 use eo_cpc::suite;
 use eo_io::{Library, Paths};
 use eo_run::{CheckEnd, CheckJob, Verdict, check_observed};
 use std::alloc::{AllocError, Global};
 
-/// Checks whether a proof shows, by rules that keep truth alone, that the assertions of a reference
+/// Checks whether a proof shows, by rules that preserve truth alone, that the assertions of a reference
 /// file have no model.
 ///
 /// The check is that of a closed proof, after the commands of the suite, and without an include
@@ -55,7 +55,7 @@ fn closed_job(alloc: Global, reference: &Text, proof: &Text) -> Result<CheckJob,
     ensures { IfOk result (λ job. job ≡ prove_job reference.now proof.now) }
 {
     let reference = Text::new(alloc, reference.as_str())?;
-    let (proof, reference) = both(Text::new(alloc, proof.as_str()), reference)?;
+    let (proof, reference) = ok_with(Text::new(alloc, proof.as_str()), reference)?;
     Ok(CheckJob {
         include: None,
         reference: Some(reference),
@@ -65,37 +65,37 @@ fn closed_job(alloc: Global, reference: &Text, proof: &Text) -> Result<CheckJob,
 }
 
 /// What is returned for a check that ends so, with the place of the first step by a rule that does
-/// not keep truth, if there was one.
+/// not preserve truth, if there was one.
 fn end_by(end: &CheckEnd, other: Option<Place>, paths: &Paths) -> ProveEnd
     ensures { result ≡ end_by paths.now end.now other }
 {
     match end {
-        CheckEnd::Correct(_) => end_at(other, paths),
+        CheckEnd::Correct(refutation) => end_at(other, refutation.end, paths),
         CheckEnd::Ended(verdict) => ProveEnd::Other(*verdict),
     }
 }
 
-/// The same where the check is correct.
-fn end_at(other: Option<Place>, paths: &Paths) -> ProveEnd
-    ensures { result ≡ end_at paths.now other }
+/// The same where the check is correct, and this is the end of the proof.
+fn end_at(other: Option<Place>, last: Place, paths: &Paths) -> ProveEnd
+    ensures { result ≡ end_at paths.now last other }
 {
     match other {
         None => ProveEnd::Valid,
-        Some(place) => ProveEnd::Other(refused_in(place, paths)),
+        Some(place) => ProveEnd::Other(Verdict::Refused(Fault {
+            name: FaultName::NotSemantic,
+            place: placed_in(place, last, paths),
+        })),
     }
 }
 
-/// The refusal of a step at this place. Its file is one of the paths: no other place is found, and
-/// what is returned of one stands for none.
-fn refused_in(place: Place, paths: &Paths) -> Verdict
-    ensures { result ≡ refused_in paths.now place }
+/// A place, where its file is one of the paths, and else the end of the proof. It is one wherever the
+/// library's files are known.
+fn placed_in(place: Place, last: Place, paths: &Paths) -> Place
+    ensures { result ≡ placed_in paths.now last place }
 {
     if place.file < paths.len() {
-        Verdict::Refused(Fault {
-            name: FaultName::NotSemantic,
-            place,
-        })
+        place
     } else {
-        Verdict::OutOfMemory
+        last
     }
 }

@@ -1,11 +1,12 @@
-//! Steps by rules that do not keep truth, as an observer meets them.
-ghost use Rattle.std.specs.Prelude.{◌≡◌, ◌&&◌, nat_le, None};
+//! Steps by rules that do not preserve truth, as an observer sees them.
+ghost use Rattle.std.specs.Prelude.{◌≡◌, None};
 ghost use Rattle.eo_term.specs.Terms.{Terms};
 ghost use Rattle.eo_session.specs.Noting.{read_act};
-ghost use Rattle.eo_sem.specs.Proving.{keeps_truth as is_keeping, uses_other as is_other};
+ghost use Rattle.eo_sem.specs.Proving.{uses_other as is_other};
 ghost use Rattle.eo_sem.specs.ProveAnswers.{with_place};
 ghost use Rattle.eo_sem.specs.Suite.{suite_signature};
 
+use crate::suite_rules::keeps_truth;
 use eo_base::Place;
 use eo_run::{Act, Note, Observer};
 use eo_sig::{Signature, growth_law};
@@ -13,7 +14,7 @@ use eo_term::Table;
 use eo_type::Types;
 use std::alloc::AllocError;
 
-/// The observer that looks for a step by a rule that does not keep truth.
+/// The observer that looks for a step by a rule that does not preserve truth.
 #[derive(Drop)]
 pub(crate) struct Watch {
     /// The place of the first one, if there was one.
@@ -55,7 +56,7 @@ fn first_other(before: Option<Place>, note: &Note) -> Option<Place>
     }
 }
 
-/// The place of a command, if it is a step by a rule that does not keep truth.
+/// The place of a command, if it is a step by a rule that does not preserve truth.
 fn other_place(note: &Note) -> Option<Place>
     ensures { (t : Terms) → result ≡ with_place None note.now.place (is_other suite_signature (read_act t note.now.act)) }
 {
@@ -66,7 +67,7 @@ fn other_place(note: &Note) -> Option<Place>
     }
 }
 
-/// Whether a command is a step by a rule of the suite that does not keep truth.
+/// Whether a command is a step by a rule of the suite that does not preserve truth.
 fn uses_other(act: &Act) -> bool
     ensures { (t : Terms) → result ≡ is_other suite_signature (read_act t act.now) }
 {
@@ -75,20 +76,4 @@ fn uses_other(act: &Act) -> bool
         Act::Pop(step) => !keeps_truth(step.rule),
         _ => false,
     }
-}
-
-/// Whether the rule of the suite with this number, which counts from `refl`, keeps truth by the truth
-/// tables: `split` to `and_intro`, `implies_elim` to `not_ite_elim2`, `cnf_implies_pos` to
-/// `cnf_equiv_neg2`, `resolution`, and `scope`.
-fn keeps_truth(rule: usize) -> bool
-    ensures { result ≡ is_keeping suite_signature rule }
-{
-    is_within(rule, 3, 9) | is_within(rule, 11, 25) | is_within(rule, 31, 38) | (rule == 40)
-}
-
-/// Whether a number is one of these, from the first to the last.
-fn is_within(n: usize, first: usize, last: usize) -> bool
-    ensures { result ≡ (nat_le first n && nat_le n last) }
-{
-    first <= n && n <= last
 }

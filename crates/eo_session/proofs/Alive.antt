@@ -14,9 +14,9 @@ use Rattle.eo_sig.specs.Reading.{Kept, signature, macros, constants_of, IsBelow,
 use Rattle.eo_proof.specs.declared.facts.Begun.{Begun}
 use Rattle.eo_proof.specs.Kept as fact
 use Rattle.eo_proof.specs.Kept.{NamedId, scopes, with_named, with_begun, without_begun, AreBegun, AreBelow}
-use Rattle.eo_session.specs.declared.held.Held.{Held}
+use Rattle.eo_session.specs.declared.store.Store.{Store}
 use Rattle.eo_reclaim.specs.declared.ScopeMark.{ScopeMark}
-use Rattle.eo_session.specs.Held.{state_of, macro_marks, Holding, holding, cut, outside, roots_in, HoldsOnly, IsExact, AreExact, AreMarked, AreMarks, IsLive}
+use Rattle.eo_session.specs.Store.{state_of, macro_marks, Holding, holding, cut, outside, roots_in, HoldsOnly, IsExact, AreExact, AreMarked, AreMarks, IsLive}
 use Rattle.eo_session.specs.Roots.{roots, roots_of, live_count}
 use Rattle.eo_session.proofs.Counting.{first, count_is}
 use Rattle.eo_session.proofs.Members.{in_flat, more_flat, in_front, all_among}
@@ -97,7 +97,7 @@ exact_of x [] h = h
 exact_of x (m ∷ ms) h = h.0
 
 -- the mark of a scope that is opened
-abbrev pub own_mark : Held → ScopeMark
+abbrev pub own_mark : Store → ScopeMark
 own_mark h = record { table = h.kept; macros = length h.signature.macros }
 
 -- all terms and texts that there are
@@ -106,7 +106,7 @@ now t = (length t.trees, length t.texts)
 
 -- ---- another table
 
-module _ (h : Held) (live : IsLive h) where
+module _ (h : Store) (live : IsLive h) where
   abbrev ts : List Tree
   ts = h.table.trees
 
@@ -144,7 +144,7 @@ module _ (h : Held) (live : IsLive h) where
     alive_now u c =
         subst (λ (rs : List Tree). Contains (flat_map subtrees rs) u) (sym roots_now) (All-contains (Contains (flat_map subtrees (roots_in (cut n (holding h))))) (take n ts) u kept_exact.live c)
 
-    -- where what is behind the mark is added, all terms are alive
+    -- where what is after the mark is added, all terms are alive
     pub all_alive : (more rs : List Tree) → HoldsOnly more h → ((u : Tree) → Contains (roots (state_of h)) u → Contains rs u) → ((u : Tree) → Contains more u → Contains rs u) → All (Contains (flat_map subtrees rs)) ts
     all_alive more rs only kept added =
         let P : Tree → Type 0 = Contains (flat_map subtrees rs) in
@@ -181,14 +181,14 @@ module _ (h : Held) (live : IsLive h) where
 -- ---- what is added
 
 -- what is held, over all terms that there are
-module _ (h : Held) (live : IsLive h) (mark : IsMark h.table (now h.table)) where
+module _ (h : Store) (live : IsLive h) (mark : IsMark h.table (now h.table)) where
   abbrev all : List Tree
   all = h.table.trees
 
   whole_front : take (length all) all ≡ all
   whole_front = take-length all
 
-  -- the marks of scopes are there still, behind which all is kept
+  -- the marks of scopes are there still, after which all is kept
   pub marked_now : AreMarked h.table (now h.table) h.marks
   marked_now = by h.marks live.marked
     where
@@ -272,7 +272,7 @@ module _ (h : Held) (live : IsLive h) (mark : IsMark h.table (now h.table)) wher
 -- ---- outside all scopes
 
 -- all terms that there are, are alive, and no scope is open
-pub live_alone : (h : Held) → h.marks ≡ [] → IsMark h.table (now h.table) → length h.facts.begun ≡ 0 → IsExact (holding h) → IsLive (record h { kept = now h.table })
+pub live_alone : (h : Store) → h.marks ≡ [] → IsMark h.table (now h.table) → length h.facts.begun ≡ 0 → IsExact (holding h) → IsLive (record h { kept = now h.table })
 live_alone h none mark begun exact = record {
   exact =
       subst (AreExact (cut (length h.table.trees) (holding h))) (sym none)
@@ -292,7 +292,7 @@ named_outside k f h l = by k.begun h l
 
 -- ---- a scope is closed
 
-module _ (h : Held) (live : IsLive h) where
+module _ (h : Store) (live : IsLive h) where
   pub live_closed : (m : ScopeMark) (ms : List ScopeMark) → h.marks ≡ m ∷ ms → (fs : fact.Kept) → fs ≡ without_begun h.facts → (sg : Kept) → sg.entries ≡ h.signature.entries → sg.macros ≡ take m.macros h.signature.macros → (new : List ScopeMark) → new ≡ ms
       → IsLive (record h { facts = fs; marks = new; signature = sg; kept = m.table })
   live_closed m ms is fs f sg entries macros new e =
@@ -335,7 +335,7 @@ has_at f [] i l = absurd (omega (arith, l))
 has_at f (j ∷ js) zero l = first (f j) (map f js) (f j) refl
 has_at f (j ∷ js) (suc i) l = contains_later (f j) (map f js) (f (get_or js i 0)) (has_at f js i (omega (arith, l)))
 
--- behind the mark there are only subtrees of what was carried
+-- after the mark there are only subtrees of what was carried
 pub carried_only : (old : Terms) (m : ℕ × ℕ) (is js : List ℕ) (new : Terms) → Carried old m is js new → All (Contains (flat_map subtrees (map (tree_in old) is))) (drop m.0 new.trees)
 carried_only old m is js new c =
     All-weaker (λ t. (i : ℕ) × (i < length is) × IsSubtree t (tree_at old.trees (get_or is i 0))) (Contains (flat_map subtrees (map (tree_in old) is)))
@@ -343,7 +343,7 @@ carried_only old m is js new c =
 
 -- ---- the first
 
-pub live_first : (h : Held) → h.table.trees ≡ first_trees → h.kept ≡ now h.table → IsMark h.table (now h.table) → h.signature ≡ first_kept → h.assertions ≡ [] → h.marks ≡ [] → length h.facts.begun ≡ 0 → IsBelow (length h.table.trees) h.signature → AreBelow (length h.table.trees) h.facts → IsLive h
+pub live_first : (h : Store) → h.table.trees ≡ first_trees → h.kept ≡ now h.table → IsMark h.table (now h.table) → h.signature ≡ first_kept → h.assertions ≡ [] → h.marks ≡ [] → length h.facts.begun ≡ 0 → IsBelow (length h.table.trees) h.signature → AreBelow (length h.table.trees) h.facts → IsLive h
 live_first h trees kept mark kept_first none unmarked begun below facts =
     subst (λ (k : ℕ × ℕ). IsLive (record h { kept = k })) (sym kept)
     (live_alone h unmarked mark begun (record {

@@ -5,12 +5,12 @@ use Rattle.eo_sig.specs.Reading.{EntryBelow, read_entry}
 use Rattle.eo_sig.specs.declared.records.Declared.{Declared}
 use Rattle.eo_term.specs.Tree.{Tree}
 use Rattle.eo_session.specs.Deciding.{MayDeclare}
-use Rattle.eo_session.specs.Held.{Leaves}
+use Rattle.eo_session.specs.Store.{Leaves}
 use Rattle.eo_session.specs.State.{is_in_scope}
-use Rattle.eo_session.specs.declared.held.Held.{Held}
+use Rattle.eo_session.specs.declared.store.Store.{Store}
 
 -- a declaration with new numbers of its terms may be committed where the old one may
-pub carried-may : (h new : Held) (more : List Tree) → Leaves h more new → (d e : Declared) → read_entry new.table.trees e ≡ read_entry h.table.trees d → EntryBelow (length new.table.trees) e → EntryIsFree new.signature e → EntryIsOrdered new.table.trees e → MayDeclare h d → MayDeclare new e
+pub carried-may : (h new : Store) (more : List Tree) → Leaves h more new → (d e : Declared) → read_entry new.table.trees e ≡ read_entry h.table.trees d → EntryBelow (length new.table.trees) e → EntryIsFree new.signature e → EntryIsOrdered new.table.trees e → MayDeclare h d → MayDeclare new e
 carried-may h new more leaves d e read below free ordered may = record {
   below = below;
   free = free;

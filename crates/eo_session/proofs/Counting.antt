@@ -85,7 +85,7 @@ module _ (decides : (t u : Tree) → Decides (tree_eq t u) (t ≡ u)) where
       by true h = omega (arith, h)
       by false h = omega (arith, h)
 
-  -- trees of which each stands once are no more than trees that they are among
+  -- different trees are no more than trees that they are among
   no_more : (ts us : List Tree) → Apart ts → ((u : Tree) → Contains ts u → Contains us u) → length ts ≤ length us
   no_more [] us a h = omega arith
   no_more (t ∷ ts) us a h =
@@ -127,7 +127,7 @@ module _ (decides : (t u : Tree) → Decides (tree_eq t u) (t ≡ u)) where
         | inr d ↦ contains_later t ts u (distinct_within ts u (rest_within t (distinct ts) u d))
       ]
 
-  -- a list of which each tree stands once has as many as there are different ones in a list of the same trees
+  -- a list of different trees has as many as there are different ones in a list of the same trees
   pub count_is : (ts us : List Tree) → AreApart ts → ((u : Tree) → Contains ts u → Contains us u) → ((u : Tree) → Contains us u → Contains ts u) → length ts ≡ length (distinct us)
   count_is ts us a h k =
       omega (arith, no_more ts (distinct us) (apart ts a) (λ u c. distinct_has us u (h u c)), no_more (distinct us) ts (distinct_apart us) (λ u c. k u (distinct_within us u c)))

@@ -27,7 +27,7 @@ use Rattle.eo_session.specs.declared.Next.TheVariants as next
 use Rattle.eo_session.specs.Deciding.{Decides}
 use Rattle.eo_session.specs.Stepping.{Refuses, of_elab, of_sig}
 use Rattle.eo_session.specs.declared.effects.Effect as code
-use Rattle.eo_session.specs.declared.held.Held.{Held}
+use Rattle.eo_session.specs.declared.store.Store.{Store}
 use Rattle.eo_session.specs.declared.refused.Refused.{Refused}
 use Rattle.eo_sig.specs.Adding.{entry_fault}
 use Rattle.eo_sig.specs.Signature.{Signature, SignatureEntry, IsConstant, IsProgram, IsRule, IsLiteralType}
@@ -55,10 +55,10 @@ module _ {A B : Type 0} (m : Checked A) (f : A → B) where
   unfolding ◌>>=◌
   then-ok x e = ap (λ m. m >>= λ x. Ok (f x)) e
 
--- ---- what is answered
+-- ---- results
 
 -- what refuses a part refuses the whole
-pub decides-refused : {B : Type 0} (part : Checked B) (m : Checked Effect) (r : Result code.Effect Refused) (x : Refused) (new : Held) → IsErrAnd r (λ y. y ≡ x) → Refuses part x → ((name : FaultName) → part ≡ Err name → m ≡ Err name) → Decides new r m
+pub decides-refused : {B : Type 0} (part : Checked B) (m : Checked Effect) (r : Result code.Effect Refused) (x : Refused) (new : Store) → IsErrAnd r (λ y. y ≡ x) → Refuses part x → ((name : FaultName) → part ≡ Err name → m ≡ Err name) → Decides new r m
 decides-refused part m r x new e given f = at_exit (λ (r : Result code.Effect Refused). Decides new r m) r x e (refuses_on part m x given f)
 
 -- ---- facts
@@ -98,7 +98,7 @@ module _ (st : State) (s : StepShape) where
 
 -- ---- declarations
 
-module _ {A : Type 0} (m : Checked A) (f : State → A → Checked Effect) (st : State) (new : Held) where
+module _ {A : Type 0} (m : Checked A) (f : State → A → Checked Effect) (st : State) (new : Store) where
   -- a declaration that is refused refuses the command
   pub declared-refuses : (r : Result code.Effect Refused) (x : ElabRefused) → IsErrAnd r (λ e. e ≡ of_elab x) → Tells elab_told x m → Decides new r (m >>= f st)
   declared-refuses r x e h = decides-refused m (m >>= f st) r (of_elab x) new e (refuses_elab m x h) (bind_fails m (f st))
@@ -149,7 +149,7 @@ next-same a b Skip e = refl
 -- ---- declarations that are checked
 
 -- a fault of a declaration is that of the whole
-pub entry-refused : (m : Checked Effect) (fault : Option FaultName) (s : Result (Unit {0}) SigRefused) (x : SigRefused) (r : Result code.Effect Refused) (new : Held) → SigTells s fault → s ≡ Err x → IsErrAnd r (λ e. e ≡ of_sig x) → ((name : FaultName) → fault ≡ Some name → m ≡ Err name) → Decides new r m
+pub entry-refused : (m : Checked Effect) (fault : Option FaultName) (s : Result (Unit {0}) SigRefused) (x : SigRefused) (r : Result code.Effect Refused) (new : Store) → SigTells s fault → s ≡ Err x → IsErrAnd r (λ e. e ≡ of_sig x) → ((name : FaultName) → fault ≡ Some name → m ≡ Err name) → Decides new r m
 entry-refused m fault s x r new t is e h = at_exit (λ (r : Result code.Effect Refused). Decides new r m) r (of_sig x) e (by x (subst (λ (s : Result (Unit {0}) SigRefused). SigTells s fault) is t))
   where
     by : (x : SigRefused) → SigTells {X = Unit {0}} (Err x) fault → Refuses m (of_sig x)
@@ -163,12 +163,12 @@ pub entry-sound : (fault : Option FaultName) (s : Result (Unit {0}) SigRefused) 
 entry-sound fault s x t is = subst (λ (s : Result (Unit {0}) SigRefused). SigTells s fault) is t
 
 -- a decision in the same state, over an equal definition
-pub decides-same : (new : Held) (r : Result code.Effect Refused) (m n : Checked Effect) → m ≡ n → Decides new r n → Decides new r m
+pub decides-same : (new : Store) (r : Result code.Effect Refused) (m n : Checked Effect) → m ≡ n → Decides new r n → Decides new r m
 decides-same new r m n e h = subst (λ (m : Checked Effect). Decides new r m) (sym e) h
 
 -- an entry without a fault may fold
 pub fold_of_entry : (S : Signature) (e : SignatureEntry) → entry_fault S e ≡ None → MayFold e
-fold_of_entry S (IsConstant d) h = fold_of d h
+fold_of_entry S (IsConstant d n) h = fold_of d h
 fold_of_entry S (IsProgram p) h = tt
 fold_of_entry S (IsRule r) h = tt
 fold_of_entry S (IsLiteralType class t) h = tt

@@ -5,16 +5,16 @@ use Rattle.eo_base.specs.declared.FaultName.{FaultName}
 use Rattle.eo_base.specs.declared.FaultName.TheVariants.{Redeclared, InScope}
 use Rattle.eo_base.specs.Checks.{Checked, Passed, ◌>>=◌, require, no_fault}
 use Rattle.eo_sig.specs.Adding.{entry_fault}
-use Rattle.eo_sig.specs.Signature.{SignatureEntry, IsConstant, IsProgram, IsRule, IsLiteralType, Constant, Macro, lookup}
+use Rattle.eo_sig.specs.Signature.{SignatureEntry, IsConstant, IsProgram, IsRule, IsLiteralType, Constant, Macro, lookup, counts_of, constant_fault}
 use Rattle.eo_shape.specs.Shapes.{Command, DeclareConst, DeclareFun, DeclareSort, DeclareParameterized, DeclareLiterals, Define, DefineProgram, DeclareRule, Assume, AssumePush, Step, StepPop, Include, Refer, DefineFun, DefineSort, Assert, Exit, Skip}
 use Rattle.eo_declare.specs.Declarations.{is_reference_name}
 use Rattle.eo_session.specs.Commands.{by_command, may_be_in_scope, next_by, scoped_command, placed_command}
-use Rattle.eo_session.specs.Decisions.{constant_effect, typed_effect, macro_effect, entry_effect, decided, scoped_decision, placed_decision, done, done_next}
+use Rattle.eo_session.specs.Decisions.{apart_effect, checked_effect, constant_effect, typed_effect, macro_effect, entry_effect, decided, scoped_decision, placed_decision, done, done_next}
 use Rattle.eo_session.specs.Effects.{Effect, Declares, Defines, Nothing, after}
 use Rattle.eo_session.specs.declared.Next.{Next}
 use Rattle.eo_session.specs.Origin.{Origin}
 use Rattle.eo_session.specs.State.{State, context, is_in_scope, with_entry, with_macro}
-use Rattle.eo_session.specs.Step.{repeats_constant, repeats_macro, type_value, added_constant, typed_constant, added_macro, assume_push, step_plain, step_pop, assert, define_program, declare_rule}
+use Rattle.eo_session.specs.Step.{repeats_constant, named_apart, repeats_macro, type_value, apart_constant, checked_constant, added_constant, typed_constant, added_macro, assume_push, step_plain, step_pop, assert, define_program, declare_rule}
 use Rattle.eo_session.proofs.Decided.{assumed_after, next-same, reference-stays}
 use Rattle.eo_session.proofs.Sessions.{assume-is}
 
@@ -33,16 +33,20 @@ module _ (st : State) where
   entry-done : (entry : SignatureEntry) → (no_fault (entry_fault st.signature entry) >>= λ _. Ok (with_entry st entry)) ≡ done st (entry_effect st entry)
   entry-done entry = behind (no_fault (entry_fault st.signature entry)) _ _ (λ _. ok-done (Declares entry))
 
+  apart-done : (d : Constant) → apart_constant st d ≡ done st (apart_effect st d)
+  apart-done d = behind (named_apart st.naming st.signature d) _ _ (λ _. ok-done (Declares (IsConstant d (counts_of d))))
+
   constant-done : (d : Constant) → added_constant st d ≡ done st (constant_effect st d)
   unfolding added_constant
-  constant-done d = by (is_reference_name (context st) d.name)
+  constant-done d = by (repeats_constant st d)
     where
-      r : Checked Passed
-      r = require (repeats_constant st d (lookup st.signature st.macros d.name)) Redeclared
+      by : (b : Bool) → (if b then Ok st else apart_constant st d) ≡ done st (if b then Ok Nothing else apart_effect st d)
+      by true = ok-done Nothing
+      by false = apart-done d
 
-      by : (b : Bool) → (if b then (r >>= λ _. Ok st) else Ok (with_entry st (IsConstant d))) ≡ done st (if b then (r >>= λ _. Ok Nothing) else Ok (Declares (IsConstant d)))
-      by true = behind r _ _ (λ _. ok-done Nothing)
-      by false = ok-done (Declares (IsConstant d))
+  checked-done : (d : Constant) → checked_constant st d ≡ done st (checked_effect st d)
+  unfolding checked_constant
+  checked-done d = behind (no_fault (constant_fault d)) _ _ (λ _. apart-done d)
 
   typed-done : (d : Constant) → typed_constant st d ≡ done st (typed_effect st d)
   unfolding typed_constant
@@ -65,7 +69,7 @@ module _ (st : State) where
   command_done from (DeclareConst name type shape) = behind _ _ _ typed-done
   command_done from (DeclareFun name inputs output) = behind _ _ _ typed-done
   command_done from (DeclareSort name arity) = behind _ _ _ typed-done
-  command_done from (DeclareParameterized name shapes type shape) = behind _ _ _ (λ d. entry-done (IsConstant d))
+  command_done from (DeclareParameterized name shapes type shape) = behind _ _ _ checked-done
   command_done from (DeclareLiterals class type) = behind _ _ _ (λ t. entry-done (IsLiteralType class t))
   command_done from (Define name shapes body) = behind _ _ _ macro-done
   command_done from (DefineProgram shape) = behind _ _ _ (λ _. behind _ _ _ (λ p. entry-done (IsProgram p)))
@@ -82,7 +86,7 @@ module _ (st : State) where
   command_done from Exit = ok-done Nothing
   command_done from Skip = ok-done Nothing
 
--- ---- where a command stands
+-- ---- where a command is
 
 module _ (st : State) (from : Origin) (k : Command) where
   abbrev with_next : State → Checked (State × Next)

@@ -7,16 +7,16 @@ use Rattle.std.proofs.lemmas.Option.{same_Some, none-some}
 use Rattle.std.proofs.lemmas.List.{append-nil}
 use Rattle.std.proofs.lemmas.List.Folds.{list_all-append}
 use Rattle.std.proofs.lemmas.List.Elements.{filter_map-append}
-use Rattle.eo_names.specs.Contexts.{Context, InProof}
+use Rattle.eo_names.specs.Contexts.{Context, InProof, Naming}
 use Rattle.eo_sig.specs.Signature.{Signature, SignatureEntry, IsConstant, IsProgram, IsRule, IsLiteralType, Constant, Macro, constants, constant_of, constant_at, may_fold, first_signature}
 use Rattle.eo_elab.specs.Fitting.{FitsTerms, macro_is_bound}
 
-abbrev pub in_proof : Signature → List Macro → Context
-in_proof S ms = record { signature = S; macros = ms; setting = InProof }
+abbrev pub in_proof : Naming → Signature → List Macro → Context
+in_proof n S ms = record { signature = S; macros = ms; file_kind = InProof; naming = n }
 
 -- an entry whose terminator is a value, if it has one
 abbrev pub MayFold : SignatureEntry → Type 0
-MayFold (IsConstant d) = may_fold d.attribute ≡ true
+MayFold (IsConstant d n) = may_fold d.attribute ≡ true
 MayFold (IsProgram p) = Unit {0}
 MayFold (IsRule r) = Unit {0}
 MayFold (IsLiteralType class t) = Unit {0}
@@ -33,13 +33,13 @@ module _ (S : Signature) (old : (k : ℕ) (d : Constant) → constant_at S k ≡
   none_more e = old k d (ap (λ (cs : List Constant). slice_get cs k) (sym (append-nil (constants S))) ∙ e)
 
   folds_more : (e : SignatureEntry) → MayFold e → slice_get (constants S ++ constants (e ∷ [])) k ≡ Some d → may_fold d.attribute ≡ true
-  folds_more (IsConstant x) may e = slice_get_more (λ (d : Constant). may_fold d.attribute ≡ true) (constants S) x k d old may e
+  folds_more (IsConstant x n) may e = slice_get_more (λ (d : Constant). may_fold d.attribute ≡ true) (constants S) x k d old may e
   folds_more (IsProgram p) may e = none_more e
   folds_more (IsRule r) may e = none_more e
   folds_more (IsLiteralType class t) may e = none_more e
 
-module _ (S T : Signature) (ms ns : List Macro) (fits : FitsTerms (in_proof S ms)) where
-  pub fits_entry : (e : SignatureEntry) → T ≡ S ++ e ∷ [] → ns ≡ ms → MayFold e → FitsTerms (in_proof T ns)
+module _ {n : Naming} (S T : Signature) (ms ns : List Macro) (fits : FitsTerms (in_proof n S ms)) where
+  pub fits_entry : (e : SignatureEntry) → T ≡ S ++ e ∷ [] → ns ≡ ms → MayFold e → FitsTerms (in_proof n T ns)
   fits_entry e s m may = record {
     folds = λ k d is. folds_more S fits.folds k d e may (ap (λ (cs : List Constant). slice_get cs k) (sym (filter_map-append constant_of S (e ∷ []))) ∙ ap (λ (U : Signature). constant_at U k) (sym s) ∙ is);
     macros = ap (list_all macro_is_bound) m ∙ fits.macros;
@@ -49,17 +49,17 @@ module _ (S T : Signature) (ms ns : List Macro) (fits : FitsTerms (in_proof S ms
     folds_same : (k : ℕ) (d : Constant) → constant_at T k ≡ Some d → may_fold d.attribute ≡ true
     folds_same k d is = fits.folds k d (ap (λ (U : Signature). constant_at U k) (sym s) ∙ is)
 
-    pub fits_macros : (more : List Macro) → ns ≡ ms ++ more → list_all macro_is_bound more ≡ true → FitsTerms (in_proof T ns)
+    pub fits_macros : (more : List Macro) → ns ≡ ms ++ more → list_all macro_is_bound more ≡ true → FitsTerms (in_proof n T ns)
     fits_macros more e bound = record {
       folds = folds_same;
       macros = ap (list_all macro_is_bound) e ∙ list_all-append macro_is_bound ms more ∙ (λ i. fits.macros i && bound i);
     }
 
-    pub fits_macro : (m : Macro) → ns ≡ ms ++ m ∷ [] → macro_is_bound m ≡ true → FitsTerms (in_proof T ns)
+    pub fits_macro : (m : Macro) → ns ≡ ms ++ m ∷ [] → macro_is_bound m ≡ true → FitsTerms (in_proof n T ns)
     fits_macro m e bound = fits_macros (m ∷ []) e (λ i. bound i && true)
 
-    pub fits_taken : (n : ℕ) → ns ≡ take n ms → FitsTerms (in_proof T ns)
-    fits_taken n e = record { folds = folds_same; macros = ap (list_all macro_is_bound) e ∙ front n ms fits.macros }
+    pub fits_taken : (k : ℕ) → ns ≡ take k ms → FitsTerms (in_proof n T ns)
+    fits_taken k e = record { folds = folds_same; macros = ap (list_all macro_is_bound) e ∙ front k ms fits.macros }
       where
         front : (n : ℕ) (ms : List Macro) → list_all macro_is_bound ms ≡ true → list_all macro_is_bound (take n ms) ≡ true
         front zero ms h = refl
@@ -82,5 +82,5 @@ first_folds k d e = sym (ap (λ (o : Option Constant). option_map_or (λ (d : Co
     by (suc (suc (suc zero))) = refl
     by (suc (suc (suc (suc k)))) = refl
 
-pub first_fits : (S : Signature) (ms : List Macro) → S ≡ first_signature → ms ≡ [] → FitsTerms (in_proof S ms)
-first_fits S ms s m = subst FitsTerms (λ i. in_proof (sym s i) (sym m i)) (record { folds = first_folds; macros = refl })
+pub first_fits : {n : Naming} (S : Signature) (ms : List Macro) → S ≡ first_signature → ms ≡ [] → FitsTerms (in_proof n S ms)
+first_fits {n} S ms s m = subst FitsTerms (λ i. in_proof n (sym s i) (sym m i)) (record { folds = first_folds; macros = refl })

@@ -14,7 +14,7 @@ use Rattle.eo_sig.specs.Reading.{Kept, IsBelow, Stays, Adds, AddsMacro, first_ke
 use Rattle.eo_sig.specs.Reading.{signature as signature_of, macros as macros_of}
 use Rattle.eo_sig.specs.Usable.{IsUsable, StaysUsable}
 use Rattle.eo_names.specs.declared.locals.LocalName.{LocalName}
-use Rattle.eo_names.specs.Contexts.{Context}
+use Rattle.eo_names.specs.Contexts.{Context, Several}
 use Rattle.eo_names.specs.Ready as walk
 use Rattle.eo_type.specs.Known.{Fits, Lasts}
 use Rattle.eo_elab.specs.Fitting.{FitsTerms, macro_is_bound}
@@ -22,10 +22,10 @@ use Rattle.eo_proof.specs.Kept as fact
 use Rattle.eo_proof.specs.Kept.{scopes, AreBelow}
 use Rattle.eo_proof.specs.Scopes as proof
 use Rattle.eo_proof.specs.Scopes.{Scopes, no_facts}
-use Rattle.eo_session.specs.declared.held.Held.{Held}
+use Rattle.eo_session.specs.declared.store.Store.{Store}
 use Rattle.eo_ref.specs.Ids.{has_id, with_id}
 use Rattle.eo_reclaim.specs.declared.ScopeMark.{ScopeMark}
-use Rattle.eo_session.specs.Held.{state_of, macro_marks, AreValues, AreMarks, IsHeld, IsWhole, Keeps}
+use Rattle.eo_session.specs.Store.{state_of, macro_marks, AreValues, AreMarks, IsHeld, IsConsistent, Keeps}
 use Rattle.eo_session.specs.State.{State, context, first_state, macros_before, with_entry, with_macro, with_fact, with_scope, without_scope, with_assertion}
 use Rattle.eo_session.proofs.Alive.{own_mark, live_grown}
 use Rattle.eo_session.proofs.Scoping.{map_grown, scopes_grown, below_more, marks_more, none_below, none_values, values_fact, values_scope, values_outside}
@@ -45,7 +45,7 @@ module _ (ts : List Tree) (equals : AreDistinct ts) where
 
 -- ---- a table that grows
 
--- where names keep what they stand for, the signature stays
+-- where names keep their meanings, the signature stays
 pub stays_kept : (k : Kept) (ls : List LocalName) (old new : List Tree) → walk.Keeps k ls old new → Stays k old new
 stays_kept k ls old new h = record { signature = ap (λ (c : Context). c.signature) h.context; macros = ap (λ (c : Context). c.macros) h.context; below = h.ready.below }
 
@@ -53,7 +53,7 @@ stays_kept k ls old new h = record { signature = ap (λ (c : Context). c.signatu
 macro_count : (ts : List Tree) (k : Kept) (ms : List Macro) → macros_of ts k ≡ ms → length k.macros ≡ length ms
 macro_count ts k ms e = sym (length-map k.macros (read_macro ts)) ∙ ap length e
 
-module _ (h : Held) (whole : IsHeld h) where
+module _ (h : Store) (whole : IsHeld h) where
   abbrev trees : List Tree
   trees = h.table.trees
 
@@ -74,6 +74,7 @@ module _ (h : Held) (whole : IsHeld h) where
           scopes = scopes_table k;
           sorry = h.sorry;
           closed = h.closed;
+          naming = Several;
           commands = h.commands;
         })
 
@@ -267,24 +268,24 @@ module _ (h : Held) (whole : IsHeld h) where
         ∙ state_more (has_id h.assertions i)
         ∙ ap (λ b. if b then state_of h else record (state_of h) { assertions = map (tree_at trees) h.assertions ++ tree_at trees i ∷ [] }) (sym (asserted_id trees equals h.assertions i live whole.assertions))
 
--- ---- a table that grows, behind the mark of what is kept
+-- ---- a table that grows, after the mark of what is kept
 
-module _ (h : Held) (whole : IsWhole h) (t : Terms) (stays : Stays h.signature h.table.trees t.trees) (grows : Grows h.table t) where
+module _ (h : Store) (whole : IsConsistent h) (t : Terms) (stays : Stays h.signature h.table.trees t.trees) (grows : Grows h.table t) where
   pub keeps_types : (types : List (ℕ × ℕ)) → Fits (signature_of t.trees h.signature) t.trees types → Lasts types → Keeps h (record h { table = t; types = types })
   keeps_types types fits lasts = record {
-    whole = record { held = held_types h whole.held t stays grows types fits lasts; live = live_grown h whole.live t types grows.now };
-    same = state_table h whole.held t stays grows;
+    whole = record { store = held_types h whole.store t stays grows types fits lasts; live = live_grown h whole.live t types grows.now };
+    same = state_table h whole.store t stays grows;
     signature = refl;
     grows = grows;
   }
 
   pub keeps_table : Keeps h (record h { table = t })
-  keeps_table = keeps_types h.types (whole.held.lasts.grown h.signature h.table t grows.now (record { below = whole.held.signature; types = whole.held.types })).types whole.held.lasts
+  keeps_table = keeps_types h.types (whole.store.lasts.grown h.signature h.table t grows.now (record { below = whole.store.signature; types = whole.store.types })).types whole.store.lasts
 
 -- ---- the first
 
 -- what is held first
-pub record IsFirst (h : Held) (closed : Bool) : Type 0 where
+pub record IsFirst (h : Store) (closed : Bool) : Type 0 where
   pub trees : h.table.trees ≡ first_trees
   pub kept : h.signature ≡ first_kept
   pub signature : signature_of h.table.trees h.signature ≡ first_signature
@@ -296,7 +297,7 @@ pub record IsFirst (h : Held) (closed : Bool) : Type 0 where
   pub closed_is : h.closed ≡ closed
   pub commands : h.commands ≡ 0
 
-pub state_first : (h : Held) (closed : Bool) → IsFirst h closed → state_of h ≡ first_state closed
+pub state_first : (h : Store) (closed : Bool) → IsFirst h closed → state_of h ≡ first_state closed
 unfolding first_state
 state_first h closed f =
     (λ j. record {
@@ -308,10 +309,11 @@ state_first h closed f =
       scopes = f.facts h.table.trees j;
       sorry = f.sorry j;
       closed = f.closed_is j;
+      naming = Several;
       commands = f.commands j;
     })
 
-pub whole_first : (h : Held) (closed : Bool) → IsFirst h closed → IsBelow 4 h.signature → IsUsable (signature_of h.table.trees h.signature) → Fits (signature_of h.table.trees h.signature) h.table.trees h.types → Lasts h.types → IsHeld h
+pub whole_first : (h : Store) (closed : Bool) → IsFirst h closed → IsBelow 4 h.signature → IsUsable (signature_of h.table.trees h.signature) → Fits (signature_of h.table.trees h.signature) h.table.trees h.types → Lasts h.types → IsHeld h
 whole_first h closed f below usable types lasts = record {
   types = types;
   lasts = lasts;

@@ -8,14 +8,14 @@ use Rattle.std.proofs.lemmas.Bool.Decides.{nat_tests}
 use Rattle.std.proofs.lemmas.List.{append-nil, append_assoc, map-append}
 use Rattle.std.proofs.lemmas.List.Folds.{list_any-append}
 use Rattle.eo_base.proofs.Tests.{bytes_eq-flip}
-use Rattle.eo_elab.specs.Fitting.{label_is_closed, are_free}
-use Rattle.eo_elab.specs.Meaning.{is_free_label}
+use Rattle.eo_elab.specs.Fitting.{named_term_is_closed, are_free}
+use Rattle.eo_elab.specs.Meaning.{is_free_named_term}
 use Rattle.eo_names.specs.Contexts.{Context, InAssert}
-use Rattle.eo_names.specs.Readers.{Label}
+use Rattle.eo_names.specs.Readers.{NamedTerm}
 use Rattle.eo_sig.specs.Signature.{Signature, Macro, NamesConstant, NamesMacro, NamesProgram, constant_named, macro_named, program_named, is_reserved, is_free}
 use Rattle.eo_session.specs.Asserting.{AreNew, MayBeNames}
 use Rattle.eo_session.specs.State.{State, context_in}
-use Rattle.eo_session.specs.Step.{label_macro}
+use Rattle.eo_session.specs.Step.{named_term_macro}
 
 -- whether there is a first place
 module _ {X : Type 0} (p : X → Bool) where
@@ -66,25 +66,25 @@ none_named true b h = absurd (true≢false (sym h))
 none_named false b h = (refl, h)
 
 -- a name that is free, and none of these, is free once these are macros
-free_macros : (S : Signature) (ms : List Macro) (before : List Label) (name : List ℕ) → is_free S ms name ≡ true → not (list_any (λ l. bytes_eq l.name name) before) ≡ true →
-    is_free S (ms ++ map label_macro before) name ≡ true
+free_macros : (S : Signature) (ms : List Macro) (before : List NamedTerm) (name : List ℕ) → is_free S ms name ≡ true → not (list_any (λ l. bytes_eq l.name name) before) ≡ true →
+    is_free S (ms ++ map named_term_macro before) name ≡ true
 free_macros S ms [] name free new = ap (λ (ns : List Macro). is_free S ns name) (append-nil ms) ∙ free
 free_macros S ms (l ∷ ls) name free new =
     let p = none_named (bytes_eq l.name name) (list_any (λ l. bytes_eq l.name name) ls) new in
-    ap (λ (ns : List Macro). is_free S ns name) (sym (append_assoc ms (label_macro l ∷ []) (map label_macro ls)))
-    ∙ free_macros S (ms ++ label_macro l ∷ []) ls name (free_macro S ms (label_macro l) name free (bytes_eq-flip name l.name ∙ p.0)) p.1
+    ap (λ (ns : List Macro). is_free S ns name) (sym (append_assoc ms (named_term_macro l ∷ []) (map named_term_macro ls)))
+    ∙ free_macros S (ms ++ named_term_macro l ∷ []) ls name (free_macro S ms (named_term_macro l) name free (bytes_eq-flip name l.name ∙ p.0)) p.1
 
-are_new : (c : Context) (before labels : List Label) → are_free c before labels ≡ true → list_all label_is_closed labels ≡ true → AreNew c.signature (c.macros ++ map label_macro before) labels
+are_new : (c : Context) (before named_terms : List NamedTerm) → are_free c before named_terms ≡ true → list_all named_term_is_closed named_terms ≡ true → AreNew c.signature (c.macros ++ map named_term_macro before) named_terms
 are_new c before [] free closed = tt
 are_new c before (l ∷ ls) free closed =
-    let p = and_parts (is_free_label c before l.name) (are_free c (before ++ l ∷ []) ls) free in
-    let q = and_parts (is_free c.signature c.macros l.name) (not (list_any (λ (k : Label). bytes_eq k.name l.name) before)) p.0 in
-    let k = and_parts (label_is_closed l) (list_all label_is_closed ls) closed in
-    let more = ap (λ (ns : List Macro). c.macros ++ ns) (map-append label_macro before (l ∷ [])) ∙ sym (append_assoc c.macros (map label_macro before) (label_macro l ∷ [])) in (
+    let p = and_parts (is_free_named_term c before l.name) (are_free c (before ++ l ∷ []) ls) free in
+    let q = and_parts (is_free c.signature c.macros l.name) (not (list_any (λ (k : NamedTerm). bytes_eq k.name l.name) before)) p.0 in
+    let k = and_parts (named_term_is_closed l) (list_all named_term_is_closed ls) closed in
+    let more = ap (λ (ns : List Macro). c.macros ++ ns) (map-append named_term_macro before (l ∷ [])) ∙ sym (append_assoc c.macros (map named_term_macro before) (named_term_macro l ∷ [])) in (
       record { free = free_macros c.signature c.macros before l.name q.0 q.1; closed = k.0 },
       subst (λ (ns : List Macro). AreNew c.signature ns ls) more (are_new c (before ++ l ∷ []) ls p.1 k.1),
     )
 
-pub assertion_names : (st : State) (labels : List Label) → are_free (context_in st InAssert) [] labels ≡ true → list_all label_is_closed labels ≡ true → MayBeNames st labels
-assertion_names st labels free closed =
-    subst (λ (ns : List Macro). AreNew st.signature ns labels) (append-nil st.macros) (are_new (context_in st InAssert) [] labels free closed)
+pub assertion_names : (st : State) (named_terms : List NamedTerm) → are_free (context_in st InAssert) [] named_terms ≡ true → list_all named_term_is_closed named_terms ≡ true → MayBeNames st named_terms
+assertion_names st named_terms free closed =
+    subst (λ (ns : List Macro). AreNew st.signature ns named_terms) (append-nil st.macros) (are_new (context_in st InAssert) [] named_terms free closed)

@@ -1,4 +1,4 @@
--- The paths that commands name, and what is done behind a command.
+-- The paths that commands name, and what is done after a command.
 use Rattle.std.proofs.Common.{◌≡◌, refl, ℕ, Bool, true, false, not, List, Bor, ap, ◌∙◌}
 use Rattle.std.specs.Prelude.{◌≢◌, Ok, Err}
 use Rattle.std.specs.Str.{is_utf8, IsUtf8}
@@ -49,7 +49,7 @@ module _ (st : State) (written : List ℕ) where
   unfolding reference_path require ◌>>=◌
   reference-first e = ap by_reference e
 
--- ---- what is done behind a command that names a file
+-- ---- what is done after a command that names a file
 
 module _ (st : State) (k : Command) (written : List ℕ) where
   module _ (e : k ≡ Include written) where
@@ -90,7 +90,7 @@ module _ (st : State) (k : Command) (written : List ℕ) where
     pub refer-stops : (x : Refused) → Refuses (reference_path st written) x → Refuses (next_by st k) x
     refer-stops x h = refuses_on (reference_path st written) (next_by st k) x h refer-fault
 
--- and behind each other one
+-- and after each other one
 pub next-done : (st : State) (k : code.Command) → ((x : Bor (List ℕ)) → k ≢ command.Include x) → ((x : Bor (List ℕ)) → k ≢ command.Refer x) → k ≢ command.Exit → next_by st (read_command k) ≡ Ok next.Done
 unfolding next_by
 next-done st (command.Include x) a b d = absurd (a x refl)

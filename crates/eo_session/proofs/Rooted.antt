@@ -51,11 +51,11 @@ module _ (ts : List Tree) (n : ℕ) (P : Tree → Type 0) (each : (i : ℕ) → 
   -- of the constants themselves it has to be known
   of_entries : (k : ℕ) (es : List Declared) → All (EntryBelow n) es → ((j : ℕ) → k ≤ j → j < k + length (filter_map const_of es) → P (Con j)) → All P (entry_trees k (map (read_entry ts) es))
   of_entries k [] a c = All-nil P
-  of_entries k (declared.Const d ∷ es) a c =
+  of_entries k (declared.Const d m ∷ es) a c =
       let own = constant_trees (read_constant ts d) in
       All-append P (Con k ∷ own) (entry_trees (suc k) (map (read_entry ts) es))
-      (All-cons P (Con k) own (c k (omega arith) (omega arith)) (of_constant d (All-head (EntryBelow n) (declared.Const d) es a)))
-      (of_entries (suc k) es (All-tail (EntryBelow n) (declared.Const d) es a) (λ j l h. c j (omega (arith, l)) (omega (arith, h))))
+      (All-cons P (Con k) own (c k (omega arith) (omega arith)) (of_constant d (All-head (EntryBelow n) (declared.Const d m) es a)))
+      (of_entries (suc k) es (All-tail (EntryBelow n) (declared.Const d m) es a) (λ j l h. c j (omega (arith, l)) (omega (arith, h))))
   of_entries k (declared.Program d ∷ es) a c =
       All-append P (program_trees (read_program ts d)) (entry_trees k (map (read_entry ts) es))
       (of_program d (All-head (EntryBelow n) (declared.Program d) es a)) (of_entries k es (All-tail (EntryBelow n) (declared.Program d) es a) c)
@@ -107,7 +107,7 @@ module _ (ts : List Tree) (n : ℕ) (P : Tree → Type 0) (each : (i : ℕ) → 
 -- ---- what is added is held
 
 own_held : (k : ℕ) (e : SignatureEntry) (t : Tree) → Contains (own_trees k e) t → Contains (entry_trees k (e ∷ [])) t
-own_held k (IsConstant c) t h = Contains-append_left (Con k ∷ constant_trees c) [] t h
+own_held k (IsConstant c m) t h = Contains-append_left (Con k ∷ constant_trees c) [] t h
 own_held k (IsProgram p) t h = Contains-append_left (program_trees p) [] t h
 own_held k (IsRule r) t h = Contains-append_left (rule_trees r) [] t h
 own_held k (IsLiteralType class u) t h = h
@@ -115,7 +115,7 @@ own_held k (IsLiteralType class u) t h = h
 -- what was held stays
 entries_stay : (k : ℕ) (S T : Signature) (t : Tree) → Contains (entry_trees k S) t → Contains (entry_trees k (S ++ T)) t
 entries_stay k [] T t h = contains_none t h
-entries_stay k (IsConstant c ∷ S) T t h =
+entries_stay k (IsConstant c m ∷ S) T t h =
     elim (Contains-append_cases (Con k ∷ constant_trees c) (entry_trees (suc k) S) t h) [
       | inl a ↦ Contains-append_left (Con k ∷ constant_trees c) (entry_trees (suc k) (S ++ T)) t a
       | inr b ↦ Contains-append_right (Con k ∷ constant_trees c) (entry_trees (suc k) (S ++ T)) t (entries_stay (suc k) S T t b)
@@ -141,7 +141,7 @@ entry_comes k [] e t h = own_held k e t (subst (λ n. Contains (own_trees n e) t
   where
     zero_more : k + 0 ≡ k
     zero_more = omega arith
-entry_comes k (IsConstant c ∷ S) e t h =
+entry_comes k (IsConstant c m ∷ S) e t h =
     Contains-append_right (Con k ∷ constant_trees c) (entry_trees (suc k) (S ++ e ∷ [])) t (entry_comes (suc k) S e t (subst (λ n. Contains (own_trees n e) t) one_more h))
   where
     one_more : k + suc (length (constants S)) ≡ suc k + length (constants S)

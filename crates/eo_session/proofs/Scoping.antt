@@ -12,7 +12,7 @@ use Rattle.eo_proof.specs.Kept.{NamedId, Kept, read_fact, outer_facts, opened, s
 use Rattle.eo_proof.specs.Scopes.{Fact, Scope, Scopes, no_facts, opened_facts, fact, in_innermost, with_fact, with_scope, outside, innermost_hypothesis}
 use Rattle.eo_proof.specs.Outcomes.{Popped}
 use Rattle.eo_proof.specs.declared.facts.NoScope.{NoScope}
-use Rattle.eo_session.specs.Held.{AreValues, AreMarks}
+use Rattle.eo_session.specs.Store.{AreValues, AreMarks}
 use Rattle.std.proofs.lemmas.Bool.{and_parts}
 
 -- ---- a table that grows

@@ -19,7 +19,7 @@ use Rattle.eo_names.specs.declared.locals.LocalName.{LocalName}
 use Rattle.eo_names.specs.declared.refused.ElabRefused.{ElabRefused}
 use Rattle.eo_names.specs.declared.refused.ElabRefused.TheVariants as elab
 use Rattle.eo_names.specs.Refused.{told as elab_told}
-use Rattle.eo_session.specs.declared.held.Held.{Held}
+use Rattle.eo_session.specs.declared.store.Store.{Store}
 use Rattle.eo_session.specs.declared.refused.Refused.{Refused}
 use Rattle.eo_session.specs.declared.refused.Refused.TheVariants as refused
 use Rattle.eo_session.specs.Stepping.{of_elab, Refuses, GivesTerm}
@@ -293,7 +293,7 @@ refuses_elab m elab.BadPattern h = (h, λ q. absurd cc)
 refuses_elab m (elab.Memory e) h = (tt, tt)
 
 -- an answer for a term is one for what is the same
-pub gives-same : (h : Held) (r : Result ℕ Refused) (m n : Checked Tree) → m ≡ n → GivesTerm h r n → GivesTerm h r m
+pub gives-same : (h : Store) (r : Result ℕ Refused) (m n : Checked Tree) → m ≡ n → GivesTerm h r n → GivesTerm h r m
 gives-same h r m n e g = subst (λ k. GivesTerm h r k) (sym e) g
 
 -- a refusal that is passed on, of what leads to the same fault

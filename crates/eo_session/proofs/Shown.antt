@@ -1,13 +1,11 @@
 -- What is decided stays so where the table has grown, and what is seen of it.
-use Rattle.std.proofs.Common.{◌≡◌, refl, ℕ, ◌<◌, Bool, true, false, List, [], ◌∷◌, ◌++◌, length, map, All, sym, ap, subst, ◌∙◌, arith}
-use Rattle.std.specs.Prelude.{Some, slice_get, Ok, Err, Result, IfErr, OnOk}
+use Rattle.std.proofs.Common.{◌≡◌, refl, ℕ, ◌<◌, Bool, true, false, List, [], ◌∷◌, ◌++◌, length, All, sym, ap, subst, ◌∙◌, arith}
+use Rattle.std.specs.Prelude.{slice_get, Ok, Err, Result, IfErr}
 use Rattle.std.specs.Result.{IsErrAnd}
 use Rattle.std.proofs.Math.Path.{transport}
 use Rattle.std.proofs.lemmas.List.Elements.{All-nil, All-cons, All-head, All-weaker}
 use Rattle.std.proofs.lemmas.Option.{same_Some}
-use Rattle.eo_base.specs.declared.FaultName.{FaultName}
 use Rattle.eo_base.specs.declared.Place.{Place}
-use Rattle.eo_base.specs.Checks.{Checked}
 use Rattle.eo_elab.specs.Fitting.{macro_is_bound}
 use Rattle.eo_names.specs.Names.{Binding}
 use Rattle.eo_proof.specs.Scopes.{depth, scope_limit, is_live}
@@ -24,23 +22,21 @@ use Rattle.eo_term.specs.Growth.{Grows}
 use Rattle.eo_term.specs.Terms.{Terms, Since}
 use Rattle.eo_term.specs.Tree.{Tree}
 use Rattle.eo_session.specs.Asserting.{MayBeNames}
-use Rattle.eo_session.specs.Deciding.{MayCommit, MayDeclare, read_effect}
+use Rattle.eo_session.specs.Deciding.{MayCommit, read_effect}
 use Rattle.eo_session.specs.Decisions.{placed_decision}
 use Rattle.eo_session.specs.Effects.{Effect, Declares, Asserts, Defines, Opens, Adds, closed_if}
-use Rattle.eo_session.specs.Held.{state_of, IsWhole, Keeps}
+use Rattle.eo_session.specs.Store.{Keeps}
 use Rattle.eo_session.specs.Origin.{Origin}
-use Rattle.eo_session.specs.Notes.{Seen, seen_by, shown, shown_by}
+use Rattle.eo_session.specs.Notes.{seen_by, shown, shown_by}
 use Rattle.eo_session.specs.Noting.{UnlessMemory}
 use Rattle.eo_session.specs.State.{State, is_in_scope}
-use Rattle.eo_session.specs.Stepping.{IsMemory}
 use Rattle.eo_session.specs.Step.{is_in_reference, is_free_fact}
-use Rattle.eo_session.specs.declared.Next.{Next}
 use Rattle.eo_session.specs.declared.effects.Effect as code
 use Rattle.eo_session.specs.declared.effects.Effect.TheVariants as effect
-use Rattle.eo_session.specs.declared.held.Held.{Held}
+use Rattle.eo_session.specs.declared.store.Store.{Store}
 use Rattle.eo_session.specs.declared.refused.Refused.{Refused}
 use Rattle.eo_session.specs.declared.refused.Refused.TheVariants as refused
-use Rattle.eo_session.proofs.Assertions.{labels_later}
+use Rattle.eo_session.proofs.Assertions.{named_terms_later}
 use Rattle.eo_session.proofs.Sessions.{value_later}
 
 -- ---- one declaration, as what alone is kept
@@ -75,29 +71,29 @@ module _ (stays : (k : Kept) → StaysSince k) (old new : Terms) (since : Since 
 
 -- the parameters of a rule
 abbrev parameters_of : SignatureEntry → List Parameter
-parameters_of (IsConstant c) = []
+parameters_of (IsConstant c n) = []
 parameters_of (IsProgram p) = []
 parameters_of (IsRule r) = r.parameters
 parameters_of (IsLiteralType class t) = []
 
 ordered_later : (ts us : List Tree) (d : Declared) → read_entry us d ≡ read_entry ts d → EntryIsOrdered ts d → EntryIsOrdered us d
-ordered_later ts us (declared.Const d) same h = tt
+ordered_later ts us (declared.Const d n) same h = tt
 ordered_later ts us (declared.Program d) same h = tt
 ordered_later ts us (declared.Rule d) same h = ap (λ (e : SignatureEntry). are_ordered 0 (parameters_of e)) same ∙ h
 ordered_later ts us (declared.Literal class t) same h = tt
 
 -- ---- effects
 
-module _ (stays : (k : Kept) → StaysSince k) (h : Held) where
+module _ (stays : (k : Kept) → StaysSince k) (h : Store) where
   pub effect-same : (e : code.Effect) → MayCommit h e → (t : Terms) → Grows h.table t → read_effect t e ≡ read_effect h.table e
   effect-same (effect.Declare d) may t grows = ap Declares (entry_later stays h.table t grows.now d may.below)
   effect-same (effect.Define d) may t grows = ap Defines (macro_later stays h.table t grows.now d may.below)
-  effect-same (effect.Assert i names) may t grows = (λ j. Asserts (grows.now.tree i may.live j) (labels_later h.table t grows names may.below j))
+  effect-same (effect.Assert i names) may t grows = (λ j. Asserts (grows.now.tree i may.live j) (named_terms_later h.table t grows names may.below j))
   effect-same (effect.Open name i) may t grows = ap (Opens name.now) (grows.now.tree i may.value.live)
   effect-same (effect.Add name k closes) may t grows = (λ j. Adds name.now (record { formula = grows.now.tree k.formula may.value.live j; sorry = k.sorry }) closes)
   effect-same effect.Nothing may t grows = refl
 
-  pub effect-stays : (new : Held) → Keeps h new → (e : code.Effect) → MayCommit h e → MayCommit new e
+  pub effect-stays : (new : Store) → Keeps h new → (e : code.Effect) → MayCommit h e → MayCommit new e
   effect-stays new keeps (effect.Declare d) may =
       let same = entry_later stays h.table new.table keeps.grows.now d may.below in
       record {
@@ -115,7 +111,7 @@ module _ (stays : (k : Kept) → StaysSince k) (h : Held) where
   effect-stays new keeps (effect.Assert i names) may = record {
     live = omega (arith, may.live, keeps.grows.now.more_trees);
     below = All-weaker (λ (b : Binding). b.1 < length h.table.trees) (λ (b : Binding). b.1 < length new.table.trees) (λ b l. omega (arith, l, keeps.grows.now.more_trees)) names may.below;
-    new = transport (λ j. MayBeNames (sym keeps.same j) (sym (labels_later h.table new.table keeps.grows names may.below) j)) may.new;
+    new = transport (λ j. MayBeNames (sym keeps.same j) (sym (named_terms_later h.table new.table keeps.grows names may.below) j)) may.new;
     outside = ap is_in_scope keeps.same ∙ may.outside;
   }
   effect-stays new keeps (effect.Open name i) may = record {

@@ -10,7 +10,7 @@ use Rattle.eo_base.proofs.Elements.{ids_more, push_below, push_same, map_same}
 use Rattle.eo_eval.specs.Outcomes.{IsValueOf}
 use Rattle.eo_proof.specs.Scopes.{Fact, Scope, Scopes, fact_named, formula_named, innermost_hypothesis, live_facts}
 use Rattle.eo_rule.specs.Answers.{AnswersOnly}
-use Rattle.eo_rule.specs.Reading.{read_use}
+use Rattle.eo_rule.specs.Reading.{IsUseOf, read_use}
 use Rattle.eo_rule.specs.Uses.{Use}
 use Rattle.eo_rule.specs.declared.RuleUse.{RuleUse}
 use Rattle.eo_rule.specs.declared.refused.RuleRefused.{RuleRefused}
@@ -18,15 +18,14 @@ use Rattle.eo_sig.specs.Reading.{SomeBelow}
 use Rattle.eo_term.specs.Growth.{tree_in, trees_in, Grows}
 use Rattle.eo_term.specs.Terms.{Terms, Since, tree_at}
 use Rattle.eo_term.specs.Tree.{Tree, is_value}
-use Rattle.eo_session.specs.Held.{state_of, AreValues, IsWhole, Keeps}
+use Rattle.eo_session.specs.Store.{state_of, AreValues, IsConsistent, Keeps}
 use Rattle.eo_base.specs.Checks.{Checked}
 use Rattle.eo_session.specs.State.{State, without_scope}
 use Rattle.eo_session.specs.Step.{Concluded, is_free_fact, is_free_outer_fact}
-use Rattle.eo_session.specs.Using.{AreValueIds, MayDischarge, IsUse, GivesConcluded}
+use Rattle.eo_session.specs.Using.{AreValueIds, MayDischarge, GivesConcluded}
 use Rattle.eo_session.specs.declared.refused.Refused.{Refused}
 use Rattle.eo_session.specs.declared.steps.Conclusion.{Conclusion}
-use Rattle.eo_session.specs.declared.held.Held.{Held}
-use Rattle.eo_session.proofs.Scoping.{}
+use Rattle.eo_session.specs.declared.store.Store.{Store}
 use Rattle.std.proofs.lemmas.Bool.{and_parts}
 
 -- ---- facts
@@ -91,8 +90,8 @@ nothing_discharged t = record { live = tt; value = refl }
 pub discharged : (t : Terms) (i : ℕ) → i < length t.trees → is_value (tree_in t i) ≡ true → MayDischarge t (Some i)
 discharged t i live value = record { live = live; value = (λ k. value k && true) }
 
-pub discharges_innermost : (h : Held) → IsWhole h → (i : ℕ) → i < length h.table.trees → innermost_hypothesis (state_of h).scopes ≡ Some (tree_in h.table i) → MayDischarge h.table (Some i)
-discharges_innermost h whole i live e = discharged h.table i live (hypothesis_value (state_of h).scopes (tree_in h.table i) whole.held.values e)
+pub discharges_innermost : (h : Store) → IsConsistent h → (i : ℕ) → i < length h.table.trees → innermost_hypothesis (state_of h).scopes ≡ Some (tree_in h.table i) → MayDischarge h.table (Some i)
+discharges_innermost h whole i live e = discharged h.table i live (hypothesis_value (state_of h).scopes (tree_in h.table i) whole.store.values e)
 
 -- ---- uses
 
@@ -110,7 +109,7 @@ module _ (t u v : Terms) (first : Since t u) (second : Since u v) (all : Since t
       stated = sym (some_same u v second o stated) k;
     })
 
-    pub use_is : IsUse v whole
+    pub use_is : IsUseOf v whole
     use_is =
         let later = ids_later t v all ps premises in
         record {
@@ -126,10 +125,10 @@ since_self t = grind (arith, common_steps)
 pub grows_self : (t : Terms) → Grows t t
 grows_self t = record { now = since_self t; since = λ u h. h }
 
-pub keeps_self : (h : Held) → IsWhole h → Keeps h h
+pub keeps_self : (h : Store) → IsConsistent h → Keeps h h
 keeps_self h whole = record { whole = whole; same = refl; signature = refl; grows = grows_self h.table }
 
-pub keeps_on : (a b c : Held) → Keeps a b → Keeps b c → Keeps a c
+pub keeps_on : (a b c : Store) → Keeps a b → Keeps b c → Keeps a c
 keeps_on a b c p q = record {
   whole = q.whole;
   same = q.same ∙ p.same;
@@ -140,7 +139,7 @@ keeps_on a b c p q = record {
 -- ---- conclusions
 
 -- an answer is one for what is the same
-pub concluded-same : (h : Held) (r : Result Conclusion Refused) (m n : Checked Concluded) → m ≡ n → GivesConcluded h r n → GivesConcluded h r m
+pub concluded-same : (h : Store) (r : Result Conclusion Refused) (m n : Checked Concluded) → m ≡ n → GivesConcluded h r n → GivesConcluded h r m
 concluded-same h r m n e g = subst (λ (k : Checked Concluded). GivesConcluded h r k) (sym e) g
 
 -- a name that is free outside the innermost scope is free once that is closed

@@ -7,7 +7,7 @@ use Rattle.eo_lit.specs.Literals.{string_bytes}
 use Rattle.eo_sexp.specs.Sexp.{Sexp}
 use Rattle.eo_shape.specs.Shapes.{Command, DeclareConst, DeclareFun, DeclareSort, DeclareParameterized, DeclareLiterals, Define, DefineProgram, DeclareRule, Assume, AssumePush, Step, StepPop, Include, Refer, DefineFun, DefineSort, Assert, Exit, Skip, command_of}
 use Rattle.eo_session.specs.State.{State, with_command, is_in_scope}
-use Rattle.eo_session.specs.Step.{is_in_reference, setting_of, declare_const, declare_fun, declare_sort, declare_parameterized, declare_literals, define, define_fun, define_sort, define_program, declare_rule, assume, assume_push, step_plain, step_pop, assert}
+use Rattle.eo_session.specs.Step.{is_in_reference, file_kind_of, declare_const, declare_fun, declare_sort, declare_parameterized, declare_literals, define, define_fun, define_sort, define_program, declare_rule, assume, assume_push, step_plain, step_pop, assert}
 use Rattle.eo_session.specs.Origin.{Origin}
 use Rattle.eo_session.specs.declared.Next.{Next}
 use Rattle.eo_session.specs.declared.Next.TheVariants as next
@@ -25,7 +25,7 @@ reference_path st written = do
   _ ← require (not st.has_reference) SecondReference
   path_of written
 
--- What is done behind a command, before the next one: a file may be opened, or the one that is read may end. What the command declares is declared by then.
+-- What is done after a command, before the next one: a file may be opened, or the one that is read may end. What the command declares is declared by then.
 unfoldable pub next_by : State → Command → Checked Next
 next_by st (Include written) = do
   path ← path_of written
@@ -39,9 +39,9 @@ next_by st command = Ok next.Done
 -- ---- each command
 
 abbrev pub by_command : State → Origin → Command → Checked State
-by_command st from (DeclareConst name type shape) = declare_const st (setting_of from) name type shape
-by_command st from (DeclareFun name inputs output) = declare_fun st (setting_of from) name inputs output
-by_command st from (DeclareSort name arity) = declare_sort st (setting_of from) name arity
+by_command st from (DeclareConst name type shape) = declare_const st (file_kind_of from) name type shape
+by_command st from (DeclareFun name inputs output) = declare_fun st (file_kind_of from) name inputs output
+by_command st from (DeclareSort name arity) = declare_sort st (file_kind_of from) name arity
 by_command st from (DeclareParameterized name shapes type shape) = declare_parameterized st name shapes type shape
 by_command st from (DeclareLiterals class type) = declare_literals st class type
 by_command st from (Define name shapes body) = define st name shapes body
@@ -59,7 +59,7 @@ by_command st from (Assert s) = assert st s
 by_command st from Exit = Ok st
 by_command st from Skip = Ok st
 
--- commands that may stand in a scope
+-- commands that are allowed in a scope
 abbrev pub may_be_in_scope : Command → Bool
 may_be_in_scope (Define name shapes body) = true
 may_be_in_scope (AssumePush name s) = true
@@ -73,7 +73,7 @@ scoped_command st from command = do
   _ ← require (not (is_in_scope st) || may_be_in_scope command) InScope
   by_command st from command
 
--- the state behind a command, and what is done next
+-- the state after a command, and what is done next
 unfoldable pub placed_command : State → Origin → Command → Checked (State × Next)
 placed_command st from command = do
   new ← scoped_command st from command

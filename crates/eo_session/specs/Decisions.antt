@@ -5,19 +5,19 @@ use Rattle.eo_base.specs.Checks.{Checked, ◌>>=◌, require, no_fault, value_or
 use Rattle.eo_lit.specs.declared.LiteralClass.{LiteralClass}
 use Rattle.eo_sexp.specs.Sexp.{Sexp}
 use Rattle.eo_sig.specs.Adding.{entry_fault}
-use Rattle.eo_sig.specs.Signature.{SignatureEntry, IsConstant, IsProgram, IsRule, IsLiteralType, Constant, Macro, lookup}
+use Rattle.eo_sig.specs.Signature.{SignatureEntry, IsConstant, IsProgram, IsRule, IsLiteralType, Constant, Macro, lookup, counts_of, constant_fault}
 use Rattle.eo_shape.specs.Shapes.{ParameterShape, AttributeShape, ProgramShape, RuleShape, StepShape, Command, DeclareConst, DeclareFun, DeclareSort, DeclareParameterized, DeclareLiterals, Define, DefineProgram, DeclareRule, Assume, AssumePush, Step, StepPop, Include, Refer, DefineFun, DefineSort, Assert, Exit, Skip}
 use Rattle.eo_declare.specs.Declarations.{is_reference_name, declared_const, declared_fun, declared_sort, declared_parameterized, declared_literals, defined, defined_fun, defined_sort, declared_program, declared_rule}
 use Rattle.eo_elab.specs.Meaning.{means}
-use Rattle.eo_names.specs.Contexts.{Setting, InReference, InAssert}
-use Rattle.eo_names.specs.Readers.{Label}
+use Rattle.eo_names.specs.Contexts.{FileKind, InReference, InAssert}
+use Rattle.eo_names.specs.Readers.{NamedTerm}
 use Rattle.eo_proof.specs.Scopes.{depth, scope_limit, innermost_hypothesis}
 use Rattle.eo_term.specs.Tree.{Tree}
 use Rattle.eo_session.specs.Commands.{by_command, may_be_in_scope, next_by, placed_command}
 use Rattle.eo_session.specs.Effects.{Effect, Declares, Defines, Asserts, Opens, Adds, Nothing, after}
 use Rattle.eo_session.specs.Origin.{Origin}
 use Rattle.eo_session.specs.State.{State, context, context_in, is_in_scope}
-use Rattle.eo_session.specs.Step.{setting_of, is_free_fact, is_free_outer_fact, repeats_constant, repeats_macro, type_value, may_declare, formula_of, formula, concluded}
+use Rattle.eo_session.specs.Step.{file_kind_of, is_free_fact, is_free_outer_fact, repeats_constant, named_apart, repeats_macro, type_value, may_declare, formula_of, formula, concluded}
 use Rattle.eo_session.specs.Using.{asserted_formula}
 use Rattle.eo_session.specs.declared.Next.{Next}
 
@@ -29,30 +29,37 @@ entry_effect st entry = do
   _ ← no_fault (entry_fault st.signature entry)
   Ok (Declares entry)
 
+-- a constant, unless one of its name takes a number of arguments that it takes
+abbrev pub apart_effect : State → Constant → Checked Effect
+apart_effect st d = do
+  _ ← named_apart st.naming st.signature d
+  Ok (Declares (IsConstant d (counts_of d)))
+
 -- a constant, whose type is a value; one of the reference file may be repeated
 abbrev pub constant_effect : State → Constant → Checked Effect
-constant_effect st d =
-    if is_reference_name (context st) d.name then (do
-      _ ← require (repeats_constant st d (lookup st.signature st.macros d.name)) Redeclared
-      Ok Nothing
-    ) else Ok (Declares (IsConstant d))
+constant_effect st d = if repeats_constant st d then Ok Nothing else apart_effect st d
+
+abbrev pub checked_effect : State → Constant → Checked Effect
+checked_effect st d = do
+  _ ← no_fault (constant_fault d)
+  apart_effect st d
 
 abbrev pub typed_effect : State → Constant → Checked Effect
 typed_effect st d = do
   v ← type_value st d.type
   constant_effect st (record d { type = v })
 
-abbrev pub const_effect : State → Setting → List ℕ → Sexp → AttributeShape → Checked Effect
-const_effect st setting name type shape = declared_const (context_in st setting) name type shape >>= typed_effect st
+abbrev pub const_effect : State → FileKind → List ℕ → Sexp → AttributeShape → Checked Effect
+const_effect st file_kind name type shape = declared_const (context_in st file_kind) name type shape >>= typed_effect st
 
-abbrev pub fun_effect : State → Setting → List ℕ → List Sexp → Sexp → Checked Effect
-fun_effect st setting name inputs output = declared_fun (context_in st setting) name inputs output >>= typed_effect st
+abbrev pub fun_effect : State → FileKind → List ℕ → List Sexp → Sexp → Checked Effect
+fun_effect st file_kind name inputs output = declared_fun (context_in st file_kind) name inputs output >>= typed_effect st
 
-abbrev pub sort_effect : State → Setting → List ℕ → ℕ → Checked Effect
-sort_effect st setting name arity = declared_sort (context_in st setting) name arity >>= typed_effect st
+abbrev pub sort_effect : State → FileKind → List ℕ → ℕ → Checked Effect
+sort_effect st file_kind name arity = declared_sort (context_in st file_kind) name arity >>= typed_effect st
 
 abbrev pub parameterized_effect : State → List ℕ → List ParameterShape → Sexp → AttributeShape → Checked Effect
-parameterized_effect st name shapes type shape = declared_parameterized (context st) name shapes type shape >>= λ d. entry_effect st (IsConstant d)
+parameterized_effect st name shapes type shape = declared_parameterized (context st) name shapes type shape >>= checked_effect st
 
 abbrev pub literals_effect : State → LiteralClass → Sexp → Checked Effect
 literals_effect st class type = declared_literals (context st) class type >>= λ t. entry_effect st (IsLiteralType class t)
@@ -132,10 +139,10 @@ pop_effect st s = do
 -- ---- assertions
 
 -- a formula that was read, with the names of its terms
-abbrev pub asserted_effect : State → Tree → List Label → Checked Effect
-asserted_effect st t labels = do
+abbrev pub asserted_effect : State → Tree → List NamedTerm → Checked Effect
+asserted_effect st t named_terms = do
   v ← formula_of st t
-  Ok (Asserts v labels)
+  Ok (Asserts v named_terms)
 
 abbrev pub assert_effect : State → Sexp → Checked Effect
 assert_effect st s = do
@@ -146,9 +153,9 @@ assert_effect st s = do
 
 -- What is decided of each kind of command.
 abbrev pub decided : State → Origin → Command → Checked Effect
-decided st from (DeclareConst name type shape) = const_effect st (setting_of from) name type shape
-decided st from (DeclareFun name inputs output) = fun_effect st (setting_of from) name inputs output
-decided st from (DeclareSort name arity) = sort_effect st (setting_of from) name arity
+decided st from (DeclareConst name type shape) = const_effect st (file_kind_of from) name type shape
+decided st from (DeclareFun name inputs output) = fun_effect st (file_kind_of from) name inputs output
+decided st from (DeclareSort name arity) = sort_effect st (file_kind_of from) name arity
 decided st from (DeclareParameterized name shapes type shape) = parameterized_effect st name shapes type shape
 decided st from (DeclareLiterals class type) = literals_effect st class type
 decided st from (Define name shapes body) = define_effect st name shapes body
@@ -172,7 +179,7 @@ scoped_decision st from command = do
   _ ← require (not (is_in_scope st) || may_be_in_scope command) InScope
   decided st from command
 
--- What a command does where it stands, and what is done next.
+-- What a command does in its place, and what is done next.
 unfoldable pub placed_decision : State → Origin → Command → Checked (Effect × Next)
 placed_decision st from command = do
   e ← scoped_decision st from command
@@ -197,6 +204,6 @@ done_next st m = do
   r ← m
   Ok (after st r.0, r.1)
 
--- So it is where a command stands, too.
+-- The same in the command's place.
 abbrev pub AreDecidedPlaced : Type 0
 AreDecidedPlaced = (st : State) (from : Origin) (k : Command) → placed_command st from k ≡ done_next st (placed_decision st from k)

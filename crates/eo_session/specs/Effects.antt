@@ -1,17 +1,17 @@
 -- What a command does, once it has passed its checks.
 use Rattle.std.specs.Prelude.{ℕ, Bool, true, false, List, [], ◌∷◌, map}
-use Rattle.eo_names.specs.Readers.{Label}
+use Rattle.eo_names.specs.Readers.{NamedTerm}
 use Rattle.eo_reclaim.specs.Trees.{macro_trees}
 use Rattle.eo_sig.specs.Signature.{SignatureEntry, Macro}
 use Rattle.eo_term.specs.Tree.{Tree}
 use Rattle.eo_session.specs.Roots.{own_trees}
 use Rattle.eo_session.specs.State.{State, with_entry, with_macro, with_assertion, with_scope, without_scope}
-use Rattle.eo_session.specs.Step.{Concluded, with_conclusion, with_labels}
+use Rattle.eo_session.specs.Step.{Concluded, with_conclusion, with_named_terms}
 
 pub data Effect : Type 0 where
   Declares : (entry : SignatureEntry) → Effect
   Defines : (definition : Macro) → Effect
-  Asserts : (formula : Tree) (names : List Label) → Effect
+  Asserts : (formula : Tree) (names : List NamedTerm) → Effect
   -- a scope is opened with an assumption
   Opens : (name : List ℕ) (hypothesis : Tree) → Effect
   -- a fact is added, around the innermost scope if the command closes that one
@@ -36,7 +36,7 @@ before st Nothing = st
 abbrev pub added : State → Effect → State
 added st (Declares entry) = with_entry st entry
 added st (Defines m) = with_macro st m
-added st (Asserts t names) = with_labels (with_assertion st t) names
+added st (Asserts t names) = with_named_terms (with_assertion st t) names
 added st (Opens name t) = with_scope st name t
 added st (Adds name k closes) = with_conclusion st name k
 added st Nothing = st

@@ -5,7 +5,7 @@ pub mod Step
 pub mod Commands
 pub mod Stepping
 pub mod Asserting
-pub mod Held
+pub mod Store
 pub mod Roots
 pub mod Beginning
 pub mod StateCode
@@ -15,3 +15,4 @@ pub mod Deciding
 pub mod Decisions
 pub mod Notes
 pub mod Noting
+pub mod NamingCode

@@ -1,5 +1,5 @@
 -- What an observer sees of an accepted command: what it does, by its trees.
-use Rattle.std.specs.Prelude.{ℕ, Bool, true, false, List, [], ◌∷◌, map, Result, Ok, Err, unwrap_or}
+use Rattle.std.specs.Prelude.{ℕ, Bool, List, [], ◌∷◌, map, Ok, Err, unwrap_or}
 use Rattle.eo_base.specs.Checks.{Checked}
 use Rattle.eo_base.specs.declared.Place.{Place}
 use Rattle.eo_proof.specs.Scopes.{depth, number_named}
@@ -34,7 +34,7 @@ pub data Act : Type 0 where
   Closes : (step : StepNote) → Act
   Other : Act
 
--- An accepted command: its bytes and its place, how many commands were accepted before it, whether it stands in a reference file, how many scopes are open before it, and what it does.
+-- An accepted command: its bytes and its place, how many commands were accepted before it, whether it is in a reference file, how many scopes are open before it, and what it does.
 pub record Seen : Type 0 where
   pub bytes : List ℕ
   pub place : Place

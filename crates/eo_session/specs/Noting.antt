@@ -5,7 +5,7 @@ use Rattle.eo_term.specs.Terms.{Terms}
 use Rattle.eo_term.specs.Tree.{Tree}
 use Rattle.eo_session.specs.Notes as notes
 use Rattle.eo_session.specs.Notes.{Act, Seen}
-use Rattle.eo_session.specs.declared.held.Held.{Held}
+use Rattle.eo_session.specs.declared.store.Store.{Store}
 use Rattle.eo_session.specs.declared.observing.Act as code
 use Rattle.eo_session.specs.declared.observing.Act.TheVariants as act
 use Rattle.eo_session.specs.declared.observing.Note.{Note}
@@ -59,7 +59,7 @@ UnlessMemory refused.Ended P = P
 UnlessMemory (refused.Memory e) P = ⊤
 
 -- these are the arguments, and are terms that are there
-pub record GivesArguments (h : Held) (ts : List Tree) (is : List ℕ) : Type 0 where
+pub record GivesArguments (h : Store) (ts : List Tree) (is : List ℕ) : Type 0 where
   pub live : All (λ i. i < length h.table.trees) is
   pub read : trees_in h.table is ≡ ts
 

@@ -9,14 +9,14 @@ use Rattle.eo_session.specs.State.{State}
 -- the trees of what is declared, where the next constant has number k: a constant itself is one
 abbrev pub entry_trees : ℕ → Signature → List Tree
 entry_trees k [] = []
-entry_trees k (IsConstant c ∷ es) = Con k ∷ constant_trees c ++ entry_trees (suc k) es
+entry_trees k (IsConstant c n ∷ es) = Con k ∷ constant_trees c ++ entry_trees (suc k) es
 entry_trees k (IsProgram p ∷ es) = program_trees p ++ entry_trees k es
 entry_trees k (IsRule r ∷ es) = rule_trees r ++ entry_trees k es
 entry_trees k (IsLiteralType class t ∷ es) = t ∷ entry_trees k es
 
 -- the trees of an entry, where the next constant has number k
 abbrev pub own_trees : ℕ → SignatureEntry → List Tree
-own_trees k (IsConstant c) = Con k ∷ constant_trees c
+own_trees k (IsConstant c n) = Con k ∷ constant_trees c
 own_trees k (IsProgram p) = program_trees p
 own_trees k (IsRule r) = rule_trees r
 own_trees k (IsLiteralType class t) = t ∷ []

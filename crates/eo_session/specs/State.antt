@@ -6,7 +6,7 @@ use Rattle.eo_base.specs.declared.FaultName.TheVariants.{ScopeOpen, NoReference,
 use Rattle.eo_base.specs.Checks.{Checked}
 use Rattle.eo_sig.specs.Signature.{Signature, SignatureEntry, Macro, first_signature}
 use Rattle.eo_term.specs.Tree.{Tree, tree_eq}
-use Rattle.eo_names.specs.Contexts.{Context, Setting, InProof}
+use Rattle.eo_names.specs.Contexts.{Context, FileKind, InProof, Naming, Several}
 use Rattle.eo_proof.specs.Scopes as proof
 use Rattle.eo_proof.specs.Scopes.{Scopes, no_facts, depth, outside, has_false}
 
@@ -24,16 +24,18 @@ pub record State : Type 0 where
   pub sorry : Bool
   -- whether the proof may declare no rules and programs
   pub closed : Bool
+  -- how many constants a name may have
+  pub naming : Naming
   -- how many commands were accepted, as far as it is counted
   pub commands : ℕ
 
 unfoldable pub first_state : (closed : Bool) → State
 first_state closed =
-    record { signature = first_signature; macros = []; outer_macros = []; assertions = []; has_reference = false; scopes = no_facts; sorry = false; closed = closed; commands = 0 }
+    record { signature = first_signature; macros = []; outer_macros = []; assertions = []; has_reference = false; scopes = no_facts; sorry = false; closed = closed; naming = Several; commands = 0 }
 
--- what names stand for in a file of this kind
-abbrev pub context_in : State → Setting → Context
-context_in st setting = record { signature = st.signature; macros = st.macros; setting = setting }
+-- what names mean in a file of this kind
+abbrev pub context_in : State → FileKind → Context
+context_in st file_kind = record { signature = st.signature; macros = st.macros; file_kind = file_kind; naming = st.naming }
 
 -- the same in a signature or a proof
 abbrev pub context : State → Context

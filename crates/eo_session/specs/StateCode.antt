@@ -8,6 +8,8 @@ use Rattle.eo_term.specs.Code.{tree_code}
 use Rattle.eo_term.specs.Terms.{Terms}
 use Rattle.eo_term.specs.TermsCode.{terms_code}
 use Rattle.eo_proof.specs.Scopes.{Scope, Scopes, Fact}
+use Rattle.eo_names.specs.Contexts.{Naming}
+use Rattle.eo_session.specs.NamingCode.{naming_code}
 use Rattle.eo_session.specs.State.{State}
 use Rattle.eo_session.specs.Stepping.{Standing}
 
@@ -21,13 +23,13 @@ abbrev pub scopes_code : Coded Scopes
 scopes_code = code_by (List Fact × List Scope) (coded× (coded_list fact_code) (coded_list scope_code)) (λ f. (f.outermost, f.opened)) (λ p. record { outermost = p.0; opened = p.1 }) (λ _. refl)
 
 abbrev pub StateParts : Type 0
-StateParts = (Signature × (List Macro × List ℕ)) × ((List Tree × Bool) × (Scopes × (Bool × (Bool × ℕ))))
+StateParts = (Signature × (List Macro × List ℕ)) × ((List Tree × Bool) × (Scopes × (Bool × (Bool × (Naming × ℕ)))))
 
 abbrev pub state_code : Coded State
 state_code =
-    code_by StateParts (coded× (coded× signature_code (coded× (coded_list macro_code) (coded_list coded_ℕ))) (coded× (coded× (coded_list tree_code) coded_bool) (coded× scopes_code (coded× coded_bool (coded× coded_bool coded_ℕ)))))
-    (λ st. ((st.signature, (st.macros, st.outer_macros)), ((st.assertions, st.has_reference), (st.scopes, (st.sorry, (st.closed, st.commands))))))
-    (λ p. record { signature = p.0.0; macros = p.0.1.0; outer_macros = p.0.1.1; assertions = p.1.0.0; has_reference = p.1.0.1; scopes = p.1.1.0; sorry = p.1.1.1.0; closed = p.1.1.1.1.0; commands = p.1.1.1.1.1 })
+    code_by StateParts (coded× (coded× signature_code (coded× (coded_list macro_code) (coded_list coded_ℕ))) (coded× (coded× (coded_list tree_code) coded_bool) (coded× scopes_code (coded× coded_bool (coded× coded_bool (coded× naming_code coded_ℕ))))))
+    (λ st. ((st.signature, (st.macros, st.outer_macros)), ((st.assertions, st.has_reference), (st.scopes, (st.sorry, (st.closed, (st.naming, st.commands)))))))
+    (λ p. record { signature = p.0.0; macros = p.0.1.0; outer_macros = p.0.1.1; assertions = p.1.0.0; has_reference = p.1.0.1; scopes = p.1.1.0; sorry = p.1.1.1.0; closed = p.1.1.1.1.0; naming = p.1.1.1.1.1.0; commands = p.1.1.1.1.1.1 })
     (λ _. refl)
 
 abbrev pub standing_code : Coded Standing

@@ -1,17 +1,17 @@
 -- What each kind of command does to a state, or its first fault.
-use Rattle.std.specs.Prelude.{ℕ, Bool, true, false, not, ◌&&◌, ◌||◌, nat_eq, nat_lt, ◌==◌, if◌then◌else◌, List, [], ◌∷◌, ◌++◌, map, length, Option, Some, None, option_and_then, slice_get, Ok}
+use Rattle.std.specs.Prelude.{ℕ, Bool, true, false, not, ◌&&◌, ◌||◌, nat_eq, nat_lt, ◌==◌, if◌then◌else◌, List, [], ◌∷◌, ◌++◌, map, length, Option, Some, None, is_none, option_and_then, slice_get, Ok}
 use Rattle.std.specs.Option.{option_map_or}
 use Rattle.eo_base.specs.declared.FaultName.TheVariants.{Redeclared, UnknownSymbol, ProofDeclares, IllTyped, UnknownRule, UnknownPremise, NotBool, NotAsserted, NoReference, NoScope, ScopeDepth}
 use Rattle.eo_base.specs.Checks.{Checked, Passed, ◌>>=◌, require, no_fault, value_or}
 use Rattle.eo_sexp.specs.Sexp.{Sexp}
 use Rattle.eo_lit.specs.declared.LiteralClass.{LiteralClass}
-use Rattle.eo_sig.specs.Signature.{IsConstant, IsProgram, IsRule, IsLiteralType, Attribute, Plain, Constant, Macro, Program, Rule, Named, NamesConstant, NamesMacro, lookup, constant_at, rule_at, rule_named, is_reserved, constant_fault, program_fault, rule_fault, literal_type_fault}
+use Rattle.eo_sig.specs.Signature.{IsConstant, IsProgram, IsRule, IsLiteralType, Attribute, Plain, Constant, Macro, Program, Rule, Signature, Named, NamesMacro, lookup, constant_named, constant_taking, constant_at, argument_types, counts_of, is_apart, rule_at, rule_named, is_reserved, constant_fault, program_fault, rule_fault, literal_type_fault}
 use Rattle.eo_shape.specs.Shapes.{ParameterShape, AttributeShape, ProgramShape, RuleShape, StepShape}
 use Rattle.eo_term.specs.Tree.{Tree, type_tree, bool_tree, tree_eq}
 use Rattle.eo_stack.specs.Evaluation.{eval0}
 use Rattle.eo_eval.specs.Faults.{value_or_fault}
-use Rattle.eo_names.specs.Contexts.{Setting, InProof, InReference, InAssert}
-use Rattle.eo_names.specs.Readers.{Label}
+use Rattle.eo_names.specs.Contexts.{FileKind, InProof, InReference, InAssert, Naming, Several, One}
+use Rattle.eo_names.specs.Readers.{NamedTerm}
 use Rattle.eo_elab.specs.Meaning.{means, meaning}
 use Rattle.eo_declare.specs.Declarations.{is_reference_name, declared_const, declared_fun, declared_sort, declared_parameterized, declared_literals, defined, defined_fun, defined_sort, declared_program, declared_rule}
 use Rattle.eo_proof.specs.Scopes.{depth, scope_limit, is_live, is_free_outside, fact_named, innermost_hypothesis}
@@ -21,7 +21,7 @@ use Rattle.eo_session.specs.State.{State, context, context_in, with_entry, with_
 use Rattle.eo_session.specs.Origin.{Origin}
 use Rattle.eo_session.specs.Origin as origin
 
--- ---- the file that a command stands in
+-- ---- the file that a command is in
 
 abbrev pub is_in_reference : Origin → Bool
 is_in_reference origin.Signature = false
@@ -33,11 +33,11 @@ is_in_proof origin.Signature = false
 is_in_proof origin.Proof = true
 is_in_proof origin.Reference = false
 
--- what may stand in it
-abbrev pub setting_of : Origin → Setting
-setting_of origin.Signature = InProof
-setting_of origin.Proof = InProof
-setting_of origin.Reference = InReference
+-- the kind of file, as the meaning of terms sees it
+abbrev pub file_kind_of : Origin → FileKind
+file_kind_of origin.Signature = InProof
+file_kind_of origin.Proof = InProof
+file_kind_of origin.Reference = InReference
 
 -- ---- checks
 
@@ -87,7 +87,7 @@ formula st s = do
 abbrev pub plain_tree : Macro → Option Tree
 plain_tree m = if length m.parameters == 0 then Some m.tree else None
 
--- the tree of what a name stands for, where that is a macro without parameters
+-- the tree of what a name means, where that is a macro without parameters
 abbrev pub macro_tree : List Macro → Option Named → Option Tree
 macro_tree macros (Some (NamesMacro k)) = option_and_then plain_tree (slice_get macros k)
 macro_tree macros n = None
@@ -107,19 +107,30 @@ abbrev pub is_plain : Attribute → Bool
 is_plain Plain = true
 is_plain a = false
 
--- the same name and type as a constant of the reference file, without attribute
-abbrev pub repeats_constant : State → Constant → Option Named → Bool
-repeats_constant st d (Some (NamesConstant k)) =
-    is_plain d.attribute && option_map_or (λ old. old.from_reference && tree_eq old.type d.type) (constant_at st.signature k) false
-repeats_constant st d n = false
+-- whether the constant of this number is one of the reference file, with the same type
+abbrev pub repeats : State → Constant → Option ℕ → Bool
+repeats st d None = false
+repeats st d (Some k) = option_map_or (λ old. old.from_reference && tree_eq old.type d.type) (constant_at st.signature k) false
 
--- A name of the reference file is accepted again where the constant is the same; nothing changes.
+-- the same name and type as a constant of the reference file, without attribute
+abbrev pub repeats_constant : State → Constant → Bool
+repeats_constant st d =
+    is_plain d.attribute && repeats st d (constant_taking st.signature d.name (length (argument_types d.type)))
+
+-- no constant of its name takes a number of arguments that this one takes
+abbrev pub named_apart : Naming → Signature → Constant → Checked Passed
+named_apart Several S d = require (is_apart S d.name (counts_of d)) Redeclared
+named_apart (One refusal) S d = require (is_none (constant_named S d.name)) refusal
+
+-- the constant is added, where its name may have it
+abbrev pub apart_constant : State → Constant → Checked State
+apart_constant st d = do
+  _ ← named_apart st.naming st.signature d
+  Ok (with_entry st (IsConstant d (counts_of d)))
+
+-- A constant of the reference file is accepted again; nothing changes.
 unfoldable pub added_constant : State → Constant → Checked State
-added_constant st d =
-    if is_reference_name (context st) d.name then (do
-      _ ← require (repeats_constant st d (lookup st.signature st.macros d.name)) Redeclared
-      Ok st
-    ) else Ok (with_entry st (IsConstant d))
+added_constant st d = if repeats_constant st d then Ok st else apart_constant st d
 
 -- the value of a type, which has type `Type`
 unfoldable pub type_value : State → Tree → Checked Tree
@@ -139,7 +150,7 @@ typed_constant st d = do
 abbrev pub checked_constant : State → Constant → Checked State
 checked_constant st d = do
   _ ← no_fault (constant_fault d)
-  Ok (with_entry st (IsConstant d))
+  apart_constant st d
 
 -- and so is the type of a class of literals
 abbrev pub checked_literals : State → LiteralClass → Tree → Checked State
@@ -147,19 +158,19 @@ checked_literals st class t = do
   _ ← no_fault (literal_type_fault st.signature class t)
   Ok (with_entry st (IsLiteralType class t))
 
-abbrev pub declare_const : State → Setting → List ℕ → Sexp → AttributeShape → Checked State
-declare_const st setting name type shape = do
-  d ← declared_const (context_in st setting) name type shape
+abbrev pub declare_const : State → FileKind → List ℕ → Sexp → AttributeShape → Checked State
+declare_const st file_kind name type shape = do
+  d ← declared_const (context_in st file_kind) name type shape
   typed_constant st d
 
-abbrev pub declare_fun : State → Setting → List ℕ → List Sexp → Sexp → Checked State
-declare_fun st setting name inputs output = do
-  d ← declared_fun (context_in st setting) name inputs output
+abbrev pub declare_fun : State → FileKind → List ℕ → List Sexp → Sexp → Checked State
+declare_fun st file_kind name inputs output = do
+  d ← declared_fun (context_in st file_kind) name inputs output
   typed_constant st d
 
-abbrev pub declare_sort : State → Setting → List ℕ → ℕ → Checked State
-declare_sort st setting name arity = do
-  d ← declared_sort (context_in st setting) name arity
+abbrev pub declare_sort : State → FileKind → List ℕ → ℕ → Checked State
+declare_sort st file_kind name arity = do
+  d ← declared_sort (context_in st file_kind) name arity
   typed_constant st d
 
 abbrev pub declare_parameterized : State → List ℕ → List ParameterShape → Sexp → AttributeShape → Checked State
@@ -263,18 +274,18 @@ assume_push st name s = do
 -- ---- assertions
 
 -- a name that a term of an assertion gives itself
-abbrev pub label_macro : Label → Macro
-label_macro l = record { name = l.name; parameters = []; tree = l.tree; from_reference = true }
+abbrev pub named_term_macro : NamedTerm → Macro
+named_term_macro l = record { name = l.name; parameters = []; tree = l.tree; from_reference = true }
 
-abbrev pub with_labels : State → List Label → State
-with_labels st labels = record st { macros = st.macros ++ map label_macro labels }
+abbrev pub with_named_terms : State → List NamedTerm → State
+with_named_terms st named_terms = record st { macros = st.macros ++ map named_term_macro named_terms }
 
 -- the value of a formula is asserted, and then the names of its terms are macros
 unfoldable pub assert : State → Sexp → Checked State
 assert st s = do
   r ← means (context_in st InAssert) [] s []
   v ← formula_of st r.0
-  Ok (with_labels (with_assertion st v) r.1)
+  Ok (with_named_terms (with_assertion st v) r.1)
 
 -- ---- steps
 

@@ -18,10 +18,10 @@ use Rattle.eo_term.specs.Growth.{tree_in}
 use Rattle.eo_term.specs.Terms.{Terms}
 use Rattle.eo_term.specs.Tree.{Tree, Con, tree_eq}
 use Rattle.eo_session.specs.State.{State, first_state}
-use Rattle.eo_session.specs.Held.{state_of}
+use Rattle.eo_session.specs.Store.{state_of}
 use Rattle.eo_session.specs.Roots.{live_count}
 use Rattle.eo_session.specs.declared.Next.{Next}
-use Rattle.eo_session.specs.declared.held.Held.{Held}
+use Rattle.eo_session.specs.declared.store.Store.{Store}
 use Rattle.eo_session.specs.declared.session.EndAnswer.{EndAnswer}
 use Rattle.eo_session.specs.declared.session.EndAnswer.TheVariants as end
 use Rattle.eo_session.specs.declared.refused.Refused.{Refused}
@@ -74,12 +74,12 @@ IsOfCommand (refused.Fault name) = name ≢ fault.FileAbsent
 IsOfCommand refused.Ended = ⊥
 IsOfCommand (refused.Memory e) = ⊤
 
--- The fault that is answered is that of the definition; out of memory may come at any time.
+-- The fault that is returned is that of the definition; out of memory may come at any time.
 abbrev pub Refuses : {A : Type 0} → Checked A → Refused → Type 0
 Refuses m e = Tells told e m × IsOfCommand e
 
 -- the id of the term that is found, or what refuses it
-abbrev pub GivesTerm : Held → Result ℕ Refused → Checked Tree → Type 0
+abbrev pub GivesTerm : Store → Result ℕ Refused → Checked Tree → Type 0
 GivesTerm h (Ok i) m = IsGiven (λ (i : ℕ). i < length h.table.trees) (tree_in h.table) m i
 GivesTerm h (Err e) m = Refuses m e
 
@@ -89,19 +89,19 @@ GivesKind number (Ok b) m = (k : Tree) × (m ≡ Ok k) × (tree_eq k (Con number
 GivesKind number (Err e) m = Refuses m e
 
 -- What is held is in the state that the definition gives.
-abbrev pub Does : Result (Unit {0}) Refused → Checked State → Held → Type 0
-Does (Ok x) m new = m ≡ Ok (state_of new)
-Does (Err e) m new = Refuses m e
+abbrev pub Updates : Result (Unit {0}) Refused → Checked State → Store → Type 0
+Updates (Ok x) m new = m ≡ Ok (state_of new)
+Updates (Err e) m new = Refuses m e
 
 -- what is found, or what refuses it
 abbrev pub Gives : {A : Type 0} → Result A Refused → Checked A → Type 0
 Gives (Ok x) m = m ≡ Ok x
 Gives (Err e) m = Refuses m e
 
--- What is held is in the state that the definition gives, and what is done next is answered.
-abbrev pub DoesNext : Result Next Refused → Checked (State × Next) → Held → Type 0
-DoesNext (Ok what) m new = m ≡ Ok (state_of new, what)
-DoesNext (Err e) m new = Refuses m e
+-- What is held is in the state that the definition gives, and what is done next is returned.
+abbrev pub UpdatesNext : Result Next Refused → Checked (State × Next) → Store → Type 0
+UpdatesNext (Ok what) m new = m ≡ Ok (state_of new, what)
+UpdatesNext (Err e) m new = Refuses m e
 
 -- A session: whether it is ended, its state, and the terms that its table has.
 pub record Standing : Type 0 where
@@ -125,7 +125,7 @@ Steps (Err (refused.Fault name)) m old new = (old.ended ≡ false) × (m ≡ Err
 Steps (Err refused.Ended) m old new = (old.ended ≡ true) × (new.ended ≡ true)
 Steps (Err (refused.Memory e)) m old new = (old.ended ≡ false) × (new.ended ≡ true)
 
--- the same of a command, which answers what is done next
+-- the same of a command, which returns what is done next
 abbrev pub StepsTo : Result Next Refused → Checked (State × Next) → (old new : Standing) → Type 0
 StepsTo (Ok what) m old new = (old.ended ≡ false) × (m ≡ Ok (new.state, what)) × (new.ended ≡ false)
 StepsTo (Err (refused.Fault name)) m old new = (old.ended ≡ false) × (m ≡ Err name) × (new.ended ≡ true)

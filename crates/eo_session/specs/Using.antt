@@ -5,7 +5,7 @@ use Rattle.eo_base.specs.Answers.{IsGiven}
 use Rattle.eo_base.specs.Checks.{Checked, ◌>>=◌, require}
 use Rattle.eo_base.specs.declared.FaultName.TheVariants.{NoReference, NotAsserted}
 use Rattle.eo_eval.specs.Outcomes.{IsValueOf}
-use Rattle.eo_rule.specs.Reading.{AreValuesIn, UseBelow, read_use}
+use Rattle.eo_rule.specs.Reading.{IsUseOf, read_use}
 use Rattle.eo_rule.specs.Uses.{Use, conclusion}
 use Rattle.eo_rule.specs.declared.RuleUse.{RuleUse}
 use Rattle.eo_sexp.specs.Sexp.{Sexp}
@@ -16,7 +16,7 @@ use Rattle.eo_term.specs.Tree.{Tree, is_value}
 use Rattle.eo_session.specs.State.{State, is_asserted}
 use Rattle.eo_session.specs.Step.{Concluded, formula, is_sorry}
 use Rattle.eo_session.specs.Stepping.{Refuses}
-use Rattle.eo_session.specs.declared.held.Held.{Held}
+use Rattle.eo_session.specs.declared.store.Store.{Store}
 use Rattle.eo_session.specs.declared.refused.Refused.{Refused}
 use Rattle.eo_session.specs.declared.steps.Conclusion.{Conclusion}
 
@@ -28,12 +28,12 @@ pub record AreValueIds (t : Terms) (is : List ℕ) : Type 0 where
   pub values : list_all is_value (trees_in t is) ≡ true
 
 -- the ids of the values that are found, or what refuses them
-abbrev pub GivesIds : Held → Result (List ℕ) Refused → Checked (List Tree) → Type 0
+abbrev pub GivesIds : Store → Result (List ℕ) Refused → Checked (List Tree) → Type 0
 GivesIds h (Ok is) m = IsGiven (AreValueIds h.table) (trees_in h.table) m is
 GivesIds h (Err e) m = Refuses m e
 
 -- the id of the term that is found, if one is
-abbrev pub GivesOptional : Held → Result (Option ℕ) Refused → Checked (Option Tree) → Type 0
+abbrev pub GivesOptional : Store → Result (Option ℕ) Refused → Checked (Option Tree) → Type 0
 GivesOptional h (Ok o) m = IsGiven (SomeBelow (length h.table.trees)) (option_map (tree_in h.table)) m o
 GivesOptional h (Err e) m = Refuses m e
 
@@ -44,13 +44,8 @@ pub record MayDischarge (t : Terms) (o : Option ℕ) : Type 0 where
   pub live : SomeBelow (length t.trees) o
   pub value : list_all is_value (option_to_list (option_map (tree_in t) o)) ≡ true
 
--- What is given are terms that are there, and values.
-pub record IsUse (t : Terms) (u : RuleUse) : Type 0 where
-  pub live : UseBelow (length t.trees) u
-  pub values : AreValuesIn t u
-
-abbrev pub GivesUse : Held → Result RuleUse Refused → Checked Use → Type 0
-GivesUse h (Ok u) m = IsGiven (IsUse h.table) (read_use h.table.trees) m u
+abbrev pub GivesUse : Store → Result RuleUse Refused → Checked Use → Type 0
+GivesUse h (Ok u) m = IsGiven (IsUseOf h.table) (read_use h.table.trees) m u
 GivesUse h (Err e) m = Refuses m e
 
 -- ---- conclusions
@@ -59,7 +54,7 @@ abbrev pub read_conclusion : Terms → Conclusion → Concluded
 read_conclusion t k = record { formula = tree_in t k.formula; sorry = k.sorry }
 
 -- what is concluded is a value
-abbrev pub GivesConcluded : Held → Result Conclusion Refused → Checked Concluded → Type 0
+abbrev pub GivesConcluded : Store → Result Conclusion Refused → Checked Concluded → Type 0
 GivesConcluded h (Ok k) m = IsGiven (λ (k : Conclusion). IsValueOf h.table k.formula) (read_conclusion h.table) m k
 GivesConcluded h (Err e) m = Refuses m e
 

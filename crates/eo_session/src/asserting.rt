@@ -1,85 +1,76 @@
 //! What a reference file asserts.
-ghost use Rattle.std.specs.Prelude.{◌≡◌, ◌<◌, [], ◌∷◌, false, map, length, IfOk, OnOk};
-ghost use Rattle.eo_elab.specs.Worlds.{labels_in};
+ghost use Rattle.std.specs.Prelude.{◌≡◌, ◌<◌, ◌∷◌, false, map, length, IfOk, OnOk};
+ghost use Rattle.eo_elab.specs.Worlds.{named_terms_in};
 ghost use Rattle.eo_names.specs.Names.{BindingsBelow};
 ghost use Rattle.eo_term.specs.Growth.{tree_in, IsTerm};
 ghost use Rattle.eo_session.specs.Asserting.{read_assertion, named_term, GivesAssertion, MayBeName, MayBeNames};
-ghost use Rattle.eo_session.specs.Held.{state_of, label_trees, IsHeld, IsWhole, Leaves, Keeps};
+ghost use Rattle.eo_session.specs.Store.{state_of, named_term_trees, IsHeld, IsConsistent, Leaves, Keeps};
 ghost use Rattle.eo_session.specs.State.{is_in_scope, with_assertion, with_macro};
-ghost use Rattle.eo_session.specs.Step.{label_macro, with_labels};
+ghost use Rattle.eo_session.specs.Step.{named_term_macro, with_named_terms};
 ghost use Rattle.eo_session.specs.Deciding.{Decides};
 ghost use Rattle.eo_session.specs.Decisions.{assert_effect, asserted_effect};
 
 use crate::Refused;
 use crate::effects::Effect;
-use crate::held::Held;
-use eo_base::{Name, both};
-use eo_elab::{Locals, Names, labels_law, reference_term};
+use crate::store::Store;
+use eo_base::{Name, ok_with};
+use eo_elab::{Names, named_terms_law};
 use eo_reclaim::push_ids;
+use eo_ref::{Assertion, read_assertion};
 use eo_sexp::Sexp;
 use eo_sig::{MacroDecl, Params, SigRefused};
 use eo_term::Id;
 use std::alloc::{AllocError, Global};
 
-impl Held {
+impl Store {
     /// The value of a formula is asserted. Then the names that its terms give themselves are macros of
     /// the reference file.
     pub(crate) fn decide_assert<'c>(&mut self, formula: &Sexp<'_>) -> Result<Effect<'c>, Refused>
-        requires whole { IsWhole self.old }
+        requires whole { IsConsistent self.old }
         requires outside { is_in_scope (state_of self.old) ≡ false }
         ensures decides { Decides self.new result (assert_effect (state_of self.old) formula.now) }
         ensures keeps { Keeps self.old self.new }
     {
-        labels_law();
-        let mut names = Names::new(self.alloc);
-        let id = self.read_assertion(formula, &mut names)?;
-        self.decide_asserted(id, names)
+        named_terms_law();
+        let read = self.read_assertion(formula)?;
+        let Assertion { formula, names } = read;
+        self.decide_asserted(formula, names)
     }
 
     // The formula of an assertion, and the names that its terms give themselves.
-    fn read_assertion(&mut self, s: &Sexp<'_>, names: &mut Names) -> Result<Id, Refused>
-        requires whole { IsWhole self.old }
-        requires none { names.old ≡ [] }
-        ensures gives { GivesAssertion self.new names.new result (read_assertion (state_of self.old) s.now) }
-        ensures below { BindingsBelow (length self.new.table.trees) names.new }
+    fn read_assertion(&mut self, s: &Sexp<'_>) -> Result<Assertion, Refused>
+        requires whole { IsConsistent self.old }
+        ensures gives { GivesAssertion self.new result (read_assertion (state_of self.old) s.now) }
         ensures keeps { Keeps self.old self.new }
     {
-        let locals = Locals::new(self.alloc);
-        let id = reference_term(
-            self.alloc,
-            s,
-            &locals,
-            &self.signature,
-            &mut self.table,
-            true,
-            names,
-        )?;
-        Ok(id)
+        let read = read_assertion(self.alloc, s, &self.signature, &mut self.table)?;
+        Ok(read)
     }
 
     // The value of a formula is asserted, with names for some of its terms.
     fn decide_asserted<'c>(&mut self, id: Id, names: Names) -> Result<Effect<'c>, Refused>
-        requires whole { IsWhole self.old }
+        requires whole { IsConsistent self.old }
         requires outside { is_in_scope (state_of self.old) ≡ false }
         requires live { id < length self.old.table.trees }
         requires below { BindingsBelow (length self.old.table.trees) names }
-        requires new { MayBeNames (state_of self.old) (labels_in self.old.table names) }
-        ensures decides { Decides self.new result (asserted_effect (state_of self.old) (tree_in self.old.table id) (labels_in self.old.table names)) }
+        requires new { MayBeNames (state_of self.old) (named_terms_in self.old.table names) }
+        ensures decides { Decides self.new result (asserted_effect (state_of self.old) (tree_in self.old.table id)
+            (named_terms_in self.old.table names)) }
         ensures keeps { Keeps self.old self.new }
     {
-        let (formula, names) = both(self.formula_of(id), names)?;
+        let (formula, names) = ok_with(self.formula_of(id), names)?;
         Ok(Effect::Assert { formula, names })
     }
 
     /// Carries a value and the terms of names, which are then those of the carried ones.
     pub(crate) fn carry_named(&mut self, value: Id, names: &mut Names) -> Result<Id, AllocError>
-        requires whole { IsWhole self.old }
+        requires whole { IsConsistent self.old }
         requires live { value < length self.old.table.trees }
         requires below { BindingsBelow (length self.old.table.trees) names.old }
         ensures leaves { OnOk result (Leaves self.old
-            (tree_in self.old.table value ∷ label_trees (labels_in self.old.table names.old)) self.new) }
+            (tree_in self.old.table value ∷ named_term_trees (named_terms_in self.old.table names.old)) self.new) }
         ensures value { IfOk result (IsTerm self.new.table (tree_in self.old.table value)) }
-        ensures names { OnOk result (labels_in self.new.table names.new ≡ labels_in self.old.table names.old) }
+        ensures names { OnOk result (named_terms_in self.new.table names.new ≡ named_terms_in self.old.table names.old) }
         ensures below { OnOk result (BindingsBelow (length self.new.table.trees) names.new) }
     {
         let ids = ids_with(self.alloc, value, names)?;
@@ -95,10 +86,10 @@ impl Held {
         requires live { value < length self.old.table.trees }
         requires below { BindingsBelow (length self.old.table.trees) names.now }
         requires new { MayBeNames (with_assertion (state_of self.old) (tree_in self.old.table value))
-            (labels_in self.old.table names.now) }
+            (named_terms_in self.old.table names.now) }
         ensures whole { OnOk result (IsHeld self.new) }
-        ensures does { OnOk result (state_of self.new ≡
-            with_labels (with_assertion (state_of self.old) (tree_in self.old.table value)) (labels_in self.old.table names.now)) }
+        ensures updates { OnOk result (state_of self.new ≡
+            with_named_terms (with_assertion (state_of self.old) (tree_in self.old.table value)) (named_terms_in self.old.table names.now)) }
         ensures table { self.new.table ≡ self.old.table }
         ensures kept { self.new.kept ≡ self.old.kept }
     {
@@ -111,7 +102,7 @@ impl Held {
         requires whole { IsHeld self.old }
         requires live { value < length self.old.table.trees }
         ensures whole { OnOk result (IsHeld self.new) }
-        ensures does { OnOk result (state_of self.new ≡ with_assertion (state_of self.old) (tree_in self.old.table value)) }
+        ensures updates { OnOk result (state_of self.new ≡ with_assertion (state_of self.old) (tree_in self.old.table value)) }
         ensures table { self.new.table ≡ self.old.table }
         ensures kept { self.new.kept ≡ self.old.kept }
     {
@@ -124,9 +115,9 @@ impl Held {
     fn add_names(&mut self, names: &Names) -> Result<(), AllocError>
         requires whole { IsHeld self.old }
         requires below { BindingsBelow (length self.old.table.trees) names.now }
-        requires new { MayBeNames (state_of self.old) (labels_in self.old.table names.now) }
+        requires new { MayBeNames (state_of self.old) (named_terms_in self.old.table names.now) }
         ensures whole { OnOk result (IsHeld self.new) }
-        ensures does { OnOk result (state_of self.new ≡ with_labels (state_of self.old) (labels_in self.old.table names.now)) }
+        ensures updates { OnOk result (state_of self.new ≡ with_named_terms (state_of self.old) (named_terms_in self.old.table names.now)) }
         ensures table { self.new.table ≡ self.old.table }
         ensures kept { self.new.kept ≡ self.old.kept }
     {
@@ -143,7 +134,8 @@ impl Held {
         requires live { tree < length self.old.table.trees }
         requires new { MayBeName (state_of self.old) (named_term self.old name.now tree) }
         ensures whole { OnOk result (IsHeld self.new) }
-        ensures does { OnOk result (state_of self.new ≡ with_macro (state_of self.old) (label_macro (named_term self.old name.now tree))) }
+        ensures updates { OnOk result (state_of self.new ≡ with_macro (state_of self.old) (named_term_macro
+            (named_term self.old name.now tree))) }
         ensures table { self.new.table ≡ self.old.table }
         ensures kept { self.new.kept ≡ self.old.kept }
     {

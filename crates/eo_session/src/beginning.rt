@@ -2,11 +2,11 @@
 ghost use Rattle.std.specs.Prelude.{◌≡◌, IfOk};
 ghost use Rattle.eo_term.specs.Terms.{first_trees};
 ghost use Rattle.eo_session.specs.Beginning.{IsFirstSignature};
-ghost use Rattle.eo_session.specs.Held.{state_of, IsSettled};
+ghost use Rattle.eo_session.specs.Store.{state_of, IsSettled};
 ghost use Rattle.eo_session.specs.State.{first_state};
 
-use crate::held::Held;
-use eo_base::both;
+use crate::store::Store;
+use eo_base::ok_with;
 use eo_eval::Evaluator;
 use eo_pattern::Subst;
 use eo_proof::Facts;
@@ -17,19 +17,19 @@ use eo_term::Table;
 use eo_type::Types;
 use std::alloc::{AllocError, Global};
 
-impl Held {
+impl Store {
     /// What is held before the first command.
-    pub(crate) fn new(alloc: Global, closed: bool) -> Result<Held, AllocError>
+    pub(crate) fn new(alloc: Global, closed: bool) -> Result<Store, AllocError>
         ensures settled { IfOk result IsSettled }
         ensures state { IfOk result (λ h. state_of h ≡ first_state closed) }
     {
         let table = Table::new(alloc)?;
-        let (signature, table) = both(first_signature(alloc), table)?;
+        let (signature, table) = ok_with(first_signature(alloc), table)?;
         Ok(first(alloc, closed, table, signature))
     }
 }
 
-// A signature that declares only what stands first.
+// A signature that declares only what is there from the start.
 fn first_signature(alloc: Global) -> Result<Signature, AllocError>
     ensures { IfOk result IsFirstSignature }
 {
@@ -38,7 +38,7 @@ fn first_signature(alloc: Global) -> Result<Signature, AllocError>
 }
 
 // What is held first, with this table and this signature.
-fn first(alloc: Global, closed: bool, table: Table, signature: Signature) -> Held
+fn first(alloc: Global, closed: bool, table: Table, signature: Signature) -> Store
     requires trees { table.trees ≡ first_trees }
     requires signature { IsFirstSignature signature }
     ensures settled { IsSettled result }
@@ -52,7 +52,7 @@ fn first(alloc: Global, closed: bool, table: Table, signature: Signature) -> Hel
     let facts = Facts::new(alloc);
     let marks = Marks::new(alloc);
     let kept = table.mark();
-    Held {
+    Store {
         alloc,
         table,
         signature,

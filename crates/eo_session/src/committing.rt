@@ -2,35 +2,35 @@
 ghost use Rattle.std.specs.Prelude.{◌≡◌, ◌<◌, IfOk, OnOk};
 ghost use Rattle.eo_session.specs.Deciding.{read_effect, trees_in, HoldsItself, MayCommit, MayPut};
 ghost use Rattle.eo_session.specs.Effects.{added, after, before};
-ghost use Rattle.eo_session.specs.Held.{state_of, IsSettled, IsWhole, HoldsOnly, Leaves};
+ghost use Rattle.eo_session.specs.Store.{state_of, IsSettled, IsConsistent, HoldsOnly, Leaves};
 
 use crate::effects::Effect;
-use crate::held::Held;
 use crate::steps::Conclusion;
+use crate::store::Store;
 use eo_reclaim::ScopeMark;
 use eo_sig::{SigRefused, growth_law};
 use eo_term::equality_law;
 use std::alloc::AllocError;
 
-impl Held {
+impl Store {
     /// Does what is decided. Of the terms that the command made those are left that the effect adds.
     /// `Err` is out of memory.
     pub(crate) fn commit(&mut self, effect: Effect<'_>) -> Result<(), AllocError>
-        requires whole { IsWhole self.old }
+        requires whole { IsConsistent self.old }
         requires may { MayCommit self.old effect }
         ensures settled { OnOk result (IsSettled self.new) }
-        ensures does { OnOk result (state_of self.new ≡ after (state_of self.old) (read_effect self.old.table effect.entry)) }
+        ensures updates { OnOk result (state_of self.new ≡ after (state_of self.old) (read_effect self.old.table effect.entry)) }
     {
         self.close_by(&effect);
-        let effect = self.carried(effect)?;
+        let effect = self.carry_effect(effect)?;
         self.put(effect)
     }
 
     // Closes the scope that an effect closes, if it closes one.
     fn close_by(&mut self, effect: &Effect<'_>)
-        requires whole { IsWhole self.old }
+        requires whole { IsConsistent self.old }
         requires may { MayCommit self.old effect.now }
-        ensures whole { IsWhole self.new }
+        ensures whole { IsConsistent self.new }
         ensures may { MayPut self.new effect.now }
         ensures closed { state_of self.new ≡ before (state_of self.old) (read_effect self.old.table effect.now) }
         ensures table { self.new.table ≡ self.old.table }
@@ -45,9 +45,9 @@ impl Held {
         }
     }
 
-    // The effect with its terms carried: of what is behind the mark they and their subtrees are left.
-    fn carried<'c>(&mut self, effect: Effect<'c>) -> Result<Effect<'c>, AllocError>
-        requires whole { IsWhole self.old }
+    // The effect with its terms carried: of what is after the mark, only these and their subtrees stay.
+    fn carry_effect<'c>(&mut self, effect: Effect<'c>) -> Result<Effect<'c>, AllocError>
+        requires whole { IsConsistent self.old }
         requires may { MayPut self.old effect }
         ensures leaves { OnOk result (Leaves self.old (trees_in self.old effect.entry) self.new) }
         ensures read { IfOk result (λ e. read_effect self.new.table e ≡ read_effect self.old.table effect.entry) }
@@ -96,12 +96,12 @@ impl Held {
 
     // Adds what is carried, which is kept from now on.
     fn put(&mut self, effect: Effect<'_>) -> Result<(), AllocError>
-        requires whole { IsWhole self.old }
+        requires whole { IsConsistent self.old }
         requires may { MayPut self.old effect }
         requires itself { HoldsItself self.old effect }
         requires only { HoldsOnly (trees_in self.old effect) self.old }
         ensures settled { OnOk result (IsSettled self.new) }
-        ensures does { OnOk result (state_of self.new ≡ added (state_of self.old) (read_effect self.old.table effect.entry)) }
+        ensures updates { OnOk result (state_of self.new ≡ added (state_of self.old) (read_effect self.old.table effect.entry)) }
     {
         equality_law();
         growth_law();

@@ -9,29 +9,29 @@ ghost use Rattle.eo_session.specs.Deciding.{Decides, DecidesNext};
 ghost use Rattle.eo_session.specs.Numbered.{origin_of};
 ghost use Rattle.eo_session.specs.Decisions.{assume_effect, push_effect, step_effect, pop_effect, outside_effect};
 ghost use Rattle.eo_session.specs.Decisions.{decided, scoped_decision, placed_decision, AreDecided, AreDecidedPlaced};
-ghost use Rattle.eo_session.specs.Held.{state_of, IsWhole, Keeps};
+ghost use Rattle.eo_session.specs.Store.{state_of, IsConsistent, Keeps};
 ghost use Rattle.eo_session.specs.State.{is_in_scope};
 ghost use Rattle.eo_session.specs.Step.{is_free_outer_fact};
 
 use crate::effects::{Decided, Effect};
-use crate::held::Held;
 use crate::session::may_stand;
 use crate::steps::Conclusion;
+use crate::store::Store;
 use crate::{Origin, Refused};
 use eo_base::FaultName;
 use eo_sexp::Sexp;
 use eo_shape::{Command, StepShape};
 use eo_term::Id;
 
-impl Held {
-    /// Checks a command, and answers what it does. What is held stays, answered or refused: terms
+impl Store {
+    /// Checks a command, and returns what it does. What is held stays, also where it is refused: terms
     /// alone, and types that were found, may have come.
     pub(crate) fn decide<'c>(
         &mut self,
         command: &Command<'c>,
         from: Origin,
     ) -> Result<Decided<'c>, Refused>
-        requires whole { IsWhole self.old }
+        requires whole { IsConsistent self.old }
         ensures decides { DecidesNext self.new result (placed_decision (state_of self.old) (origin_of from) (read_command command.now)) }
         ensures keeps { Keeps self.old self.new }
     {
@@ -40,13 +40,13 @@ impl Held {
         Ok(Decided { effect, next })
     }
 
-    // What a command does, where it may stand.
+    // What a command does, if it is allowed here.
     fn decide_placed<'c>(
         &mut self,
         command: &Command<'c>,
         from: Origin,
     ) -> Result<Effect<'c>, Refused>
-        requires whole { IsWhole self.old }
+        requires whole { IsConsistent self.old }
         ensures decides { Decides self.new result (scoped_decision (state_of self.old) (origin_of from) (read_command command.now)) }
         ensures keeps { Keeps self.old self.new }
     {
@@ -56,9 +56,9 @@ impl Held {
         self.decide_own(command, from)
     }
 
-    // What a command does, which may stand here.
+    // What a command that is allowed here does.
     fn decide_own<'c>(&mut self, command: &Command<'c>, from: Origin) -> Result<Effect<'c>, Refused>
-        requires whole { IsWhole self.old }
+        requires whole { IsConsistent self.old }
         requires stands { (not (is_in_scope (state_of self.old)) || definition.may_be_in_scope (read_command command.now)) ≡ true }
         ensures decides { Decides self.new result (decided (state_of self.old) (origin_of from) (read_command command.now)) }
         ensures keeps { Keeps self.old self.new }
@@ -68,13 +68,17 @@ impl Held {
                 name,
                 ty,
                 attribute,
-            } => self.decide_const(from.setting(), name, ty, attribute),
+            } => self.decide_const(from.file_kind(), name, ty, attribute),
             Command::DeclareFun {
                 name,
                 inputs,
                 output,
-            } => self.decide_fun(from.setting(), name, inputs, output),
-            Command::DeclareSort { name, arity } => self.decide_sort(from.setting(), name, *arity),
+            } => self.decide_fun(from.file_kind(), name, inputs, output),
+            Command::DeclareSort { name, arity } => self.decide_sort(
+                from.file_kind(),
+                name,
+                *arity,
+            ),
             Command::DeclareParameterized {
                 name,
                 params,
@@ -110,7 +114,7 @@ impl Held {
         name: &'c [u8],
         formula: &Sexp<'_>,
     ) -> Result<Effect<'c>, Refused>
-        requires { IsWhole self.old }
+        requires { IsConsistent self.old }
         ensures decides { Decides self.new result (assume_effect (state_of self.old) name.now formula.now) }
         ensures keeps { Keeps self.old self.new }
     {
@@ -134,7 +138,7 @@ impl Held {
         name: &'c [u8],
         formula: &Sexp<'_>,
     ) -> Result<Effect<'c>, Refused>
-        requires { IsWhole self.old }
+        requires { IsConsistent self.old }
         ensures decides { Decides self.new result (push_effect (state_of self.old) name.now formula.now) }
         ensures keeps { Keeps self.old self.new }
     {
@@ -150,14 +154,14 @@ impl Held {
 
     /// What a rule concludes is a fact, by a name that is free.
     pub(crate) fn decide_step<'c>(&mut self, shape: &StepShape<'c>) -> Result<Effect<'c>, Refused>
-        requires { IsWhole self.old }
+        requires { IsConsistent self.old }
         ensures decides { Decides self.new result (step_effect (state_of self.old) (read_step shape.now)) }
         ensures keeps { Keeps self.old self.new }
     {
         if self.is_taken(shape.name) {
             return Err(Refused::Fault(FaultName::Redeclared));
         }
-        let conclusion = self.concluded(None, shape)?;
+        let conclusion = self.conclude_step(None, shape)?;
         Ok(Effect::Add {
             name: shape.name,
             conclusion,
@@ -168,7 +172,7 @@ impl Held {
     /// The innermost scope is closed, and what a rule concludes from its assumption is a fact around
     /// it, by a name that is free there.
     pub(crate) fn decide_pop<'c>(&mut self, shape: &StepShape<'c>) -> Result<Effect<'c>, Refused>
-        requires { IsWhole self.old }
+        requires { IsConsistent self.old }
         ensures decides { Decides self.new result (pop_effect (state_of self.old) (read_step shape.now)) }
         ensures keeps { Keeps self.old self.new }
     {
@@ -187,14 +191,15 @@ impl Held {
         assumed: Id,
         shape: &StepShape<'c>,
     ) -> Result<Effect<'c>, Refused>
-        requires whole { IsWhole self.old }
+        requires whole { IsConsistent self.old }
         requires live { assumed < length self.old.table.trees }
         requires assumed { innermost_hypothesis (state_of self.old).scopes ≡ Some (tree_in self.old.table assumed) }
         requires free { is_free_outer_fact (state_of self.old) shape.now.name.now ≡ true }
-        ensures decides { Decides self.new result (outside_effect (state_of self.old) (tree_in self.old.table assumed) (read_step shape.now)) }
+        ensures decides { Decides self.new result (outside_effect (state_of self.old) (tree_in self.old.table assumed)
+            (read_step shape.now)) }
         ensures keeps { Keeps self.old self.new }
     {
-        let conclusion = self.concluded(Some(assumed), shape)?;
+        let conclusion = self.conclude_step(Some(assumed), shape)?;
         Ok(Effect::Add {
             name: shape.name,
             conclusion,
@@ -203,8 +208,8 @@ impl Held {
     }
 }
 
-/// A law: what a command does to a state is what is decided of it, and then done; and so it is where
-/// the command stands, with what is done next.
+/// A law: what a command does to a state is what is decided of it, and then done; the same holds where
+/// the command is, with what is done next.
 #[tactic(auto, using(crate::proofs::Decisions::command_done, crate::proofs::Decisions::placed_done))]
 pub fn decision_law()
     ensures decided { AreDecided }

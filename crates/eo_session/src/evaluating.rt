@@ -4,21 +4,21 @@ ghost use Rattle.eo_eval.specs.Faults.{value_or_fault};
 ghost use Rattle.eo_eval.specs.Outcomes.{outcome_of, IsValueOf};
 ghost use Rattle.eo_rule.specs.Answers.{GivesTerm as GivesFound};
 ghost use Rattle.eo_term.specs.Growth.{tree_in};
-ghost use Rattle.eo_session.specs.Held.{state_of, IsWhole, Keeps};
+ghost use Rattle.eo_session.specs.Store.{state_of, IsConsistent, Keeps};
 ghost use Rattle.eo_session.specs.Step.{evaluated, typed, type_value, formula_of};
 ghost use Rattle.eo_session.specs.Stepping.{GivesKind, GivesTerm};
 
 use crate::Refused;
-use crate::held::{BOOL_CONSTANT, Held, TYPE_CONSTANT};
+use crate::store::{BOOL_CONSTANT, Store, TYPE_CONSTANT};
 use eo_base::FaultName;
 use eo_rule::{RuleRefused, value_of, value_type};
 use eo_term::Id;
 use eo_type::is_constant;
 
-impl Held {
+impl Store {
     /// The value of a term. Where it has none, the fault says how its evaluation ends.
     pub(crate) fn evaluate(&mut self, id: Id) -> Result<Id, Refused>
-        requires whole { IsWhole self.old }
+        requires whole { IsConsistent self.old }
         requires live { id < length self.old.table.trees }
         ensures gives { GivesTerm self.new result (evaluated (state_of self.old) (tree_in self.old.table id)) }
         ensures value { IfOk result (IsValueOf self.new.table) }
@@ -30,7 +30,7 @@ impl Held {
 
     /// The value of a type, which is `IllTyped` where the type of the value is not `Type`.
     pub(crate) fn type_value(&mut self, id: Id) -> Result<Id, Refused>
-        requires whole { IsWhole self.old }
+        requires whole { IsConsistent self.old }
         requires live { id < length self.old.table.trees }
         ensures gives { GivesTerm self.new result (type_value (state_of self.old) (tree_in self.old.table id)) }
         ensures value { IfOk result (IsValueOf self.new.table) }
@@ -45,7 +45,7 @@ impl Held {
 
     /// The value of a term, which is `NotBool` where the type of the value is not `Bool`.
     pub(crate) fn formula_of(&mut self, id: Id) -> Result<Id, Refused>
-        requires whole { IsWhole self.old }
+        requires whole { IsConsistent self.old }
         requires live { id < length self.old.table.trees }
         ensures gives { GivesTerm self.new result (formula_of (state_of self.old) (tree_in self.old.table id)) }
         ensures value { IfOk result (IsValueOf self.new.table) }
@@ -61,7 +61,7 @@ impl Held {
     /// Whether the type of a value is the constant of this number. It is refused where the value
     /// has no type that is a value.
     pub(crate) fn has_kind(&mut self, id: Id, number: usize) -> Result<bool, Refused>
-        requires whole { IsWhole self.old }
+        requires whole { IsConsistent self.old }
         requires live { id < length self.old.table.trees }
         ensures gives { GivesKind number result (typed (state_of self.old) (tree_in self.old.table id)) }
         ensures keeps { Keeps self.old self.new }
@@ -72,7 +72,7 @@ impl Held {
 
     // The type of a value.
     fn type_of(&mut self, id: Id) -> Result<Id, RuleRefused>
-        requires whole { IsWhole self.old }
+        requires whole { IsConsistent self.old }
         requires live { id < length self.old.table.trees }
         ensures gives { GivesFound self.new.table result (typed (state_of self.old) (tree_in self.old.table id)) }
         ensures keeps { Keeps self.old self.new }
@@ -84,7 +84,7 @@ impl Held {
 
     // The value of a term.
     fn value_of(&mut self, id: Id) -> Result<Id, RuleRefused>
-        requires whole { IsWhole self.old }
+        requires whole { IsConsistent self.old }
         requires live { id < length self.old.table.trees }
         ensures gives { GivesFound self.new.table result (value_or_fault (outcome_of self.old.signature self.old.table id)) }
         ensures value { IfOk result (IsValueOf self.new.table) }

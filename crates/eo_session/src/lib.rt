@@ -13,7 +13,6 @@ mod deciding;
 mod declaring;
 mod effects;
 mod evaluating;
-mod held;
 mod naming;
 mod noting;
 mod observing;
@@ -23,6 +22,7 @@ mod rules;
 mod scopes;
 mod session;
 mod steps;
+mod store;
 mod valuing;
 
 use eo_base::Text;
@@ -30,7 +30,7 @@ pub use observing::{Act, Nobody, Note, Numbers, Observer, StepNote};
 pub use refused::Refused;
 pub use session::{EndAnswer, Session};
 
-/// The file that a command stands in, by its number in the table of paths.
+/// The file that a command is in, by its number in the table of paths.
 #[derive(Clone, Copy, Debug, PartialEq, Eq)]
 pub enum Origin {
     /// A signature, or a file that it includes.
@@ -41,7 +41,7 @@ pub enum Origin {
     Reference(usize),
 }
 
-/// What is done behind a command, before the next one.
+/// What is done after a command, before the next one.
 #[derive(Debug, Drop)]
 pub enum Next {
     /// Nothing.

@@ -1,18 +1,18 @@
 //! Files that commands name.
 ghost use Rattle.eo_shape.specs.Reading.{read_command};
-ghost use Rattle.eo_session.specs.Held.{state_of};
+ghost use Rattle.eo_session.specs.Store.{state_of};
 ghost use Rattle.eo_session.specs.Commands.{next_by, path_of, reference_path};
 ghost use Rattle.eo_session.specs.Stepping.{Gives};
 
-use crate::held::Held;
+use crate::store::Store;
 use crate::{Next, Refused};
 use eo_base::{FaultName, Text};
 use eo_lit::string_bytes;
 use eo_shape::Command;
 use std::alloc::Global;
 
-impl Held {
-    /// What is done behind a command, before the next one.
+impl Store {
+    /// What is done after a command, before the next one.
     pub(crate) fn next_by(&self, command: &Command<'_>) -> Result<Next, Refused>
         ensures { Gives result (next_by (state_of self.now) (read_command command.now)) }
     {

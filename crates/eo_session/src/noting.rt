@@ -3,7 +3,7 @@ ghost use Rattle.std.specs.Prelude.{◌≡◌, ◌<◌, ℕ, List, [], ◌∷◌
 ghost use Rattle.eo_shape.specs.Reading.{read_command, read_step};
 ghost use Rattle.eo_term.specs.Growth.{tree_in};
 ghost use Rattle.eo_session.specs.Deciding.{read_effect, MayCommit};
-ghost use Rattle.eo_session.specs.Held.{state_of, IsWhole, Keeps};
+ghost use Rattle.eo_session.specs.Store.{state_of, IsConsistent, Keeps};
 ghost use Rattle.eo_session.specs.Notes as notes;
 ghost use Rattle.eo_session.specs.Notes.{act_of, fact_act, numbers_of, seen_of, step_note, Seen};
 ghost use Rattle.eo_session.specs.Noting.{read_act, read_note, read_step_note, ActBelow, StepBelow, GivesArguments, GivesFound};
@@ -11,8 +11,8 @@ ghost use Rattle.eo_session.specs.Numbered.{origin_of};
 ghost use Rattle.eo_session.specs.Step.{values};
 
 use crate::effects::Effect;
-use crate::held::Held;
 use crate::observing::{Act, Note, Numbers, Observer, StepNote};
+use crate::store::Store;
 use crate::{Origin, Refused};
 use eo_base::Place;
 use eo_sexp::Children;
@@ -30,7 +30,7 @@ pub(crate) struct Source<'a> {
     pub(crate) place: Place,
 }
 
-impl Held {
+impl Store {
     /// Shows a command to an observer that watches, before it is done. What is held stays. `Err` is out
     /// of memory.
     pub(crate) fn show<O: Observer>(
@@ -41,7 +41,7 @@ impl Held {
         source: &Source<'_>,
         observer: &mut O,
     ) -> Result<(), AllocError>
-        requires whole { IsWhole self.old }
+        requires whole { IsConsistent self.old }
         requires may { MayCommit self.old effect.now }
         ensures keeps { Keeps self.old self.new }
         ensures may { MayCommit self.new effect.now }
@@ -65,7 +65,7 @@ impl Held {
         bytes: &[u8],
         observer: &mut O,
     ) -> Result<(), AllocError>
-        requires whole { IsWhole self.old }
+        requires whole { IsConsistent self.old }
         requires live { ActBelow (length self.old.table.trees) note.now.act }
         ensures keeps { Keeps self.old self.new }
         ensures sees { OnOk result ((l : List Seen) → O.tells observer.old l →
@@ -90,7 +90,7 @@ impl Held {
         effect: &Effect<'_>,
         place: Place,
     ) -> Result<Note, AllocError>
-        requires whole { IsWhole self.old }
+        requires whole { IsConsistent self.old }
         requires may { MayCommit self.old effect.now }
         ensures reads { IfOk result (λ n. (bytes : List ℕ) → read_note self.new.table bytes n ≡
             seen_of (state_of self.old) (origin_of from) bytes place (read_command command.now) (read_effect self.old.table effect.now)) }
@@ -113,7 +113,7 @@ impl Held {
     // What a command does whose effect is this.
     #[tactic(auto, using(crate::proofs::Used::keeps_self))]
     fn act(&mut self, command: &Command<'_>, effect: &Effect<'_>) -> Result<Act, AllocError>
-        requires whole { IsWhole self.old }
+        requires whole { IsConsistent self.old }
         requires may { MayCommit self.old effect.now }
         ensures reads { IfOk result (λ a. read_act self.new.table a ≡
             act_of (state_of self.old) (read_command command.now) (read_effect self.old.table effect.now)) }
@@ -133,7 +133,7 @@ impl Held {
     // What a command does that makes this a fact.
     #[tactic(auto, using(crate::proofs::Used::keeps_self))]
     fn fact_act(&mut self, command: &Command<'_>, fact: Id) -> Result<Act, AllocError>
-        requires whole { IsWhole self.old }
+        requires whole { IsConsistent self.old }
         requires live { fact < length self.old.table.trees }
         ensures reads { IfOk result (λ a. read_act self.new.table a ≡
             fact_act (state_of self.old) (read_command command.now) (tree_in self.old.table fact)) }
@@ -155,7 +155,7 @@ impl Held {
 
     // What is noted of a step that concludes this.
     fn step_note(&mut self, shape: &StepShape<'_>, fact: Id) -> Result<StepNote, AllocError>
-        requires whole { IsWhole self.old }
+        requires whole { IsConsistent self.old }
         requires live { fact < length self.old.table.trees }
         ensures reads { IfOk result (λ s. read_step_note self.new.table s ≡
             step_note (state_of self.old) (read_step shape.now) (tree_in self.old.table fact)) }
@@ -185,12 +185,12 @@ impl Held {
 
     // The values of arguments, which were found before where a step is accepted. `Err` is out of memory.
     fn arguments(&mut self, terms: &Children<'_>) -> Result<Ids, AllocError>
-        requires { IsWhole self.old }
+        requires { IsConsistent self.old }
         ensures gives { IfOk result (GivesArguments self.new (notes.found (values (state_of self.old) terms.now))) }
         ensures keeps { Keeps self.old self.new }
     {
         let args = self.values(terms);
-        found(self.alloc, args)
+        ids_or_none(self.alloc, args)
     }
 
     // The numbers of the commands that made the facts of these names.
@@ -216,7 +216,7 @@ impl Held {
 }
 
 // The terms that are found, and none where there is a fault. `Err` is out of memory.
-fn found(alloc: Global, values: Result<Ids, Refused>) -> Result<Ids, AllocError>
+fn ids_or_none(alloc: Global, values: Result<Ids, Refused>) -> Result<Ids, AllocError>
     ensures { IfOk result (GivesFound values) }
 {
     match values {

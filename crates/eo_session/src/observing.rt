@@ -55,7 +55,7 @@ pub struct Note {
     pub place: Place,
     /// How many commands were accepted before it, or 2^64 - 1 where there were more.
     pub number: u64,
-    /// Whether it stands in a reference file.
+    /// Whether it is in a reference file.
     pub from_reference: bool,
     /// How many scopes are open before it.
     pub depth: usize,
@@ -65,7 +65,7 @@ pub struct Note {
 
 /// A type that is shown each accepted command.
 pub trait Observer {
-    /// The lists of what was seen that the observer may represent. One that keeps all that it sees
+    /// The lists of seen commands that the observer may represent. One that keeps all that it sees
     /// represents one list, and one that keeps nothing represents every list.
     ghost tells: { Self → List Seen → Type 0 };
 

@@ -6,27 +6,27 @@ ghost use Rattle.eo_proof.specs.Scopes.{fact_named};
 ghost use Rattle.eo_shape.specs.Reading.{read_step};
 ghost use Rattle.eo_term.specs.Growth.{tree_in};
 ghost use Rattle.eo_term.specs.Tree.{is_value};
-ghost use Rattle.eo_session.specs.Held.{state_of, IsWhole, Keeps};
+ghost use Rattle.eo_session.specs.Store.{state_of, IsConsistent, Keeps};
 ghost use Rattle.eo_session.specs.Step as step;
 ghost use Rattle.eo_session.specs.Stepping.{GivesTerm};
 ghost use Rattle.eo_session.specs.Using.{MayDischarge, GivesIds, GivesOptional, GivesUse};
 
 use crate::Refused;
-use crate::held::Held;
+use crate::store::Store;
 use eo_base::FaultName;
 use eo_rule::RuleUse;
 use eo_sexp::{Children, Sexp};
 use eo_shape::{StepShape, Symbols};
 use eo_term::{Id, Ids};
 
-impl Held {
+impl Store {
     /// What a step's rule is used on, with the assumption that it discharges, if it does.
     pub(crate) fn use_of(
         &mut self,
         assumed: Option<Id>,
         shape: &StepShape<'_>,
     ) -> Result<RuleUse, Refused>
-        requires whole { IsWhole self.old }
+        requires whole { IsConsistent self.old }
         requires assumed { MayDischarge self.old.table assumed }
         ensures gives { GivesUse self.new result
             (step.use_of (state_of self.old) (option_map (tree_in self.old.table) assumed) (read_step shape.now)) }
@@ -45,7 +45,7 @@ impl Held {
 
     // The facts of these names.
     fn premises(&self, names: &Symbols<'_>) -> Result<Ids, Refused>
-        requires { IsWhole self.now }
+        requires { IsConsistent self.now }
         ensures { GivesIds self.now result (step.premises (state_of self.now) names.now) }
     {
         let mut ids = Ids::new(self.alloc);
@@ -58,7 +58,7 @@ impl Held {
 
     // The fact of this name.
     fn premise(&self, name: &[u8]) -> Result<Id, Refused>
-        requires { IsWhole self.now }
+        requires { IsConsistent self.now }
         ensures gives { GivesTerm self.now result (value_or fault.UnknownPremise (fact_named (state_of self.now).scopes name.now)) }
         ensures value { IfOk result (λ i. is_value (tree_in self.now.table i) ≡ true) }
     {
@@ -70,7 +70,7 @@ impl Held {
 
     // The value of a term, where there is one.
     fn optional_value(&mut self, s: &Option<Sexp<'_>>) -> Result<Option<Id>, Refused>
-        requires { IsWhole self.old }
+        requires { IsConsistent self.old }
         ensures gives { GivesOptional self.new result (step.optional_value (state_of self.old) s.now) }
         ensures keeps { Keeps self.old self.new }
     {
@@ -85,7 +85,7 @@ impl Held {
 
     /// The values of terms in order.
     pub(crate) fn values(&mut self, terms: &Children<'_>) -> Result<Ids, Refused>
-        requires { IsWhole self.old }
+        requires { IsConsistent self.old }
         ensures gives { GivesIds self.new result (step.values (state_of self.old) terms.now) }
         ensures keeps { Keeps self.old self.new }
     {

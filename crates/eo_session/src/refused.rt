@@ -14,7 +14,7 @@ pub enum Refused {
     Fault(FaultName),
     /// A command before it was refused.
     Ended,
-    /// Want of memory.
+    /// Out of memory.
     Memory(AllocError),
 }
 

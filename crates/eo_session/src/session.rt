@@ -2,28 +2,28 @@
 ghost use Rattle.std.specs.Prelude.{◌≡◌, ◌≢◌, false, true, not, ◌||◌, IfOk, Err, OnOk, OnErr, IfErr, List, ◌++◌};
 ghost use Rattle.eo_base.specs.declared.FaultName.TheVariants.{FileAbsent};
 ghost use Rattle.eo_session.specs.declared.refused.Refused.TheVariants.{Fault};
-ghost use Rattle.eo_session.specs.Held.{state_of, IsWhole, IsSettled};
+ghost use Rattle.eo_session.specs.Store.{state_of, IsConsistent, IsSettled};
 ghost use Rattle.eo_session.specs.Roots.{live_count};
 ghost use Rattle.eo_session.specs.Numbered.{origin_of, number_of};
 ghost use Rattle.eo_session.specs.State.{begin_reference, end_fault, is_in_scope};
-ghost use Rattle.eo_names.specs.Scopes.{read_setting};
+ghost use Rattle.eo_names.specs.Scopes.{read_file_kind};
 ghost use Rattle.eo_proof.specs.Scopes.{first_false};
-ghost use Rattle.eo_session.specs.Step.{is_in_proof, is_in_reference, setting_of, value_named};
+ghost use Rattle.eo_session.specs.Step.{is_in_proof, is_in_reference, file_kind_of, value_named};
 ghost use Rattle.eo_session.specs.Commands.{placed_command, uncounted, step};
 ghost use Rattle.eo_session.specs.Commands as definition;
 ghost use Rattle.eo_shape.specs.Reading.{read_command};
 ghost use Rattle.eo_session.specs.Notes.{Seen, seen_by, shown};
 ghost use Rattle.eo_session.specs.Noting.{UnlessMemory};
 ghost use Rattle.eo_session.specs.Decisions.{placed_decision};
-ghost use Rattle.eo_session.specs.Stepping.{DoesNext, Steps, StepsTo, EndsWith};
+ghost use Rattle.eo_session.specs.Stepping.{UpdatesNext, Steps, StepsTo, EndsWith};
 ghost use Rattle.eo_session.specs.Stepping.{IsNew, IsAlive, GivesValue, IsSignatureOf};
 
-use crate::held::Held;
 use crate::noting::Source;
+use crate::store::Store;
 use crate::valuing::run_name;
 use crate::{Next, Nobody, Observer, Origin, Refused};
 use eo_base::{FaultName, Place};
-use eo_elab::Setting;
+use eo_elab::FileKind;
 use eo_sexp::Sexp;
 use eo_shape::{Command, command_of};
 use eo_sig::Signature;
@@ -54,14 +54,14 @@ impl Origin {
         }
     }
 
-    /// What may stand in it.
-    pub(crate) fn setting(self) -> Setting
-        ensures { read_setting result ≡ setting_of (origin_of self) }
+    /// The kind of file, as the meaning of terms sees it.
+    pub(crate) fn file_kind(self) -> FileKind
+        ensures { read_file_kind result ≡ file_kind_of (origin_of self) }
     {
         match self {
-            Origin::Signature(_) => Setting::Proof,
-            Origin::Proof(_) => Setting::Proof,
-            Origin::Reference(_) => Setting::Reference,
+            Origin::Signature(_) => FileKind::Proof,
+            Origin::Proof(_) => FileKind::Proof,
+            Origin::Reference(_) => FileKind::Reference,
         }
     }
 
@@ -89,7 +89,7 @@ impl Origin {
     }
 }
 
-/// What the check at the end of a proof answers.
+/// What the check at the end of a proof returns.
 #[derive(Clone, Copy, Debug, PartialEq, Eq)]
 pub enum EndAnswer {
     /// `false` is a fact, and every step used a proved rule.
@@ -106,13 +106,13 @@ pub enum EndAnswer {
 /// is refused too.
 #[derive(Drop)]
 pub struct Session {
-    held: Held,
+    store: Store,
     ended: bool,
 }
 
 impl Model for Session {
     ghost use Rattle.std.specs.Prelude.{◌≡◌, false};
-    ghost use Rattle.eo_session.specs.Held.{state_of, IsWhole};
+    ghost use Rattle.eo_session.specs.Store.{state_of, IsConsistent};
     ghost use Rattle.eo_session.specs.StateCode.{standing_code};
     ghost use Rattle.eo_session.specs.Stepping.{Standing};
 
@@ -120,9 +120,9 @@ impl Model for Session {
 
     ghost coded = { standing_code };
 
-    ghost view = { λ a. record { ended = a.ended; state = state_of a.held; terms = a.held.table } };
+    ghost view = { λ a. record { ended = a.ended; state = state_of a.store; terms = a.store.table } };
 
-    ghost invariant = { λ a. a.ended ≡ false → IsWhole a.held };
+    ghost invariant = { λ a. a.ended ≡ false → IsConsistent a.store };
 }
 
 impl Session {
@@ -131,8 +131,11 @@ impl Session {
     pub fn new(alloc: Global, closed: bool) -> Result<Session, AllocError>
         ensures { IfOk result (IsNew closed) }
     {
-        let held = Held::new(alloc, closed)?;
-        Ok(Session { held, ended: false })
+        let store = Store::new(alloc, closed)?;
+        Ok(Session {
+            store,
+            ended: false,
+        })
     }
 
     /// Begins the reference file.
@@ -146,13 +149,13 @@ impl Session {
         if self.ended {
             return Err(Refused::Ended);
         }
-        self.held.release();
-        if self.held.has_reference {
+        self.store.release();
+        if self.store.has_reference {
             self.ended = true;
             return Err(Refused::Fault(FaultName::SecondReference));
         }
-        self.held.alive_law();
-        self.held.has_reference = true;
+        self.store.alive_law();
+        self.store.has_reference = true;
         Ok(())
     }
 
@@ -170,7 +173,7 @@ impl Session {
     /// - `declare-consts`: `Redeclared`: the class has a type; the term; `BadPattern`.
     /// - `define`: `Redeclared`; `Parameters`; the terms; `Redeclared`: another macro than that of
     ///   the reference file.
-    /// - `program`: `ProofDeclares`: the session is closed, and the command stands in the proof;
+    /// - `program`: `ProofDeclares`: the session is closed, and the command is in the proof;
     ///   `Redeclared`; `Parameters`; the terms; `BadPattern`: a pattern holds an operator;
     ///   `UnboundParam`: a body uses a parameter that the patterns of its case lack.
     /// - `declare-rule`: `ProofDeclares`, as of `program`; `Redeclared`: a rule has the name, or it
@@ -195,12 +198,12 @@ impl Session {
     /// - `declare-const`, `declare-fun`, `declare-sort`: as above.
     /// - `define-fun`: as of `define`; its type is read before its body.
     /// - `define-sort`: as of `define`.
-    /// - `assert`: the term, where a name that a term gives itself and that may not be declared is
+    /// - `assert`: the term, where a name that a term is given and that may not be declared is
     ///   `Redeclared`; its evaluation, whose value is what is asserted; `IllTyped`, `NumberRange`,
     ///   `TermHeight`, `NotBool`, as of `assume`. Then the names are macros of the reference file.
     /// - `exit`: nothing after it is read. The other commands say nothing.
     ///
-    /// The faults of a term are those that [`eo_elab::term`] answers. An evaluation has one fault,
+    /// The faults of a term are those that [`eo_elab::term`] returns. An evaluation has one fault,
     /// which says how it ends ([`eo_eval::Evaluator::evaluate`]):
     ///
     /// - `Stuck`: it has no value.
@@ -209,7 +212,7 @@ impl Session {
     /// - `NumberRange`: a number is out of range.
     /// - `TermHeight`: a term is too tall.
     ///
-    /// It answers what is done before the next command: a file that the command names is opened, or
+    /// It returns what is done before the next command: a file that the command names is opened, or
     /// the file of the command ends, which is no part of this call. Then [`Session::table`] has as
     /// many terms as are alive.
     ///
@@ -249,17 +252,17 @@ impl Session {
         if self.ended {
             return Err(Refused::Ended);
         }
-        let accepted = self.held.commands;
-        self.held.release();
+        let accepted = self.store.commands;
+        self.store.release();
         let source = Source { bytes, place };
-        match run_command(&mut self.held, s, from, &source, observer) {
+        match run_command(&mut self.store, s, from, &source, observer) {
             Ok(next) => {
-                self.held.alive_law();
-                self.held.commands = self.held.commands.saturating_add(1);
+                self.store.alive_law();
+                self.store.commands = self.store.commands.saturating_add(1);
                 Ok(next)
             }
             Err(e) => {
-                self.held.commands = accepted;
+                self.store.commands = accepted;
                 self.ended = true;
                 Err(e)
             }
@@ -268,7 +271,7 @@ impl Session {
 
     /// The value of the macro without parameters that has this name. It is a term of
     /// [`Session::table`] until the next call of this one, of [`Session::command`], of
-    /// [`Session::command_by`] or of [`Session::begin_reference`], which first gives back the terms
+    /// [`Session::command_by`] or of [`Session::begin_reference`], which first frees the terms
     /// that were made for it.
     ///
     /// `UnknownSymbol`: there is no such macro. `Stuck`, `EvalDepth`, `EvalCalls`, `NumberRange` and
@@ -284,7 +287,7 @@ impl Session {
         if self.ended {
             return Err(Refused::Ended);
         }
-        match run_name(&mut self.held, name) {
+        match run_name(&mut self.store, name) {
             Ok(id) => Ok(id),
             Err(e) => {
                 self.ended = true;
@@ -297,14 +300,14 @@ impl Session {
     pub fn signature(&self) -> &Signature
         ensures { self.now.ended ≡ false → IsSignatureOf self.now result.now }
     {
-        &self.held.signature
+        &self.store.signature
     }
 
     /// The terms.
     pub fn table(&self) -> &Table
         ensures { result.now ≡ self.now.terms }
     {
-        &self.held.table
+        &self.store.table
     }
 
     /// The check at the end of a proof, in a session that is not ended: `ScopeOpen` where a scope
@@ -314,16 +317,16 @@ impl Session {
         requires { self.now.ended ≡ false }
         ensures { EndsWith (end_fault self.now.state) self.now.state.sorry result }
     {
-        if self.held.is_in_scope() {
+        if self.store.is_in_scope() {
             return EndAnswer::Fault(FaultName::ScopeOpen);
         }
-        if !self.held.has_reference {
+        if !self.store.has_reference {
             return EndAnswer::Fault(FaultName::NoReference);
         }
-        if !self.held.refutes() {
+        if !self.store.refutes() {
             return EndAnswer::Fault(FaultName::NoRefutation);
         }
-        if self.held.sorry {
+        if self.store.sorry {
             return EndAnswer::Incomplete;
         }
         EndAnswer::Correct
@@ -335,7 +338,7 @@ impl Session {
         requires { self.now.ended ≡ false }
         ensures { result ≡ first_false self.now.state.scopes }
     {
-        self.held.refutation()
+        self.store.refutation()
     }
 
     /// How many terms are alive, in a session that is not ended: the different subtrees of what is
@@ -345,7 +348,7 @@ impl Session {
         requires { self.now.ended ≡ false }
         ensures { result ≡ live_count self.now.state }
     {
-        self.held.live()
+        self.store.live()
     }
 
     /// How many commands were accepted, or 2^64 - 1 where there were more. A call that is refused
@@ -353,62 +356,62 @@ impl Session {
     pub fn commands(&self) -> u64
         ensures { result ≡ self.now.state.commands }
     {
-        self.held.commands
+        self.store.commands
     }
 }
 
 // Checks a command, shows it, and does what it says.
 fn run_command<O: Observer>(
-    held: &mut Held,
+    store: &mut Store,
     s: &Sexp<'_>,
     from: Origin,
     source: &Source<'_>,
     observer: &mut O,
 ) -> Result<Next, Refused>
-    requires { IsWhole held.old }
-    ensures settled { OnOk result (IsSettled held.new) }
-    ensures does { DoesNext result (uncounted (state_of held.old) (origin_of from) s.now) held.new }
+    requires { IsConsistent store.old }
+    ensures settled { OnOk result (IsSettled store.new) }
+    ensures updates { UpdatesNext result (uncounted (state_of store.old) (origin_of from) s.now) store.new }
     ensures sees { OnOk result ((l : List Seen) → O.tells observer.old l →
-        O.tells observer.new (l ++ shown (state_of held.old) (origin_of from) source.now.bytes.now source.now.place s.now)) }
+        O.tells observer.new (l ++ shown (state_of store.old) (origin_of from) source.now.bytes.now source.now.place s.now)) }
     ensures unseen { IfErr result (λ e. UnlessMemory e ((l : List Seen) → O.tells observer.old l → O.tells observer.new l)) }
 {
     let read = command_of(s, from.is_reference());
     match &read {
-        Ok(command) => run_decided(held, command, from, source, observer),
+        Ok(command) => run_decided(store, command, from, source, observer),
         Err(e) => Err(Refused::from(*e)),
     }
 }
 
 // Decides what a command does, shows it, and does it.
 fn run_decided<O: Observer>(
-    held: &mut Held,
+    store: &mut Store,
     command: &Command<'_>,
     from: Origin,
     source: &Source<'_>,
     observer: &mut O,
 ) -> Result<Next, Refused>
-    requires { IsWhole held.old }
-    ensures settled { OnOk result (IsSettled held.new) }
-    ensures does { DoesNext result (placed_command (state_of held.old) (origin_of from) (read_command command.now)) held.new }
+    requires { IsConsistent store.old }
+    ensures settled { OnOk result (IsSettled store.new) }
+    ensures updates { UpdatesNext result (placed_command (state_of store.old) (origin_of from) (read_command command.now)) store.new }
     ensures sees { OnOk result ((l : List Seen) → O.tells observer.old l → O.tells observer.new
-        (l ++ seen_by (state_of held.old) (origin_of from) source.now.bytes.now source.now.place (read_command command.now)
-        (placed_decision (state_of held.old) (origin_of from) (read_command command.now)))) }
+        (l ++ seen_by (state_of store.old) (origin_of from) source.now.bytes.now source.now.place (read_command command.now)
+        (placed_decision (state_of store.old) (origin_of from) (read_command command.now)))) }
     ensures unseen { IfErr result (λ e. UnlessMemory e ((l : List Seen) → O.tells observer.old l → O.tells observer.new l)) }
 {
-    let decided = held.decide(command, from)?;
-    held.show(command, from, &decided.effect, source, observer)?;
-    held.commit(decided.effect)?;
+    let decided = store.decide(command, from)?;
+    store.show(command, from, &decided.effect, source, observer)?;
+    store.commit(decided.effect)?;
     Ok(decided.next)
 }
 
-/// Whether a command may stand here: no scope is open, or it may stand in one.
-pub(crate) fn may_stand(held: &Held, command: &Command<'_>) -> bool
-    ensures { result ≡ (not (is_in_scope (state_of held.now)) || definition.may_be_in_scope (read_command command.now)) }
+/// Whether a command is allowed here: no scope is open, or it is allowed in one.
+pub(crate) fn may_stand(store: &Store, command: &Command<'_>) -> bool
+    ensures { result ≡ (not (is_in_scope (state_of store.now)) || definition.may_be_in_scope (read_command command.now)) }
 {
-    !held.is_in_scope() || may_be_in_scope(command)
+    !store.is_in_scope() || may_be_in_scope(command)
 }
 
-// Whether a command may stand in a scope.
+// Whether a command is allowed in a scope.
 fn may_be_in_scope(command: &Command<'_>) -> bool
     ensures { result ≡ definition.may_be_in_scope (read_command command.now) }
 {

@@ -6,13 +6,13 @@ ghost use Rattle.eo_rule.specs.Reading.{AreValuesIn, UseBelow, conclusion_in, re
 ghost use Rattle.eo_shape.specs.Reading.{read_step};
 ghost use Rattle.eo_sig.specs.Reading.{rules_of};
 ghost use Rattle.eo_term.specs.Growth.{tree_in};
-ghost use Rattle.eo_session.specs.Held.{state_of, IsWhole, Keeps};
+ghost use Rattle.eo_session.specs.Store.{state_of, IsConsistent, Keeps};
 ghost use Rattle.eo_session.specs.Step as step;
 ghost use Rattle.eo_session.specs.Step.{is_free_outer_fact};
 ghost use Rattle.eo_session.specs.Using.{MayDischarge, GivesConcluded, concluded_from};
 
 use crate::Refused;
-use crate::held::Held;
+use crate::store::Store;
 use eo_base::FaultName;
 use eo_rule::{RuleRefused, RuleUse, conclude};
 use eo_shape::StepShape;
@@ -28,7 +28,7 @@ pub(crate) struct Conclusion {
     pub(crate) sorry: bool,
 }
 
-impl Held {
+impl Store {
     /// Whether a fact may get the name once the innermost scope is closed: it is not reserved, and
     /// no fact outside has it.
     pub(crate) fn is_free_outside(&self, name: &[u8]) -> bool
@@ -38,31 +38,31 @@ impl Held {
     }
 
     /// What a step's rule concludes, from the assumption that it discharges, if it does.
-    pub(crate) fn concluded(
+    pub(crate) fn conclude_step(
         &mut self,
         assumed: Option<Id>,
         shape: &StepShape<'_>,
     ) -> Result<Conclusion, Refused>
-        requires whole { IsWhole self.old }
+        requires whole { IsConsistent self.old }
         requires assumed { MayDischarge self.old.table assumed }
         ensures gives { GivesConcluded self.new result
             (step.concluded (state_of self.old) (option_map (tree_in self.old.table) assumed) (read_step shape.now)) }
         ensures keeps { Keeps self.old self.new }
     {
         match self.signature.rule(shape.rule) {
-            Some(rule) => self.concluded_by(rule, assumed, shape),
+            Some(rule) => self.conclude_by_rule(rule, assumed, shape),
             None => Err(Refused::Fault(FaultName::UnknownRule)),
         }
     }
 
     // What the rule of this number concludes.
-    fn concluded_by(
+    fn conclude_by_rule(
         &mut self,
         rule: usize,
         assumed: Option<Id>,
         shape: &StepShape<'_>,
     ) -> Result<Conclusion, Refused>
-        requires whole { IsWhole self.old }
+        requires whole { IsConsistent self.old }
         requires rule { rule < length (rules_of self.old.signature) }
         requires assumed { MayDischarge self.old.table assumed }
         ensures gives { GivesConcluded self.new result
@@ -70,12 +70,12 @@ impl Held {
         ensures keeps { Keeps self.old self.new }
     {
         let given = self.use_of(assumed, shape)?;
-        self.concluded_from(rule, &given)
+        self.apply_rule(rule, &given)
     }
 
     // What the rule of this number concludes from what is given.
-    fn concluded_from(&mut self, rule: usize, given: &RuleUse) -> Result<Conclusion, Refused>
-        requires whole { IsWhole self.old }
+    fn apply_rule(&mut self, rule: usize, given: &RuleUse) -> Result<Conclusion, Refused>
+        requires whole { IsConsistent self.old }
         requires rule { rule < length (rules_of self.old.signature) }
         requires live { UseBelow (length self.old.table.trees) given.now }
         requires values { AreValuesIn self.old.table given.now }
@@ -90,7 +90,7 @@ impl Held {
 
     // The formula that the rule of this number concludes.
     fn conclusion(&mut self, rule: usize, given: &RuleUse) -> Result<Id, RuleRefused>
-        requires whole { IsWhole self.old }
+        requires whole { IsConsistent self.old }
         requires rule { rule < length (rules_of self.old.signature) }
         requires live { UseBelow (length self.old.table.trees) given.now }
         requires values { AreValuesIn self.old.table given.now }

@@ -1,4 +1,4 @@
--- A token that begins at the front of some bytes, with the byte behind its plain bytes.
+-- A token that begins at the front of some bytes, with the byte after its plain bytes.
 use Rattle.std.proofs.Common.{◌≡◌, ◌≢◌, refl, ℕ, zero, suc, ◌+◌, ◌-◌, ◌≤◌, ◌<◌, true, false, List, [], ◌∷◌, ◌++◌, length, length-append, length-drop, length-take-le, take, take-take, drop, get_or, get_or-take, get_or-drop, All, sym, ap, ◌∙◌, append_assoc, subst, arith}
 use Rattle.std.specs.Prelude.{Result, Ok, Err, OnOk, IfOk, ◌==◌, if◌then◌else◌}
 use Rattle.std.specs.List.{slice_range}
@@ -150,7 +150,7 @@ module _ (limits : Limits) (some : 1 ≤ limits.token) where
     pub word_reader : IsReader limits (held d r) (at + n)
     word_reader = subst (IsReader limits (held d r)) word_long (ended-reader limits (held c word) (held d r) token.Word (length c.bytes) (length c.bytes) (word_run).reader refl f.gap word_added)
 
-    -- a word, and the byte behind it
+    -- a word, and the byte after it
     pub word-stops : (E : Type 0) (e : Built) (s : Reader) (result : Result ReaderTurn E) → is_plain token.Word (get_or rest n 0) ≡ false → OnOk result (e.bytes ≡ d.bytes) →
         IfOk result (λ t. Turns limits (held d r) (at + n) (get_or rest n 0) t (held (with_byte e (get_or rest n 0)) s)) → IfOk result (λ t. StopsAt limits b r rest n 0 t e s)
     word-stops E e s result ends kept turns =
@@ -197,7 +197,7 @@ module _ (limits : Limits) where
   both_runs b c d r s u rest n k i j turn.Whole h g = let all = stops-behind b c d r s u rest n k i j turn.Whole h g in ((all.run.counted, all.run.within), all)
   both_runs b c d r s u rest n k i j (turn.Fault name) h g = let all = stops-behind b c d r s u rest n k i j (turn.Fault name) h g in ((all.run.counted, all.run.within), all)
 
-  -- behind a run another, and what decides behind it
+  -- after a run another, and what decides after it
   pub runs-behind : (b c d : Built) (r s u : Reader) (rest left : List ℕ) (n k i j : ℕ) (t : ReaderTurn) → RunsTo limits b r rest n i c s → left ≡ drop n rest → Runs limits c s left k j t d u →
       ((i + j ≤ n + k) × (n + k ≤ length rest)) × Runs limits b r rest (n + k) (i + j) t d u
   runs-behind b c d r s u rest left n k i j t h e g = both_runs b c d r s u rest n k i j t h (subst (λ l. Runs limits c s l k j t d u) e g)

@@ -1,4 +1,4 @@
--- An atom whose bytes are kept between two tokens of a list: its place is within the bytes, and behind all parts.
+-- An atom whose bytes are kept between two tokens of a list: its place is within the bytes, and after all parts.
 use Rattle.std.proofs.Common.{◌≡◌, ℕ, ◌+◌, ◌≤◌, List, ◌++◌, length, length-append, length-take-le, take, sym, ap, subst, arith}
 use Rattle.eo_base.specs.Limits.{Limits}
 use Rattle.eo_sexp.specs.declared.reader.Position.TheVariants as position

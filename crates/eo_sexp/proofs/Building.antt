@@ -1,4 +1,4 @@
--- What a buffer stands for, as it grows.
+-- What a buffer represents, as it grows.
 use Rattle.std.proofs.Common.{◌≡◌, refl, ℕ, suc, ◌+◌, ◌-◌, ◌<◌, ◌≤◌, Bool, true, false, List, [], ◌∷◌, ◌++◌, take, drop, length, length-append, length-drop, set, ap, sym, subst, ◌∙◌, arith}
 use Rattle.std.specs.List.{slice_range}
 use Rattle.std.proofs.lemmas.List.{length-take, take-append-le, drop-append-le, take-append-drop, take-set, drop-set}
@@ -25,7 +25,7 @@ take_more n xs ys h = take-append-le n xs ys h
 
 -- ---- more nodes
 
--- nodes stand for the same s-expressions whatever is behind them
+-- nodes represent the same s-expressions whatever is after them
 pub trees-append : (bytes : List ℕ) (ns more : List Node) → AreLinked bytes ns → trees bytes (ns ++ more) ≡ trees bytes ns ++ trees bytes more
 trees-append bytes [] more h = refl
 trees-append bytes (node.Atom k d from to ∷ ns) more h = ap (λ ss. Atom (kind_meant k) (token_text bytes d from to) (record { from = from; to = to }) ∷ ss) (trees-append bytes ns more h.1)
@@ -86,7 +86,7 @@ added-open bytes ns more (o ∷ os) s h m e =
 
 -- ---- a list that is closed
 
--- the node of a list of which all children stand behind it
+-- the node of a list of which all children are after it
 whole-linked : (bytes : List ℕ) (ns : List Node) (c : Count) (i from to : ℕ) → AreLinked bytes ns → count_of c ≡ length (trees bytes ns) → i ≡ length ns → AreLinked bytes (node.List c i from to ∷ ns)
 whole-linked bytes ns c i from to h e f = (
   record {

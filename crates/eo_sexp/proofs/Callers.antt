@@ -1,4 +1,4 @@
--- What the answers of a collector tell those who read a text by it.
+-- What the results of a collector say to those who read a text by it.
 use Rattle.std.proofs.Common.{◌≡◌, refl, ℕ, ◌+◌, ◌≤◌, ap, subst, ◌∙◌, arith}
 use Rattle.eo_base.specs.declared.FaultName.{FaultName}
 use Rattle.eo_sexp.specs.Spot.{Spot}
@@ -15,7 +15,7 @@ live-within (AtCommand k phase) w = absurd w
 live-within (Failed name at) w = absurd w
 live-within NoMemory w = absurd w
 
--- ---- the answers, by what the collector then stands for
+-- ---- the answers, by what the collector then represents
 
 pub at_more : (c d : Collecting) → IsAnswer d → fed.More ≡ fed_answer c d → IsWithin d
 at_more c (Within phase comment start begun) a e = tt

@@ -18,7 +18,7 @@ spot_after-offset s [] = omega arith
 spot_after-offset s (x ∷ xs) = spot_after-offset (next_spot s x) xs ∙ omega arith
 
 module _ (limits : Limits) where
-  -- what waits behind the bytes stands at their end
+  -- what waits after the bytes is at their end
   here-waiting : (phase : Phase) (comment : Bool) (start : Spot) (bytes : List ℕ) → here_of (waiting start bytes (strip limits phase comment (record { at = 0; bytes = bytes }))) ≡ spot_after start bytes
   unfolding waiting
   here-waiting phase comment start bytes =

@@ -57,7 +57,7 @@ memory-faultless (AtCommand k phase) e = tt
 memory-faultless (Failed name at) e = cc
 memory-faultless NoMemory e = tt
 
--- nothing is answered
+-- nothing is returned
 none-within : (q : State) (phase : Phase) (start : Spot) (b : Built) (first here : ℕ) → answer_at q first here ≡ None → IsWithin (meaning_at q phase start b)
 none-within (state.Between c) phase start b first here e = tt
 none-within state.Begun phase start b first here e = tt
@@ -66,9 +66,9 @@ none-within state.Command phase start b first here e = cc
 none-within (state.Failed name at) phase start b first here e = cc
 none-within state.NoMemory phase start b first here e = cc
 
--- ---- what is answered
+-- ---- results
 
--- the answer of a machine that stands for what the piece gives, or has no memory
+-- the answer of a machine that represents what the piece gives, or has no memory
 answers : (q : State) (c : Collecting) (m : Machine) (piece : List ℕ) (first : ℕ) (f : Fed) → m.state ≡ q → IsSoundAt q m → (IsLive (meaning_at q (phase_of m.phase) m.start m.begun) → (here_of c).offset ≡ first) → answer_at q first m.here.offset ≡ Some f →
     ((m.state ≡ state.NoMemory → ⊥) → meaning m ≡ fed_with limits c piece) → HasNoFault c ⊎ (m.state ≡ state.NoMemory → HasNoFault c) → Feeds limits c piece f (meaning m)
 answers (state.Between b) c m piece first f e s o a w n = cc
@@ -92,7 +92,7 @@ answers state.NoMemory c m piece first f e s o a w (inr n) =
 
 -- ---- the bytes of a piece in turn
 
--- so many bytes of the piece are taken, and nothing is answered
+-- so many bytes of the piece are taken, and nothing is returned
 pub record IsFeeding (c : Collecting) (piece : List ℕ) (first index : ℕ) (m : Machine) : Type 0 where
   pub sound : IsSound m
   pub within : IsWithin (meaning m)
@@ -184,7 +184,7 @@ within-more c (AtCommand k phase) w = absurd w
 within-more c (Failed name at) w = absurd w
 within-more c NoMemory w = absurd w
 
--- behind the piece
+-- after the piece
 pub feeding-ends : (c : Collecting) (piece : List ℕ) (first index : ℕ) (m : Machine) → IsFeeding c piece first index m → length piece ≤ index → Feeds limits c piece fed.More (meaning m)
 feeding-ends c piece first index m h n =
     (sym (idle m h.sound h.within) ∙ ap (fed_from limits (meaning m)) (sym (drop_all index piece n)) ∙ h.rest, within-more c (meaning m) h.within)
@@ -192,7 +192,7 @@ feeding-ends c piece first index m h n =
 pub feeding-memory : (c : Collecting) (piece : List ℕ) (first index : ℕ) (m new : Machine) → IsFeeding c piece first index m → new.state ≡ state.NoMemory → Feeds limits c piece fed.Memory (meaning new)
 feeding-memory c piece first index m new h e = (ap (λ q. meaning_at q (phase_of new.phase) new.start new.begun) e, h.faultless)
 
--- a command is left behind
+-- a command is dropped
 pub left-sound : (old new : Machine) → IsPlaced old → new.state ≡ state.Between false → new.begun ≡ nothing → new.start ≡ old.here → new.here ≡ old.here → IsSound new
 left-sound old new p e b a h = sound-is new (state.Between false) e (b, placed-left old new p b a h)
 
@@ -209,7 +209,7 @@ feed-some c piece first index m new f h n (inl k) =
     subst (λ g. Feeds limits c piece g (meaning new)) is (feeding-memory c piece first index m new h k.0)
 feed-some c piece first index m new f h n (inr k) = feeding-answers c piece first index 1 (get_or piece index 0 ∷ []) m new h refl (drop-next piece index n) (byte-bytes m new (get_or piece index 0) k.0) f (sym k.1)
 
--- nothing is answered
+-- nothing is returned
 pub feed-none : (c : Collecting) (piece : List ℕ) (first index : ℕ) (m new : Machine) → IsFeeding c piece first index m → index < length piece → FeedsByte m first (get_or piece index 0) None new → IsFeeding c piece first (index + 1) new
 feed-none c piece first index m new h n (inl k) = let e = k.1 in cc
 feed-none c piece first index m new h n (inr k) =
@@ -223,7 +223,7 @@ answered-sound m e s = let h = subst (λ q. IsSoundAt q m) e s in h.1
 run-rest : (piece rest : List ℕ) (index n : ℕ) → rest ≡ drop index piece → drop index piece ≡ take n rest ++ drop (index + n) piece
 run-rest piece rest index n e = sym (take-append-drop n (drop index piece)) ∙ ap (λ l. take n (drop index piece) ++ l) (drop-drop n index piece) ∙ ap (λ l. take n l ++ drop (index + n) piece) (sym e)
 
--- a run was fed behind an index, and nothing is answered
+-- a run was fed after an index, and nothing is returned
 pub run-none : (c : Collecting) (piece rest : List ℕ) (first index n : ℕ) (m new : Machine) → IsFeeding c piece first index m → rest ≡ drop index piece → GoesOver m first rest n new → IsFeeding c piece first (index + n) new
 run-none c piece rest first index n m new h e k = feeding-goes c piece first index n (take n rest) m new h (length-take-le n rest k.within) (run-rest piece rest index n e) k.takes k.answer
 

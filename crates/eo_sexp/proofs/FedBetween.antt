@@ -1,4 +1,4 @@
--- What a byte between two commands makes of what a collector stands for, and where the wrappings of a proof are passed over.
+-- What a byte between two commands makes of what a collector represents, and where the wrappings of a proof are passed over.
 use Rattle.std.proofs.Common.{◌≡◌, refl, ℕ, ◌+◌, ◌≤◌, ◌<◌, Bool, true, false, not, List, [], ◌∷◌, ◌++◌, length, drop, sym, ap, ◌∙◌, arith, inl, inr, subst}
 use Rattle.std.specs.Prelude.{nat_le, codes, ◌&&◌}
 use Rattle.std.proofs.lemmas.Bool.{le-leb}
@@ -46,7 +46,7 @@ module _ (limits : Limits) where
   unfolding strip hold
   held-byte c phase x s e h = ap (stripped limits 3 phase) (pass-front c 0 x [] s e) ∙ h
 
-  -- where no wrapping stands
+  -- where no wrapping is
   no_pair-held : (phase : Phase) (x : ℕ) → (class x ≡ Open → ⊥) → before_pair limits phase (at_byte 0 x []) ≡ hold phase (at_byte 0 x [])
   unfolding front
   no_pair-held phase x f = ap (λ b. if_pair b phase (at_byte 0 x [])) (no-pair limits (record { at = 0; bytes = x ∷ [] }) f)
@@ -116,7 +116,7 @@ module _ (limits : Limits) where
   first-extra Word h = refl
   first-extra c h = absurd h
 
-  -- a token behind the outer pair
+  -- a token after the outer pair
   pub fed-after_pair : (start : Spot) (x : ℕ) → IsFirst (class x) → fed_from limits (Within AfterPair false start []) (x ∷ []) ≡ Failed ExtraClose start
   unfolding stripped
   fed-after_pair start x h = extra-fails AfterPair start x (first-extra (class x) h) (held-byte (class x) AfterPair x (first-stands (class x) h) refl refl)

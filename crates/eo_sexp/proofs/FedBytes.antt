@@ -1,4 +1,4 @@
--- What a byte makes of what a collector stands for.
+-- What a byte makes of what a collector represents.
 use Rattle.std.proofs.Common.{◌≡◌, refl, ℕ, false, List, [], ◌∷◌, ◌++◌, length, take, ap, ◌∙◌, arith, subst}
 use Rattle.std.specs.Prelude.{Option, Some, None, codes, bytes_eq}
 use Rattle.std.proofs.Math.Seq.{take-append_seam}
@@ -103,7 +103,7 @@ module _ (limits : Limits) where
   unfolding is_unsat
   unsat-other bytes taken s rest e h = ap (λ bs. bytes_eq bs (codes "unsat")) e ∙ h
 
-  -- ---- leaving bytes behind
+  -- ---- dropping bytes
 
   -- what was passed over may be dropped
   pub fed-ahead : (phase ahead : Phase) (start : Spot) (b : List ℕ) (x : ℕ) → strip limits phase false (record { at = 0; bytes = b ++ x ∷ [] }) ≡ held_moved (length b) (strip limits ahead false (record { at = 0; bytes = x ∷ [] })) →

@@ -1,4 +1,4 @@
--- What the end of the input makes of what a collector stands for.
+-- What the end of the input makes of what a collector represents.
 use Rattle.std.proofs.Common.{◌≡◌, refl, ℕ, ◌+◌, ◌≤◌, Bool, true, false, List, [], ◌∷◌, length, sym, ap, ◌∙◌, append-nil, subst, arith}
 use Rattle.std.specs.Prelude.{Option, Some, None, codes, bytes_eq, if◌then◌else◌}
 use Rattle.std.proofs.lemmas.List.{take_all}

@@ -26,7 +26,7 @@ use Rattle.eo_sexp.proofs.FedBytes.{fed-first, on-cut, unsat-cut}
 use Rattle.eo_sexp.proofs.MachineSteps.{first-some, drop-front, pair-off, meaning-is, begun-sound, begun-pair, takes-goes, takes-fault, takes-whole, takes-before, takes-unsat}
 use Rattle.eo_sexp.proofs.FedAnswers.{ready-within}
 
--- ---- behind the reader's turn
+-- ---- after the reader's turn
 
 module _ (old mid new : Machine) (x at : ℕ) (e : at ≡ length mid.begun.bytes) where
   pub turned-goes : Turned old turn.Goes x mid → Lengthens limits mid at x new → TakesByte old x new
@@ -134,7 +134,7 @@ module _ (old new : Machine) (rest : List ℕ) (n k : ℕ) (e : old.state ≡ st
             ∙ ap (λ m. fed_from limits m (take n rest)) (sym (meaning-is old state.Begun (phase_of old.phase) old.start old.begun e refl refl refl));
       }
 
--- ---- the byte behind a run
+-- ---- the byte after a run
 
 pub begun-within : (m : Machine) → m.state ≡ state.Begun → IsWithin (meaning m)
 begun-within m e = subst (λ q. IsWithin (meaning_at q (phase_of m.phase) m.start m.begun)) (sym e) tt

@@ -38,7 +38,7 @@ use Rattle.eo_sexp.proofs.CommandTurns.{front-append, command-goes, command-over
 use Rattle.eo_sexp.proofs.FedBytes.{begun, fed-first, on-whole, on-refused, on-cut, unsat-cut, unsat-refused, unsat-other}
 use Rattle.eo_sexp.proofs.Parentheses.{paren-byte, no-paren, pair-front}
 
--- ---- what a machine stands for
+-- ---- what a machine represents
 
 pub meaning-is : (m : Machine) (s : State) (q : Phase) (at : Spot) (b : Built) → m.state ≡ s → phase_of m.phase ≡ q → m.start ≡ at → m.begun ≡ b → meaning m ≡ meaning_at s q at b
 meaning-is m s q at b e f g h =
@@ -200,14 +200,14 @@ module _ (old : Machine) (x : ℕ) (h : IsBegun old) (p : IsPairFact old.state (
       ∙ on-refused limits (phase_of old.phase) old.start old.begun.bytes (x ∷ []) name (length old.begun.bytes) refl
       ∙ ap (Failed name) (sym l.here)
 
-  -- behind the reader's turn: what it keeps, and its buffer
+  -- after the reader's turn: what it keeps, and its buffer
   module _ (r : Reader) (v : Built) (same : v.bytes ≡ old.begun.bytes) where
     goes-cut : Turns limits (held old.begun old.reader) (length old.begun.bytes) x turn.Goes (held (with_byte v x) r) → (e : Option Sexp) × (sexp limits (front old.begun.bytes) (record { at = 0; bytes = old.begun.bytes ++ x ∷ [] }) ≡ Cut e)
     goes-cut t =
         let c = reader-cut limits (held (with_byte v x) r) (suc (length old.begun.bytes)) t.0 in
         (c.0, h.reads (x ∷ []) ∙ t.1 [] ∙ c.1)
 
-    -- the command goes on behind the byte
+    -- the command goes on after the byte
     pub takes-goes : (new : Machine) → Turns limits (held old.begun old.reader) (length old.begun.bytes) x turn.Goes (held (with_byte v x) r) → Lengthens limits (record old { reader = r; begun = v }) (length old.begun.bytes) x new → TakesByte old x new
     takes-goes new t (inl k) =
         let c = goes-cut t in
@@ -438,7 +438,7 @@ atom-first Bar a = tt
 atom-first Word a = tt
 atom-first c a = absurd a
 
--- the classes that are left end a gap behind the `(` of what may be a pair
+-- the classes that are left end a gap after the `(` of what may be a pair
 pub token-class : (k : ByteClass) (x : ℕ) → class_of k ≡ class x → (k ≡ byte.Space → ⊥) → (k ≡ byte.Comment → ⊥) → (k ≡ byte.Open → ⊥) → (k ≡ byte.Close → ⊥) → StandsStill (class x) × (is_one_of (codes "()") x ≡ false)
 token-class k x e s c o d =
     let left = go k s c o d in (
@@ -470,7 +470,7 @@ first-atom k x e f o = subst IsAtom e (go k (subst IsFirst (sym e) f) o)
     go byte.Close f o = absurd f
     go byte.Other f o = absurd f
 
--- what was begun is left behind
+-- what was begun is dropped
 pub placed-left : (old new : Machine) → IsPlaced old → new.begun ≡ nothing → new.start ≡ old.here → new.here ≡ old.here → IsPlaced new
 placed-left old new l b s h = placed-none new b (h ∙ sym s) (subst (λ (v : Spot). v.line ≤ v.offset + 1) (sym h) l.line)
 

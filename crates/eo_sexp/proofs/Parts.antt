@@ -1,4 +1,4 @@
--- The parts of the s-expressions that nodes stand for.
+-- The parts of the s-expressions that nodes represent.
 use Rattle.std.proofs.Common.{◌≡◌, refl, ℕ, zero, suc, ◌<◌, List, [], ◌∷◌, drop, length, ap, arith}
 use Rattle.eo_sexp.specs.Sexp.{Sexp, children_of}
 use Rattle.eo_sexp.specs.Sexp.{sexps_of}
@@ -9,7 +9,7 @@ pub children_of_sexps : (ss : List Sexp) → children_of (sexps_of ss) ≡ ss
 children_of_sexps [] = refl
 children_of_sexps (s ∷ ss) = ap (λ others. s ∷ others) (children_of_sexps ss)
 
--- what is behind some nodes is linked too
+-- what is after some nodes is linked too
 pub linked_behind : (bytes : List ℕ) (ns : List Node) (k : ℕ) → AreLinked bytes ns → AreLinked bytes (drop k ns)
 linked_behind bytes ns zero h = h
 linked_behind bytes [] (suc k) h = h

@@ -28,7 +28,7 @@ fed-inside phase start xs h =
     ∙ ap (state_of limits start xs) (stripped-none limits phase true (length xs))
     ∙ ap (λ bs. Within phase true (spot_after start bs) []) (take-length xs)
 
--- the place behind them
+-- the place after them
 inside-spot : (at : Spot) (xs : List ℕ) → All (λ x. is_line_end x ≡ false) xs → spot_after at xs ≡ record { line = at.line; offset = at.offset + length xs }
 inside-spot at xs h = plain-spot at xs (All-weaker (λ x. is_line_end x ≡ false) (λ x. x ≢ 10) inside-line xs h)
 

@@ -141,7 +141,7 @@ module _ (limits : Limits) where
   turn-atom (Some list) others t y ys Word h = refl
   turn-atom inner others t y ys c h = elim h [ ]
 
-  -- what stands here in a list is this child, and then others come
+  -- what is here in a list is this child, and then others come
   abbrev TurnsTo : ℕ → Sexp → Type 0
   TurnsTo deeper s = (others : Input → Reading Sexps) (from : ℕ) (tail : List ℕ) → EndsBefore tail →
       turn limits (lists limits deeper) (Some others) (record { at = from; bytes = printed s ++ tail }) (printed s ++ tail) (front (printed s ++ tail))

@@ -1,4 +1,4 @@
--- A quoted symbol that begins at the front of some bytes and closes in them, with the spaces behind it.
+-- A quoted symbol that begins at the front of some bytes and closes in them, with the spaces after it.
 use Rattle.std.proofs.Common.{◌≡◌, refl, ℕ, ◌+◌, ◌-◌, ◌≤◌, ◌<◌, true, false, List, [], ◌∷◌, ◌++◌, length, length-append, length-drop, length-take-le, take, take-add, drop, get_or, All, sym, ap, ◌∙◌, append_assoc, subst, arith}
 use Rattle.std.specs.Prelude.{if◌then◌else◌}
 use Rattle.std.specs.List.{slice_range}
@@ -29,7 +29,7 @@ bar-closes : (limits : Limits) (k x : ℕ) → x ≡ 124 → k < limits.token �
 unfolding token_turn
 bar-closes limits k x bar h = ap (λ b. if b then turns_to.Closes else turns_to.Fault TokenLong) (sym (lt-ltb k limits.token h)) ∙ ap (token_turn limits k token.Quoted) (sym bar)
 
--- the bytes do not tell which child is added
+-- the bytes do not depend on which child is added
 child-behind : (b : Built) (bytes : List ℕ) (s : Sexp) → with_child (record b { bytes = bytes }) s ≡ record (with_child b s) { bytes = bytes }
 child-behind b bytes s = go b.open_lists
   where
@@ -75,7 +75,7 @@ module _ (limits : Limits) (some : 1 ≤ limits.token) (b : Built) (r : Reader) 
             f.gap symbol_added;
       }
 
-  -- behind the bar
+  -- after the bar
   abbrev behind : Built
   behind = with_byte (with_child before symbol) (get_or rest n 0)
 

@@ -265,7 +265,7 @@ module _ (limits : Limits) where
         ended-token old t at x h p k more ∙ whole-alone (bare old) (bare new) (atom_of old t at) (record { at = at; bytes = x ∷ more }) c,
   )
 
-  -- behind the token the byte is one between two tokens
+  -- after the token the byte is one between two tokens
   pub ended-reader : (old mid : Progress) (t : Token) (to at : ℕ) → IsReader limits old at → old.position ≡ position.Token t → mid.position ≡ position.Gap → AddsChild limits (bare old) (atom_of old t to) (bare mid) false → IsReader limits mid at
   ended-reader old mid t to at h p q c =
       as-reader mid at position.Gap q (omega (arith, h.nested, c.0)) (c.2 ∙ h.none) (omega (arith, c.0, c.1))

@@ -48,7 +48,7 @@ module _ (limits : Limits) where
   pub runs-none : (b : Built) (r : Reader) (rest : List ℕ) → IsReader limits (held b r) (length b.bytes) → length b.bytes ≤ limits.command → RunsTo limits b r rest 0 0 b r
   runs-none b r rest h s = record { within = omega arith; bytes = sym (append-nil b.bytes); short = s; counted = omega arith; place = none-spot; reader = h; reads = λ more. refl }
 
-  -- a run behind a run
+  -- a run after a run
   pub runs-trans : (b c d : Built) (r s u : Reader) (rest : List ℕ) (n k i j : ℕ) → RunsTo limits b r rest n i c s → RunsTo limits c s (drop n rest) k j d u → RunsTo limits b r rest (n + k) (i + j) d u
   runs-trans b c d r s u rest n k i j h g =
       let all : take (n + k) rest ≡ take n rest ++ take k (drop n rest) = take-add n k rest in
@@ -87,7 +87,7 @@ module _ (limits : Limits) where
         reads = λ more. t.1 more ∙ ap (λ i. reading limits (held (with_byte v x) u) i more) (sym n) ∙ ap (λ w. reading limits w (length d.bytes) more) kept;
       }
 
-  -- a byte behind a run
+  -- a byte after a run
   pub runs-on : (b c v d : Built) (r s u : Reader) (rest : List ℕ) (n i at : ℕ) → RunsTo limits b r rest n i c s → n < length rest → at ≡ length c.bytes → at < limits.command → v.bytes ≡ c.bytes →
       d ≡ with_byte v (get_or rest n 0) → Turns limits (held c s) at (get_or rest n 0) turn.Goes (held (with_byte v (get_or rest n 0)) u) → RunsTo limits b r rest (n + 1) (i + line_feeds (get_or rest n 0)) d u
   runs-on b c v d r s u rest n i at h m a f same new t =

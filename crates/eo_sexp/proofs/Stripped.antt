@@ -1,4 +1,4 @@
--- What stands before a command, in two pieces.
+-- What is before a command, in two pieces.
 use Rattle.std.proofs.Common.{◌≡◌, refl, ℕ, suc, ◌+◌, Bool, true, false, List, [], ◌∷◌, drop, ap, ◌∙◌, arith, add-suc, add_assoc, not}
 use Rattle.std.specs.Prelude.{nat_le, ◌&&◌, codes}
 use Rattle.std.proofs.lemmas.Bool.{leb-true, leb-false, lt-leb, le-leb}
@@ -39,7 +39,7 @@ module _ (k : ℕ) where
   pass-moved true at (x ∷ xs) = rw add-suc at (pass-moved (not (is_line_end x)) (suc at) xs)
   pass-moved false at (x ∷ xs) = pass_byte-moved (class x) at x xs (λ b. pass-moved b (suc at) xs)
 
-  -- behind n more bytes
+  -- after n more bytes
   pass-ahead : (at n : ℕ) (bytes : List ℕ) → pass false ((k + at) + n) bytes ≡ passed_moved k (pass false (at + n) bytes)
   pass-ahead at n bytes = rw add_assoc (pass-moved false (at + n) bytes)
 

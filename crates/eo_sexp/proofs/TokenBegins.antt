@@ -15,7 +15,7 @@ use Rattle.eo_sexp.proofs.Bounds.{class-word}
 use Rattle.eo_sexp.proofs.TokenTurns.{is_one_of-one}
 use Rattle.eo_sexp.proofs.TokenEnds.{word-begins, string-begins, quoted-begins}
 
--- the test that a class stands for was met
+-- the test of a class was met
 class-quote : (x : ℕ) → class x ≡ Quote → 34 ≡ x
 unfolding class
 class-quote x e = go_space (is_space x) (is_one_of (codes ";") x) (is_one_of (codes "(") x) (is_one_of (codes ")") x) (is_one_of (codes "\"") x) refl (is_one_of (codes "|") x) (is_word x) e

@@ -1,4 +1,4 @@
--- Where a token stands in the bytes that are kept.
+-- Where a token is in the bytes that are kept.
 use Rattle.std.proofs.Common.{◌≡◌, refl, ℕ, ◌+◌, ◌≤◌, ◌<◌, Bool, true, false, List, [], ◌∷◌, ◌++◌, length, length-append, drop, sym, ap, ◌∙◌, arith}
 use Rattle.std.specs.Prelude.{codes, nat_lt, if◌then◌else◌}
 use Rattle.std.proofs.lemmas.List.{drop-append-le}
@@ -100,6 +100,6 @@ module _ (limits : Limits) where
   may_end-at r (token.Text false) at h p e = cc
   may_end-at r token.Quoted at h p e = cc
 
-  -- the delimiter stands in the bytes
+  -- the delimiter is in the bytes
   pub opening-within : (r : Progress) (t : Token) (at : ℕ) → IsReader limits r at → r.position ≡ position.Token t → r.from + length (opening t) ≤ at
   opening-within r t at h p = let s = stands-as limits r at (position.Token t) p h in omega (arith, s.1)

@@ -48,7 +48,7 @@ pub word-of : (t : Input) (text rest : List ℕ) → take_while is_word t.bytes 
 unfolding word
 word-of t text rest e f = ap (λ w. word_before t w (drop (length w) t.bytes)) e ∙ ap (word_before t text) f
 
--- a run goes on over these bytes, and ends behind them
+-- a run goes on over these bytes, and ends after them
 pub run-whole : (p : ℕ → Bool) (text : List ℕ) (x : ℕ) (more : List ℕ) → ((ys : List ℕ) → prefix_len p (text ++ ys) ≡ length text + prefix_len p ys) → p x ≡ false → take_while p (text ++ x ∷ more) ≡ text
 run-whole p text x more h e =
     let n : prefix_len p (text ++ x ∷ more) ≡ length text = h (x ∷ more) ∙ ap (λ b. length text + cond b (1 + prefix_len p more) 0) e ∙ omega arith in
@@ -212,7 +212,7 @@ module _ (limits : Limits) where
   unfolding quoted
   quoted-of bytes text rest e f = ap (λ w. bar_at (1 + length w) (drop (length w) bytes)) e ∙ ap (bar_at (1 + length text)) f
 
-  -- what the byte behind the quotable ones does
+  -- what the byte after the quotable ones does
   quoted-at : (text : List ℕ) (x : ℕ) → IsToken token.Quoted text → is_quotable x ≡ false → (b : Bool) → is_one_of (codes "|") x ≡ b → (more : List ℕ) →
       quoted (text ++ x ∷ more) ≡ (if b then Closes (suc (1 + length text)) else Stops (1 + length text))
   unfolding IsToken bar_at

@@ -1,4 +1,4 @@
--- The lines of `stripped`, for proofs that go by whether a wrapping stands there.
+-- The lines of `stripped`, for proofs that go by whether a wrapping is there.
 use Rattle.std.proofs.Common.{◌≡◌, refl, ℕ, [], ap}
 use Rattle.std.specs.Prelude.{Bool, codes, if◌then◌else◌}
 use Rattle.eo_base.specs.Limits.{Limits}
@@ -26,7 +26,7 @@ module _ (limits : Limits) where
   abbrev pub before_pair : Phase → Passed → Held
   before_pair phase p = if_pair (begins_pair limits p.rest) phase p
 
-  -- where the word `unsat` may stand
+  -- where the word `unsat` may be
   abbrev pub if_unsat : Bool → Passed → Held
   if_unsat stands p = if stands then before_pair AfterUnsat (behind 5 p.rest) else before_pair Start p
 

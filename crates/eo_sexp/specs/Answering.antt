@@ -1,4 +1,4 @@
--- What the answers of a collector tell by themselves: how many bytes are taken, which faults there are, and where a file ends.
+-- What the results of a collector say by themselves: how many bytes are taken, which faults there are, and where a file ends.
 use Rattle.std.specs.Prelude.{◌≡◌, ℕ, ◌+◌, Bool, true, false, List, length, Option, Some, None, ⊤}
 use Rattle.eo_base.specs.declared.FaultName.{FaultName}
 use Rattle.eo_base.specs.declared.FaultName.TheVariants.{BadByte, Unclosed, ExtraClose, TokenLong, CommandLong, Nesting, Width}
@@ -22,7 +22,7 @@ is_lexical name = false
 abbrev pub IsLexical : FaultName → Type 0
 IsLexical name = is_lexical name ≡ true
 
--- What a call answers: the last command is there, and a fault is one of the lexicon.
+-- What a call returns: the last command is there, and a fault is one of the lexicon.
 abbrev pub IsAnswer : Collecting → Type 0
 IsAnswer (Within phase comment start begun) = ⊤
 IsAnswer (AtCommand c phase) = ⊤
@@ -53,7 +53,7 @@ module _ (limits : Limits) where
   abbrev pub EndStays : Type 0
   EndStays = (c : Collecting) → IsWithin (finished_with limits c) → here_of (finished_with limits c) ≡ here_of c
 
-  -- a file ends behind its last byte
+  -- a file ends after its last byte
   abbrev pub EndsBehind : Type 0
   EndsBehind = (closes wrapped : Bool) (bytes : List ℕ) (at : Spot) → end_of (reads_all limits closes wrapped bytes) ≡ Some at → at ≡ spot_after first_spot bytes
 

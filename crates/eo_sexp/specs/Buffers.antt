@@ -1,4 +1,4 @@
--- What a buffer of a command that is begun stands for.
+-- What a buffer of a command that is begun represents.
 use Rattle.std.specs.Prelude.{◌≡◌, ℕ, ◌+◌, ◌^◌, ◌<◌, ◌≤◌, List, [], ◌∷◌, length, take, drop}
 use Rattle.eo_sexp.specs.Sexp.{Sexp}
 use Rattle.eo_sexp.specs.declared.lent.Node.{Node}
@@ -11,7 +11,7 @@ abbrev pub open_lists : List ℕ → List Node → List Open → List OpenList
 open_lists bytes ns [] = []
 open_lists bytes ns (o ∷ os) = record { at = o.at; children = trees bytes (drop (o.node + 1) ns) } ∷ open_lists bytes (take o.node ns) os
 
--- what stands outside of them
+-- what is outside of them
 abbrev pub outside : List ℕ → List Node → List Open → List Sexp
 outside bytes ns [] = trees bytes ns
 outside bytes ns (o ∷ os) = outside bytes (take o.node ns) os
@@ -19,7 +19,7 @@ outside bytes ns (o ∷ os) = outside bytes (take o.node ns) os
 abbrev pub built : List ℕ → List Node → List Open → Built
 built bytes ns os = record { bytes = bytes; open_lists = open_lists bytes ns os; done = outside bytes ns os }
 
--- the node of an open list, and its children behind it
+-- the node of an open list, and its children after it
 pub record IsOpen (bytes : List ℕ) (ns : List Node) (o : Open) : Type 0 where
   pub within : o.node < length ns
   pub linked : AreLinked bytes (drop (o.node + 1) ns)

@@ -13,7 +13,7 @@ pub record Built : Type 0 where
   pub bytes : List ℕ
   -- the innermost first
   pub open_lists : List OpenList
-  -- what stands outside of them
+  -- what is outside of them
   pub done : List Sexp
 
 abbrev pub nothing : Built
@@ -27,7 +27,7 @@ parts_in (f ∷ fs) = 1 + size_of_all f.children + parts_in fs
 abbrev pub parts_of : Built → ℕ
 parts_of b = parts_in b.open_lists + size_of_all b.done
 
--- behind the child s of the innermost list, or behind s where no list is open
+-- after the child s of the innermost list, or after s where no list is open
 abbrev pub behind_child : List ℕ → List OpenList → List Sexp → Sexp → Built
 behind_child bytes [] done s = record { bytes = bytes; open_lists = []; done = done ++ s ∷ [] }
 behind_child bytes (f ∷ fs) done s = record { bytes = bytes; open_lists = record { at = f.at; children = f.children ++ s ∷ [] } ∷ fs; done = done }

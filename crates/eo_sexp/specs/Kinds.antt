@@ -1,4 +1,4 @@
--- What an s-expression is, as a reader is told.
+-- What an s-expression is, as a caller is given it.
 use Rattle.eo_sexp.specs.declared.Kind.{Kind}
 use Rattle.eo_sexp.specs.declared.Kind.TheVariants as kind
 use Rattle.eo_sexp.specs.AtomKind.{AtomKind, Symbol, Keyword, Literal, String}

@@ -1,5 +1,5 @@
--- What a collector keeps, what that stands for, and the condition under which it does.
-use Rattle.std.specs.Prelude.{◌≡◌, ℕ, ◌+◌, ◌-◌, Option, Some, None, ◌≤◌, ◌<◌, Bool, false, List, [], ◌∷◌, ◌++◌, length, take, drop, ⊤, ◌⊎◌, nat_lt, ◌||◌, codes, if◌then◌else◌}
+-- What a collector keeps, what that represents, and the condition under which it does.
+use Rattle.std.specs.Prelude.{◌≡◌, ℕ, ◌+◌, ◌-◌, ◌^◌, Option, Some, None, ◌≤◌, ◌<◌, Bool, false, List, [], ◌∷◌, ◌++◌, length, take, drop, ⊤, ◌⊎◌, nat_lt, ◌||◌, codes, if◌then◌else◌}
 use Rattle.eo_base.specs.declared.FaultName.{FaultName}
 use Rattle.eo_base.specs.declared.FaultName.TheVariants.{CommandLong}
 use Rattle.eo_base.specs.Faults.{number}
@@ -39,7 +39,7 @@ meaning_at state.Command phase start b = AtCommand (record { sexp = first_of b.d
 meaning_at (state.Failed name at) phase start b = Failed name at
 meaning_at state.NoMemory phase start b = NoMemory
 
--- what it stands for
+-- what it represents
 abbrev pub meaning : Machine → Collecting
 meaning m = meaning_at m.state (phase_of m.phase) m.start m.begun
 
@@ -57,7 +57,7 @@ IsFirst Bar = Unit {0}
 IsFirst Word = Unit {0}
 IsFirst c = ⊥
 
--- the first token behind the first byte is no parenthesis
+-- the first token after the first byte is no parenthesis
 abbrev pub IsNoPair : List ℕ → Type 0
 IsNoPair bytes = (more : List ℕ) → begins_one_of (codes "()") (pass false 1 (drop 1 bytes ++ more)).rest.bytes ≡ false
 
@@ -79,6 +79,18 @@ pub record IsBegun (m : Machine) : Type 0 where
 pub record IsPlaced (m : Machine) : Type 0 where
   pub here : m.here ≡ spot_after m.start m.begun.bytes
   pub line : m.here.line ≤ m.here.offset + 1
+
+-- a byte at this place may be passed over: the numbers of the place after it are in their range
+pub record MayPass (at : Spot) : Type 0 where
+  pub line : at.line ≤ at.offset + 1
+  pub room : at.offset + 3 ≤ 2 ^ 64
+
+-- the next byte stands between two commands and in no comment, and may be passed over
+pub record IsBetween (m : Machine) : Type 0 where
+  pub between : m.state ≡ state.Between false
+  pub nothing : m.begun ≡ nothing
+  pub placed : IsPlaced m
+  pub room : m.here.offset + 3 ≤ 2 ^ 64
 
 -- the buffer has a whole command
 abbrev pub IsAnswered : Machine → Type 0
@@ -120,7 +132,7 @@ earlier_fault limits at name = if nat_lt at limits.command || nat_lt (number nam
 
 -- ---- the parts of a turn
 
--- the bytes begun are left behind; the next byte stands at `next`
+-- the bytes begun are dropped; the next byte is at `next`
 pub record Leaves (old : Machine) (comment : Bool) (next : Spot) (new : Machine) : Type 0 where
   pub state : new.state ≡ state.Between comment
   pub begun : new.begun ≡ nothing
@@ -168,7 +180,7 @@ list_state file.InPair = state.Begun
 list_state file.AfterPair = state.Begun
 list_state file.Plain = state.Begun
 
--- what is answered, where the first byte of the piece had this offset; nothing where more bytes are to come
+-- what is returned, where the first byte of the piece had this offset; nothing where more bytes are to come
 abbrev pub answer_at : State → (first here : ℕ) → Option Fed
 answer_at state.Command first here = Some (fed.Command (here - first))
 answer_at (state.Failed name at) first here = Some (fed.Fault name at)
@@ -182,20 +194,20 @@ answer_of first m = answer_at m.state first m.here.offset
 abbrev pub FeedsByte : (old : Machine) → (first x : ℕ) → Option Fed → (new : Machine) → Type 0
 FeedsByte old first x result new = (new.state ≡ state.NoMemory) × (result ≡ Some fed.Memory) ⊎ TakesByte old x new × (result ≡ answer_of first new)
 
--- so many bytes of `rest` are taken, and nothing is answered
+-- so many bytes of `rest` are taken, and nothing is returned
 pub record GoesOver (old : Machine) (first : ℕ) (rest : List ℕ) (n : ℕ) (new : Machine) : Type 0 where
   pub within : n ≤ length rest
   pub takes : TakesBytes old (take n rest) new
   pub answer : answer_of first new ≡ None
 
--- a byte of `rest` is answered
+-- a byte of `rest` gives a result
 pub record StopsIn (old : Machine) (first : ℕ) (rest : List ℕ) (f : Fed) (new : Machine) : Type 0 where
   pub taken : ℕ
   pub within : taken ≤ length rest
   pub takes : TakesBytes old (take taken rest) new
   pub answer : answer_of first new ≡ Some f
 
--- what the end of the input answers
+-- the result of the end of the input
 pub record Finishing (limits : Limits) (old : Machine) (result : Finished) (new : Machine) : Type 0 where
   pub sound : IsSound new
   pub meant : meaning new ≡ finished_from limits (meaning old)

@@ -1,4 +1,4 @@
--- The s-expressions that a flat list of nodes stands for.
+-- The s-expressions that a flat list of nodes represents.
 use Rattle.std.specs.Prelude.{◌≡◌, ℕ, ◌+◌, ◌-◌, ◌^◌, ◌<◌, ◌≤◌, Bool, true, false, List, [], ◌∷◌, length, take, drop}
 use Rattle.std.specs.List.{slice_range}
 use Rattle.eo_sexp.specs.Sexp.{Sexp, Atom, Listed, NoSexp}
@@ -44,13 +44,13 @@ abbrev pub HasText : List ℕ → (delimited : Bool) → (from to : ℕ) → Typ
 HasText bytes true from to = (from + 2 ≤ to) × (to ≤ length bytes + 1)
 HasText bytes false from to = (from ≤ to) × (to ≤ length bytes)
 
--- behind the nodes inside of a list stand those behind it
+-- the nodes inside of a list are followed by those after it
 pub record Holds (bytes : List ℕ) (children inside : ℕ) (ns : List Node) : Type 0 where
   pub inner : inside ≤ length ns
   pub many : children ≤ length (trees bytes ns)
   pub behind : trees bytes (drop inside ns) ≡ drop children (trees bytes ns)
 
--- a node fits those behind it
+-- a node fits those after it
 abbrev pub Fits : List ℕ → Node → List Node → Type 0
 Fits bytes (node.Atom k delimited from to) ns = HasText bytes delimited from to × Delimits (kind_meant k) delimited
 Fits bytes (node.List children inside from to) ns = Holds bytes (count_of children) inside ns

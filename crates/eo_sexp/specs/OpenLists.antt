@@ -15,7 +15,7 @@ unfoldable pub attach : List Sexp → Sexps → Sexps
 attach [] ss = ss
 attach (s ∷ done) ss = Next s (attach done ss)
 
--- the list is closed behind its other children
+-- the list is closed after its other children
 unfoldable pub closes : Frame → Sexps → Input → Reading Sexp
 closes f others rest = Whole (Listed (attach f.done others) (record { from = f.at; to = rest.at })) rest
 
@@ -28,10 +28,10 @@ module _ (limits : Limits) where
   after_list deeper [] s rest = Whole s rest
   after_list deeper (g ∷ frames) s rest = (children limits (lists limits (suc deeper)) g.more rest >>= closes (with_child g s)) >>= after_list (suc deeper) frames
 
-  -- the reading of the command from t on, where t stands in the list f inside of these
+  -- the reading of the command from t on, where t is in the list f inside of these
   unfoldable pub resume : (deeper : ℕ) → Frame → List Frame → Input → Reading Sexp
   resume deeper f frames t = (children limits (lists limits deeper) f.more t >>= closes f) >>= after_list deeper frames
 
-  -- the same where t may stand inside a comment
+  -- the same where t may be inside a comment
   unfoldable pub resume_in : (deeper : ℕ) → Frame → List Frame → (comment : Bool) → ℕ → List ℕ → Reading Sexp
   resume_in deeper f frames comment at bytes = resume deeper f frames (pass comment at bytes).rest

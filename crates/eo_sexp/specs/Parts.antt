@@ -14,6 +14,6 @@ abbrev mutual
   AreParts bytes NoSexp = Unit {0}
   AreParts bytes (Next s ss) = IsPart bytes s × AreParts bytes ss
 
--- the same of the command that was answered last
+-- the same of the command that was returned last
 abbrev pub HoldsParts : Collecting → Type 0
 HoldsParts now = (s : Sexp) → Holds now s → IsPart (bytes_of now) s

@@ -1,10 +1,11 @@
 -- What a reader of a command that is begun keeps, and what its turns do.
-use Rattle.std.specs.Prelude.{◌≡◌, ℕ, suc, ◌+◌, ◌-◌, ◌<◌, ◌≤◌, Bool, true, false, nat_le, List, [], ◌∷◌, ◌++◌, length, map, take, drop, get_or, All, Some, None}
+use Rattle.std.specs.Prelude.{◌≡◌, ℕ, suc, ◌+◌, ◌-◌, ◌^◌, ◌<◌, ◌≤◌, Bool, true, false, nat_le, List, [], ◌∷◌, ◌++◌, length, map, take, drop, get_or, All, Some, None}
 use Rattle.eo_base.specs.Limits.{Limits}
 use Rattle.eo_sexp.specs.declared.reader.Position.{Position}
 use Rattle.eo_sexp.specs.declared.reader.Position.TheVariants as position
 use Rattle.eo_sexp.specs.declared.reader.Reader.{Reader}
 use Rattle.eo_sexp.specs.declared.reader.ReaderTurn.{ReaderTurn}
+use Rattle.eo_sexp.specs.declared.reader.Run.{Run}
 use Rattle.eo_sexp.specs.declared.reader.ReaderTurn.TheVariants as turn
 use Rattle.eo_sexp.specs.Sexp.{Sexp, Atom}
 use Rattle.eo_sexp.specs.Sizes.{size}
@@ -80,12 +81,12 @@ module _ (limits : Limits) where
   unfoldable pub outer : OpenList → nest.Frame
   outer f = record { at = f.at; done = f.children; more = limits.width - length f.children - 1 }
 
-  -- the reading of a command from t on, where t stands between two tokens inside these lists, the innermost first
+  -- the reading of a command from t on, where t is between two tokens inside these lists, the innermost first
   unfoldable pub gap_reading : List OpenList → Input → Reading Sexp
   gap_reading [] t = Cut None
   gap_reading (f ∷ fs) t = nest.resume limits (limits.nesting - suc (length fs)) (inner f) (map outer fs) t
 
-  -- the same behind the child s of the innermost list, or behind s where no list is open
+  -- the same after the child s of the innermost list, or after s where no list is open
   unfoldable pub child_reading : List OpenList → Sexp → Input → Reading Sexp
   child_reading [] s rest = Whole s rest
   child_reading (f ∷ fs) s rest = nest.resume limits (limits.nesting - suc (length fs)) (nest.with_child (outer f) s) (map outer fs) rest
@@ -122,6 +123,17 @@ module _ (limits : Limits) where
     pub none : r.done ≡ []
     pub own : HasBytes (parts_in r.frames) r.position r.from at
 
+  -- so many bytes of the command are taken, those of the buffer
+  pub record IsBegunAt (b : Built) (r : Reader) (at : ℕ) : Type 0 where
+    pub reader : IsReader (held b r) at
+    pub bytes : length b.bytes ≡ at
+
+  -- `rest` comes next, which is not empty, and the buffer has room for it
+  pub record IsReading (b : Built) (r : Reader) (rest : List ℕ) : Type 0 where
+    pub reader : IsReader (held b r) (length b.bytes)
+    pub room : length b.bytes + length rest ≤ 2 ^ 24
+    pub some : 0 < length rest
+
   -- The child s is added to the innermost list, or is the whole command.
   abbrev pub AddsChild : (old : Built) → Sexp → (new : Built) → (whole : Bool) → Type 0
   AddsChild old s new true = (old.open_lists ≡ []) × (new.open_lists ≡ []) × (new.done ≡ old.done ++ s ∷ [])
@@ -152,7 +164,7 @@ module _ (limits : Limits) where
   Turns old at x turn.Whole new = (s : Sexp) × (new.done ≡ s ∷ []) × (new.frames ≡ []) × ((more : List ℕ) → reading old at (x ∷ more) ≡ Whole s (record { at = suc at; bytes = more }))
   Turns old at x (turn.Fault name) new = (more : List ℕ) → reading old at (x ∷ more) ≡ Refused name at
 
-  -- the input ends behind the bytes so far
+  -- the input ends after the bytes so far
   abbrev pub Ends : (old : Progress) → (to : ℕ) → (new : Built) → (whole : Bool) → Type 0
   Ends old to new true = (s : Sexp) × IsWhole new s × (reading old to [] ≡ Cut (Some s))
   Ends old to new false = reading old to [] ≡ Cut None
@@ -178,7 +190,7 @@ module _ (limits : Limits) where
     pub short : n ≤ limits.token
     pub fits : length b.bytes + n < limits.command
 
-  -- So many bytes of `rest` are taken behind those of the buffer b, with so many line feeds. None of them decides.
+  -- So many bytes of `rest` are taken after those of the buffer b, with so many line feeds. None of them decides.
   pub record RunsTo (b : Built) (r : Reader) (rest : List ℕ) (n lines : ℕ) (c : Built) (s : Reader) : Type 0 where
     pub within : n ≤ length rest
     pub bytes : c.bytes ≡ b.bytes ++ take n rest
@@ -188,7 +200,7 @@ module _ (limits : Limits) where
     pub reader : IsReader (held c s) (length c.bytes)
     pub reads : (more : List ℕ) → reading (held b r) (length b.bytes) (take n rest ++ more) ≡ reading (held c s) (length c.bytes) more
 
-  -- Behind such a run the byte with the number n decides.
+  -- After such a run the byte with the number n decides.
   pub record StopsAt (b : Built) (r : Reader) (rest : List ℕ) (n lines : ℕ) (t : ReaderTurn) (c : Built) (s : Reader) : Type 0 where
     pub buffer : Built
     pub reader : Reader
@@ -197,7 +209,12 @@ module _ (limits : Limits) where
     pub bytes : c.bytes ≡ buffer.bytes
     pub turns : Turns (held buffer reader) (length buffer.bytes) (get_or rest n 0) t (held (with_byte c (get_or rest n 0)) s)
 
-  -- the same, where `Goes` tells that no byte decides
+  -- the same, where `Goes` says that no byte decides
   abbrev pub Runs : (b : Built) (r : Reader) (rest : List ℕ) (n lines : ℕ) → ReaderTurn → (c : Built) (s : Reader) → Type 0
   Runs b r rest n lines turn.Goes c s = RunsTo b r rest n lines c s
   Runs b r rest n lines t c s = StopsAt b r rest n lines t c s
+
+  -- the same of one step, which takes a byte where none decides
+  pub record Steps (b : Built) (r : Reader) (rest : List ℕ) (k : Run) (c : Built) (s : Reader) : Type 0 where
+    pub moves : k.turn ≡ turn.Goes → 0 < k.taken
+    pub runs : Runs b r rest k.taken k.lines k.turn c s

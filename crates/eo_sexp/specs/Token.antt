@@ -46,7 +46,7 @@ opening token.Word = []
 opening (token.Text closed) = codes "\""
 opening token.Quoted = codes "|"
 
--- The bytes behind the delimiter begin the token, which goes on so.
+-- The bytes after the delimiter begin the token, which goes on so.
 unfoldable pub IsToken : Token → List ℕ → Type 0
 IsToken token.Word text = (more : List ℕ) → prefix_len is_word (text ++ more) ≡ length text + prefix_len is_word more
 IsToken (token.Text closed) text = (more : List ℕ) → string false 1 (text ++ more) ≡ string closed (suc (length text)) more
@@ -93,7 +93,7 @@ module _ (limits : Limits) (size : ℕ) where
   abbrev pub close : TokenTurn
   close = if nat_lt size limits.token then Closes else Fault TokenLong
 
-  -- what the byte x does behind so many bytes of a token
+  -- what the byte x does after so many bytes of a token
   unfoldable pub token_turn : Token → ℕ → TokenTurn
   token_turn token.Word x = if is_word x then go_on token.Word else Ends
   token_turn (token.Text true) x = if is_one_of (codes "\"") x then go_on (token.Text false) else Ends

@@ -67,7 +67,7 @@ impl Buffer {
         })
     }
 
-    /// Leaves everything behind, and keeps the room.
+    /// Drops everything, and keeps the room.
     pub(crate) fn clear(&mut self)
         ensures { self.new ≡ nothing }
     {

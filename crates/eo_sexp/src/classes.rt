@@ -42,7 +42,7 @@ pub(crate) fn is_line_end(x: u8) -> bool
     x == b'\n' || x == b'\r'
 }
 
-// Whether the byte may stand in a string literal.
+// Whether the byte may be in a string literal.
 #[tactic(auto, unfolding(crate::specs::Lexicon::is_text, crate::specs::Lexicon::is_space))]
 pub(crate) fn is_text(x: u8) -> bool
     ensures { result ≡ is_text x }
@@ -50,7 +50,7 @@ pub(crate) fn is_text(x: u8) -> bool
     matches!(x, b'\t' | b'\n' | b'\r' | 32..=126 | 128..=255)
 }
 
-// Whether the byte may stand between the bars of a quoted symbol.
+// Whether the byte may be between the bars of a quoted symbol.
 #[tactic(auto, unfolding(crate::specs::Lexicon::is_quotable))]
 pub(crate) fn is_quotable(x: u8) -> bool
     ensures { result ≡ is_quotable x }
@@ -58,7 +58,7 @@ pub(crate) fn is_quotable(x: u8) -> bool
     is_text(x) && x != b'|' && x != b'\\'
 }
 
-// `1` stands at the place of a byte that may stand in a word.
+// `1` is at the place of each byte that may be in a word.
 pub(crate) static WORD: [u8; 256] = *b"\
     ................................\
     .1.1111...11.11111111111111.1111\
@@ -69,7 +69,7 @@ pub(crate) static WORD: [u8; 256] = *b"\
     ................................\
     ................................";
 
-// Whether the byte may stand in a word.
+// Whether the byte may be in a word.
 #[inline(always)]
 pub(crate) fn is_word(x: u8) -> bool
     ensures { result ≡ is_word x }

@@ -11,7 +11,7 @@ ghost use Rattle.eo_sexp.specs.Collecting.{Finishes, IsLive, start_of, here_of, 
 ghost use Rattle.eo_sexp.specs.Collecting.{IsWithin, Holds, bytes_of, ready, finish_answer};
 ghost use Rattle.eo_sexp.specs.Parts.{HoldsParts};
 ghost use Rattle.eo_sexp.specs.Built.{nothing};
-ghost use Rattle.eo_sexp.specs.Machine.{phase_of, meaning, IsSound, IsBegun, IsPairFact, IsPlaced};
+ghost use Rattle.eo_sexp.specs.Machine.{phase_of, meaning, IsSound, IsBegun, IsPairFact, IsPlaced, IsBetween, MayPass};
 ghost use Rattle.eo_sexp.specs.Machine.{IsFirst, TakesByte, Leaves, Keeps, Completes, Lengthens};
 ghost use Rattle.eo_sexp.specs.Machine.{ClosesCommand, earlier_fault, list_state, answer_of};
 ghost use Rattle.eo_sexp.specs.Machine.{FeedsByte, TakesBytes, Turned, GoesOver, StopsIn};
@@ -30,32 +30,32 @@ use eo_base::limits::COMMAND;
 use std::alloc::{AllocError, Global};
 use std::marker::Model;
 
-/// Where a file stands between two commands.
+/// Which part of a file comes next, between two commands.
 #[derive(Clone, Copy, PartialEq, Eq)]
 enum Phase {
     /// A proof, at its start.
     Start,
-    /// A proof, behind its word `unsat`.
+    /// A proof, after its word `unsat`.
     AfterUnsat,
     /// A proof, inside the outer pair.
     InPair,
-    /// A proof, behind the outer pair.
+    /// A proof, after the outer pair.
     AfterPair,
-    /// Any other file, and a proof whose first command stands in no outer pair.
+    /// Any other file, and a proof whose first command is in no outer pair.
     Plain,
 }
 
-/// What was answered last, or what is begun.
+/// What was returned last, or what is begun.
 #[derive(Drop)]
 enum State {
     /// Nothing is begun.
     Between { comment: bool },
     /// A command is begun.
     Begun,
-    /// The same, and it may still be a proof's outer pair: of it a `(`, white space and comments
+    /// The same, and it may still be a proof's outer pair: only its `(`, white space and comments
     /// have come.
     Pair { comment: bool },
-    /// A command is answered, which is in the buffer.
+    /// A command was returned, which is in the buffer.
     Command,
     Failed { name: FaultName, at: Spot },
     NoMemory,
@@ -66,16 +66,16 @@ enum State {
 struct Machine {
     phase: Phase,
     state: State,
-    // the first byte of the command begun or answered last, or else the next byte
+    // the first byte of the command begun or returned last, or else the next byte
     start: Spot,
     // the next byte
     here: Spot,
-    // the bytes of the command begun or answered last
+    // the bytes of the command begun or returned last
     begun: Buffer,
     reader: Reader,
 }
 
-// The phase behind a command.
+// The phase after a command.
 #[tactic(auto, unfolding(crate::specs::Texts::after))]
 fn after(phase: Phase) -> Phase
     ensures { phase_of result ≡ phase_after (phase_of phase) }
@@ -86,11 +86,10 @@ fn after(phase: Phase) -> Phase
     }
 }
 
-// The place of the byte behind the byte x at this place.
+// The place of the byte after the byte x at this place.
 #[tactic(auto, unfolding(crate::specs::Texts::next_spot))]
 fn next_spot(at: Spot, x: u8) -> Spot
-    requires line { at.line ≤ at.offset + 1 }
-    requires room { at.offset + 3 ≤ 2 ^ 64 }
+    requires { MayPass at }
     ensures { result ≡ next_spot at x }
 {
     Spot {
@@ -99,7 +98,7 @@ fn next_spot(at: Spot, x: u8) -> Spot
     }
 }
 
-// The place behind so many bytes more, with so many line feeds.
+// The place after so many more bytes, with so many line feeds.
 fn further(at: Spot, bytes: usize, lines: usize) -> Spot
     requires line { at.line ≤ at.offset + 1 }
     requires few { lines ≤ bytes }
@@ -150,7 +149,7 @@ impl Machine {
         })
     }
 
-    // Leaves the bytes begun, or those of a command, behind.
+    // Drops the bytes begun, or those of a command.
     fn leave(&mut self, comment: bool)
         ensures { Leaves self.old comment self.old.here self.new }
     {
@@ -161,8 +160,7 @@ impl Machine {
 
     // Passes over the byte x.
     fn pass(&mut self, comment: bool, x: u8)
-        requires line { self.old.here.line ≤ self.old.here.offset + 1 }
-        requires room { self.old.here.offset + 3 ≤ 2 ^ 64 }
+        requires at { MayPass self.old.here }
         requires nothing { self.old.begun ≡ nothing }
         ensures { Leaves self.old comment (next_spot self.old.here x) self.new }
     {
@@ -173,8 +171,7 @@ impl Machine {
 
     // Keeps the byte x of the command begun.
     fn keep(&mut self, x: u8) -> Result<(), AllocError>
-        requires line { self.old.here.line ≤ self.old.here.offset + 1 }
-        requires room { self.old.here.offset + 3 ≤ 2 ^ 64 }
+        requires { MayPass self.old.here }
         ensures { OnOk result (Keeps self.old x self.new) }
     {
         self.begun.push(x)?;
@@ -200,7 +197,7 @@ impl Machine {
         self.state = State::Command;
     }
 
-    // Takes the byte x, or answers before it.
+    // Takes the byte x, or returns before it.
     fn turn(&mut self, x: u8) -> Result<(), AllocError>
         requires sound { IsSound self.old }
         requires room { self.old.here.offset + 3 ≤ 2 ^ 64 }
@@ -223,10 +220,7 @@ impl Machine {
 
     // The byte x between two commands.
     fn turn_between(&mut self, x: u8) -> Result<(), AllocError>
-        requires between { self.old.state ≡ State.Between false }
-        requires nothing { self.old.begun ≡ nothing }
-        requires placed { IsPlaced self.old }
-        requires room { self.old.here.offset + 3 ≤ 2 ^ 64 }
+        requires { IsBetween self.old }
         ensures { OnOk result (TakesByte self.old x self.new) }
     {
         match classify(x) {
@@ -241,11 +235,8 @@ impl Machine {
 
     // A `)` between two commands.
     fn turn_close(&mut self, x: u8)
-        requires between { self.old.state ≡ State.Between false }
-        requires nothing { self.old.begun ≡ nothing }
-        requires placed { IsPlaced self.old }
+        requires between { IsBetween self.old }
         requires class { class x ≡ Close }
-        requires room { self.old.here.offset + 3 ≤ 2 ^ 64 }
         ensures { TakesByte self.old x self.new }
     {
         match self.phase {
@@ -259,12 +250,9 @@ impl Machine {
 
     // Begins a command with its first byte.
     fn begin(&mut self, c: Class, x: u8) -> Result<(), AllocError>
-        requires between { self.old.state ≡ State.Between false }
-        requires nothing { self.old.begun ≡ nothing }
-        requires placed { IsPlaced self.old }
+        requires between { IsBetween self.old }
         requires class { class_of c ≡ class x }
         requires first { IsFirst (class x) }
-        requires room { self.old.here.offset + 3 ≤ 2 ^ 64 }
         ensures { OnOk result (TakesByte self.old x self.new) }
     {
         match self.phase {
@@ -281,12 +269,9 @@ impl Machine {
 
     // Begins a list with its `(`.
     fn begin_list(&mut self, x: u8) -> Result<(), AllocError>
-        requires between { self.old.state ≡ State.Between false }
-        requires nothing { self.old.begun ≡ nothing }
-        requires placed { IsPlaced self.old }
+        requires between { IsBetween self.old }
         requires inside { phase_of self.old.phase ≢ AfterPair }
         requires class { class x ≡ Open }
-        requires room { self.old.here.offset + 3 ≤ 2 ^ 64 }
         ensures { OnOk result (TakesByte self.old x self.new) }
     {
         self.reader.begin_list(&mut self.begun)?;
@@ -297,13 +282,10 @@ impl Machine {
 
     // Begins an atom with its first byte.
     fn begin_atom(&mut self, c: Class, x: u8) -> Result<(), AllocError>
-        requires between { self.old.state ≡ State.Between false }
-        requires nothing { self.old.begun ≡ nothing }
-        requires placed { IsPlaced self.old }
+        requires between { IsBetween self.old }
         requires inside { phase_of self.old.phase ≢ AfterPair }
         requires class { class_of c ≡ class x }
         requires atom { IsAtom (class x) }
-        requires room { self.old.here.offset + 3 ≤ 2 ^ 64 }
         ensures { OnOk result (TakesByte self.old x self.new) }
     {
         self.reader.begin_atom(c, x);
@@ -312,7 +294,7 @@ impl Machine {
         Ok(())
     }
 
-    // The byte x behind a `(` that may be the outer pair.
+    // The byte x after a `(` that may be the outer pair.
     fn turn_pair(&mut self, comment: bool, x: u8) -> Result<(), AllocError>
         requires pair { self.old.state ≡ State.Pair comment }
         requires sound { IsSound self.old }
@@ -358,8 +340,7 @@ impl Machine {
 
     // Does what the reader's turn at the byte x says.
     fn decide(&mut self, turn: ReaderTurn, x: u8) -> Result<(), AllocError>
-        requires line { self.old.here.line ≤ self.old.here.offset + 1 }
-        requires room { self.old.here.offset + 3 ≤ 2 ^ 64 }
+        requires { MayPass self.old.here }
         ensures { OnOk result ((old : Machine) → Turned old turn x self.old → TakesByte old x self.new) }
     {
         let at = self.begun.bytes().len();
@@ -383,7 +364,7 @@ impl Machine {
     }
 
     // Passes over the bytes at the front of `rest` that stay inside of a comment between two
-    // commands, and tells how many.
+    // commands, and returns how many.
     #[inline(never)]
     fn run_comment(&mut self, rest: &[u8]) -> usize
         requires between { self.old.state ≡ State.Between true }
@@ -400,7 +381,7 @@ impl Machine {
         run
     }
 
-    // Takes bytes at the front of `rest`, up to one that decides, and tells how many.
+    // Takes bytes at the front of `rest`, up to one that decides, and returns how many.
     fn run(&mut self, rest: &[u8]) -> Result<usize, AllocError>
         requires begun { self.old.state ≡ State.Begun }
         requires sound { IsSound self.old }
@@ -427,10 +408,9 @@ impl Machine {
         self.phase == Phase::Start && self.begun.bytes() == b"unsat".as_slice()
     }
 
-    // The command goes on behind the byte x.
+    // The command goes on after the byte x.
     fn lengthen(&mut self, at: usize, x: u8) -> Result<(), AllocError>
-        requires line { self.old.here.line ≤ self.old.here.offset + 1 }
-        requires room { self.old.here.offset + 3 ≤ 2 ^ 64 }
+        requires { MayPass self.old.here }
         ensures { OnOk result (Lengthens limits self.old at x self.new) }
     {
         if at >= COMMAND {
@@ -442,8 +422,7 @@ impl Machine {
 
     // The byte x makes the command whole.
     fn close(&mut self, at: usize, x: u8) -> Result<(), AllocError>
-        requires line { self.old.here.line ≤ self.old.here.offset + 1 }
-        requires room { self.old.here.offset + 3 ≤ 2 ^ 64 }
+        requires { MayPass self.old.here }
         ensures { OnOk result (ClosesCommand limits self.old at x self.new) }
     {
         if at >= COMMAND {
@@ -455,7 +434,7 @@ impl Machine {
         Ok(())
     }
 
-    // Goes on behind a command.
+    // Goes on after a command.
     fn go_on(&mut self)
         requires { IsSound self.old }
         ensures sound { IsSound self.new }
@@ -474,7 +453,7 @@ impl Machine {
         self.here.offset
     }
 
-    // The answer of the last turn, where the first byte of the piece had this offset.
+    // The result of the last turn, where the first byte of the piece had this offset.
     fn answer(&self, first: u64) -> Option<Fed>
         ensures { result ≡ answer_of first self.now }
     {
@@ -504,7 +483,7 @@ impl Machine {
     }
 
     // Feeds bytes at the front of the rest of a piece whose first byte had this offset, where a
-    // command or a comment is begun, and tells how many, or else what one of them answers.
+    // command or a comment is begun, and returns how many, or else the result at one of them.
     fn feed_run(&mut self, first: u64, rest: &[u8]) -> Result<usize, Fed>
         requires sound { IsSound self.old }
         requires within { IsWithin (meaning self.old) }
@@ -597,8 +576,8 @@ impl Machine {
         self.finish_open()
     }
 
-    // What the end answers where nothing is open.
-    fn finished(&self) -> Finished
+    // The result of the end where nothing is open.
+    fn end_answer(&self) -> Finished
         ensures { result ≡ finish_answer (meaning self.now) }
     {
         match self.state {
@@ -618,7 +597,7 @@ impl Machine {
         match self.state {
             State::Between { .. } => self.finish_between(),
             State::Begun | State::Pair { .. } => self.finish_begun(),
-            _ => self.finished(),
+            _ => self.end_answer(),
         }
     }
 
@@ -645,7 +624,7 @@ impl Machine {
         self.begun.parts_law();
     }
 
-    // The place of the command begun or answered last, or of the fault.
+    // The place of the command begun or returned last, or of the fault.
     fn start(&self) -> Spot
         ensures { IsLive (meaning self.now) → result ≡ start_of (meaning self.now) }
     {
@@ -690,8 +669,8 @@ impl Model for Collector {
 }
 
 impl Collector {
-    /// A collector at the start of a file. `wrapped` tells whether the file may have the wrappings
-    /// of a proof: the word `unsat` at its start, and an outer pair of parentheses. `Err` is want of
+    /// A collector at the start of a file. `wrapped` says whether the file may have the wrappings
+    /// of a proof: the word `unsat` at its start, and an outer pair of parentheses. `Err` is out of
     /// memory.
     pub fn new(alloc: Global, wrapped: bool) -> Result<Collector, AllocError>
         ensures { IfOk result (λ c. c ≡ new_collector wrapped) }
@@ -701,8 +680,8 @@ impl Collector {
         })
     }
 
-    /// Feeds a piece of the file, behind those fed before. After a fault or when out of memory every
-    /// call answers the same.
+    /// Feeds the next piece of the file. After a fault or when out of memory every call returns the
+    /// same.
     pub fn feed(&mut self, piece: &[u8]) -> Fed
         requires { HasRoom self.old piece.now }
         ensures { Feeds limits self.old piece.now result self.new }
@@ -710,8 +689,8 @@ impl Collector {
         self.machine.feed(piece)
     }
 
-    /// Tells that the file ends behind the pieces fed. It takes no memory. Behind a command that
-    /// the end made whole it is called again.
+    /// Ends the file after the pieces fed. It takes no memory. After a command that the end made
+    /// whole it is called again.
     pub fn finish(&mut self) -> Finished
         requires { HasMemory self.old }
         ensures { Finishes limits self.old result self.new }
@@ -719,7 +698,7 @@ impl Collector {
         self.machine.finish()
     }
 
-    /// The command that was answered last. It takes no memory.
+    /// The command that was returned last. It takes no memory.
     pub fn command(&self) -> Sexp<'_>
         requires { IsAtCommand self.now }
         ensures { Holds self.now result }
@@ -727,7 +706,7 @@ impl Collector {
         self.machine.command()
     }
 
-    /// The bytes of the command that was answered last. It takes no memory.
+    /// The bytes of the command that was returned last. It takes no memory.
     pub fn bytes(&self) -> &[u8]
         requires { IsAtCommand self.now }
         ensures { result.now ≡ bytes_of self.now }
@@ -744,7 +723,7 @@ impl Collector {
         self.machine.parts_law();
     }
 
-    /// The place of the first byte of the command begun or answered last, else of the next byte.
+    /// The place of the first byte of the command begun or returned last, else of the next byte.
     /// After a fault or when out of memory it says nothing.
     pub fn start(&self) -> Spot
         ensures { IsLive self.now → result ≡ start_of self.now }

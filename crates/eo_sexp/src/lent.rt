@@ -11,15 +11,15 @@ use crate::count::Count;
 use crate::token::AtomKind;
 use std::marker::Model;
 
-/// A part of a command. The parts stand in the order of their first bytes, so a list stands right
-/// before its children, and each of these before what lies inside of it.
+/// A part of a command. The parts are in the order of their first bytes, so a list is right
+/// before its children, and each of these before what is inside of it.
 ///
 /// A command has up to one node for each of its bytes, and the time to read a large one is that of
 /// touching their memory. So a node has numbers of 24 and 32 bits, which a command's bytes are below,
 /// and takes 16 bytes.
 #[derive(Clone, Copy, Debug)]
 pub(crate) enum Node {
-    /// A token from one byte up to but without another. `delimited` tells whether it has a bar or a
+    /// A token from one byte up to another, that one excluded. `delimited` says whether it has a bar or a
     /// quote at each end, which are no part of its text.
     Atom {
         kind: AtomKind,
@@ -67,7 +67,7 @@ impl<'b> Model for Sexp<'b> {
     ghost invariant = { λ a. IsSexp a.parts.now a.at };
 }
 
-/// The parts of a list, in order. They take 16 bytes, however many they are.
+/// The parts of a list, in order. The value takes 16 bytes, however many they are.
 #[derive(Debug, Drop)]
 pub struct Children<'b> {
     parts: &'b Parts,
@@ -110,7 +110,7 @@ fn node_at(parts: &Parts, at: u32) -> Node
     parts.nodes[at as usize]
 }
 
-// The place behind the s-expression at this one.
+// The place after the s-expression at this place.
 fn behind(parts: &Parts, at: u32) -> u32
     requires { IsSexp parts.now at }
     ensures trees { trees_at parts.now result ≡ drop 1 (trees_at parts.now at) }
@@ -128,7 +128,7 @@ impl<'b> Sexp<'b> {
         ensures { result ≡ sexp_kind self.now }
     {
         match node_at(self.parts, self.at) {
-            Node::Atom { kind, .. } => kind.told(),
+            Node::Atom { kind, .. } => kind.kind_of_atom(),
             Node::List { .. } => Kind::List,
         }
     }
@@ -150,7 +150,7 @@ impl<'b> Sexp<'b> {
         }
     }
 
-    /// How many bytes of the command stand before its first byte, and before the byte behind its
+    /// How many bytes of the command are before its first byte, and before the byte after its
     /// last.
     pub fn span(&self) -> (usize, usize)
         ensures { result ≡ pair_of_span (sexp_span self.now) }

@@ -52,7 +52,7 @@ impl Model for Spot {
     ghost inverse = { λ s. record { line = s.line; offset = s.offset } };
 }
 
-/// What feeding a piece gave.
+/// What feeding a piece returns.
 #[derive(Clone, Copy, Debug, PartialEq, Eq)]
 pub enum Fed {
     /// The whole piece is taken.
@@ -63,7 +63,7 @@ pub enum Fed {
     Memory,
 }
 
-/// What the end of the input gave.
+/// What the end of the input returns.
 #[derive(Clone, Copy, Debug, PartialEq, Eq)]
 pub enum Finished {
     End,
@@ -77,7 +77,7 @@ pub fn pieces_law()
     ensures { ReadsInPieces limits }
 {}
 
-/// A law: what the answers of a collector tell by themselves.
+/// A law: what the results of a collector say by themselves.
 pub fn answers_law()
     ensures { AnswersAlone limits }
 {}

@@ -6,7 +6,7 @@ ghost use Rattle.eo_sexp.specs.Token.{is_plain};
 use crate::classes::WORD;
 use crate::token::Token;
 
-// In each table `1` stands at the place of a byte that leaves the token as it is and is no line feed.
+// In each table `1` is at the place of each byte that leaves the token as it is and is no line feed.
 static TEXT: [u8; 256] = *b"\
     .........1...1..................\
     11.11111111111111111111111111111\
@@ -27,7 +27,7 @@ static QUOTED: [u8; 256] = *b"\
     11111111111111111111111111111111\
     11111111111111111111111111111111";
 
-// `1` stands at the place of a byte that ends no comment.
+// `1` is at the place of each byte that ends no comment.
 static COMMENT: [u8; 256] = *b"\
     1111111111.11.111111111111111111\
     11111111111111111111111111111111\

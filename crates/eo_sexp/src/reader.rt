@@ -1,6 +1,6 @@
 //! The command begun, a byte at a time.
 ghost use Rattle.std.specs.Prelude.{◌≡◌, ℕ, ◌+◌, ◌<◌, ◌≤◌, ◌^◌, [], length, get_or, IfOk};
-ghost use Rattle.std.specs.Prelude.{IsTrue, OnOk, suc, true, false, if◌then◌else◌, ◌==◌};
+ghost use Rattle.std.specs.Prelude.{IsTrue, OnOk, true, false, if◌then◌else◌, ◌==◌};
 ghost use Rattle.eo_base.specs.Limits.{limits};
 ghost use Rattle.eo_sexp.specs.Nodes.{token_atom, Delimits, HasText};
 ghost use Rattle.eo_sexp.specs.Built.{Built, nothing, with_byte, with_child, parts_of};
@@ -8,7 +8,7 @@ ghost use Rattle.eo_sexp.specs.Token.{class_of, atom_kind, is_plain, kind_meant}
 ghost use Rattle.eo_sexp.specs.Reader.{held, IsAtom, AddsChild, ClosesList, is_full, IsReader};
 ghost use Rattle.eo_sexp.specs.Reader.{Turns, Begins, BeginsToken, Ends, EndsAt, atom_of, text_at};
 ghost use Rattle.eo_sexp.specs.Reader.{is_delimited, FirstOf, IsFirstOf, IsAhead, RunsTo, StopsAt};
-ghost use Rattle.eo_sexp.specs.Reader.{Runs};
+ghost use Rattle.eo_sexp.specs.Reader.{Runs, Steps, IsReading, IsBegunAt};
 ghost use Rattle.eo_sexp.specs.Lexicon.{Open, class, is_line_end};
 
 use crate::buffer::Buffer;
@@ -19,7 +19,7 @@ use eo_base::FaultName;
 use eo_base::limits::{COMMAND, NESTING, TOKEN, WIDTH};
 use std::alloc::AllocError;
 
-/// What the next byte stands in.
+/// What the next byte is in.
 #[derive(Clone, Copy)]
 pub(crate) enum Position {
     /// White space, between two tokens.
@@ -31,7 +31,7 @@ pub(crate) enum Position {
 /// What the next byte does to a command.
 #[derive(Clone, Copy)]
 pub(crate) enum ReaderTurn {
-    /// The command goes on behind the byte.
+    /// The command goes on after the byte.
     Goes,
     /// The command ended before the byte.
     Before,
@@ -58,7 +58,7 @@ pub(crate) struct Reader {
     from: usize,
 }
 
-// Adds an atom to the innermost list, and tells whether it is the whole command.
+// Adds an atom to the innermost list, and returns whether it is the whole command.
 #[inline(always)]
 fn add_atom(
     buffer: &mut Buffer,
@@ -79,7 +79,7 @@ fn add_atom(
     Ok(buffer.depth() == 0)
 }
 
-// Closes the innermost list before the byte with this number, and tells whether it is the whole
+// Closes the innermost list before the byte with this number, and returns whether it is the whole
 // command.
 #[inline(always)]
 fn close_list(buffer: &mut Buffer, to: usize) -> bool
@@ -103,7 +103,7 @@ fn is_full(buffer: &Buffer) -> bool
     buffer.width() >= WIDTH
 }
 
-// What the byte behind the byte x of a comment stands in.
+// What the byte after the byte x of a comment is in.
 fn behind_comment_byte(x: u8) -> Position
     ensures { result ≡ (if is_line_end x then Position.Gap else Position.Comment) }
 {
@@ -128,13 +128,13 @@ fn smaller(a: usize, b: usize) -> usize
     if a < b { a } else { b }
 }
 
-// Keeps the byte behind the first `n` of `rest`, where it does not decide.
+// Keeps the byte after the first `n` of `rest`, where it does not decide.
 #[inline(always)]
 fn keep(buffer: &mut Buffer, rest: &[u8], n: usize, turn: ReaderTurn) -> Result<Run, AllocError>
     requires { n < length rest.now }
-    ensures moves { IfOk result (λ k. k.turn ≡ ReaderTurn.Goes → 0 < k.taken) }
-    ensures runs { IfOk result (λ k. (b : Built) (r s : Reader) → length b.bytes + n < limits.command →
-        StopsAt limits b r rest.now n 0 turn buffer.old s → Runs limits b r rest.now k.taken k.lines k.turn buffer.new s) }
+    ensures { IfOk result (λ k. (k.turn ≡ ReaderTurn.Goes → 0 < k.taken)
+        × ((b : Built) (r s : Reader) → length b.bytes + n < limits.command → StopsAt limits b r rest.now n 0 turn buffer.old s →
+        Runs limits b r rest.now k.taken k.lines k.turn buffer.new s)) }
 {
     match turn {
         ReaderTurn::Goes => {
@@ -229,8 +229,7 @@ impl Reader {
         at: usize,
         x: u8,
     ) -> Result<ReaderTurn, AllocError>
-        requires reader { IsReader limits (held buffer.old self.old) at }
-        requires at { length buffer.old.bytes ≡ at }
+        requires begun { IsBegunAt limits buffer.old self.old at }
         requires room { at ≤ 2 ^ 24 }
         ensures bytes { OnOk result (buffer.new.bytes ≡ buffer.old.bytes) }
         ensures turns { IfOk result (λ t. Turns limits (held buffer.old self.old) at x t (held (with_byte buffer.new x) self.new)) }
@@ -283,14 +282,11 @@ impl Reader {
         })
     }
 
-    // Takes some bytes at the front of `rest`, or tells what the first one does.
+    // Takes some bytes at the front of `rest`, or returns what the first one does.
     #[inline(always)]
     fn step(&mut self, buffer: &mut Buffer, rest: &[u8]) -> Result<Run, AllocError>
-        requires reader { IsReader limits (held buffer.old self.old) (length buffer.old.bytes) }
-        requires room { length buffer.old.bytes + length rest.now ≤ 2 ^ 24 }
-        requires some { 0 < length rest.now }
-        ensures moves { IfOk result (λ r. r.turn ≡ ReaderTurn.Goes → 0 < r.taken) }
-        ensures runs { IfOk result (λ r. Runs limits buffer.old self.old rest.now r.taken r.lines r.turn buffer.new self.new) }
+        requires { IsReading limits buffer.old self.old rest.now }
+        ensures { IfOk result (λ r. Steps limits buffer.old self.old rest.now r buffer.new self.new) }
     {
         match self.position {
             Position::Gap => self.step_gap(buffer, rest),
@@ -298,16 +294,13 @@ impl Reader {
         }
     }
 
-    // Takes a word at the front of `rest` where one begins and ends in it, with the byte behind it, or
+    // Takes a word at the front of `rest` where one begins and ends in it, with the byte after it, or
     // spaces; or else as `step_other`.
     #[inline(always)]
     fn step_gap(&mut self, buffer: &mut Buffer, rest: &[u8]) -> Result<Run, AllocError>
-        requires reader { IsReader limits (held buffer.old self.old) (length buffer.old.bytes) }
+        requires begun { IsReading limits buffer.old self.old rest.now }
         requires gap { self.old.position ≡ Position.Gap }
-        requires room { length buffer.old.bytes + length rest.now ≤ 2 ^ 24 }
-        requires some { 0 < length rest.now }
-        ensures moves { IfOk result (λ r. r.turn ≡ ReaderTurn.Goes → 0 < r.taken) }
-        ensures runs { IfOk result (λ r. Runs limits buffer.old self.old rest.now r.taken r.lines r.turn buffer.new self.new) }
+        ensures { IfOk result (λ r. Steps limits buffer.old self.old rest.now r buffer.new self.new) }
     {
         if begins_word(rest[0]) {
             let n = self.ahead(buffer, Token::Word, rest);
@@ -326,12 +319,9 @@ impl Reader {
     // else the first byte.
     #[inline(always)]
     fn step_other(&mut self, buffer: &mut Buffer, rest: &[u8]) -> Result<Run, AllocError>
-        requires reader { IsReader limits (held buffer.old self.old) (length buffer.old.bytes) }
+        requires begun { IsReading limits buffer.old self.old rest.now }
         requires gap { self.old.position ≡ Position.Gap }
-        requires room { length buffer.old.bytes + length rest.now ≤ 2 ^ 24 }
-        requires some { 0 < length rest.now }
-        ensures moves { IfOk result (λ r. r.turn ≡ ReaderTurn.Goes → 0 < r.taken) }
-        ensures runs { IfOk result (λ r. Runs limits buffer.old self.old rest.now r.taken r.lines r.turn buffer.new self.new) }
+        ensures { IfOk result (λ r. Steps limits buffer.old self.old rest.now r buffer.new self.new) }
     {
         if begins_quoted(rest[0]) {
             let n = self.bar_ahead(buffer, rest);
@@ -348,15 +338,12 @@ impl Reader {
         self.take_byte(buffer, rest)
     }
 
-    // Takes the first byte, which stands between two tokens of a list.
+    // Takes the first byte, which is between two tokens of a list.
     #[inline(always)]
     fn take_byte(&mut self, buffer: &mut Buffer, rest: &[u8]) -> Result<Run, AllocError>
-        requires reader { IsReader limits (held buffer.old self.old) (length buffer.old.bytes) }
+        requires begun { IsReading limits buffer.old self.old rest.now }
         requires gap { self.old.position ≡ Position.Gap }
-        requires room { length buffer.old.bytes + length rest.now ≤ 2 ^ 24 }
-        requires some { 0 < length rest.now }
-        ensures moves { IfOk result (λ r. r.turn ≡ ReaderTurn.Goes → 0 < r.taken) }
-        ensures runs { IfOk result (λ r. Runs limits buffer.old self.old rest.now r.taken r.lines r.turn buffer.new self.new) }
+        ensures { IfOk result (λ r. Steps limits buffer.old self.old rest.now r buffer.new self.new) }
     {
         let at = buffer.bytes().len();
         let turn = self.turn_gap(buffer, at, rest[0])?;
@@ -364,14 +351,11 @@ impl Reader {
     }
 
     // Takes the bytes at the front of `rest` that leave a token or a comment as it is, or else the
-    // first byte. It is seldom called, and stands apart.
+    // first byte. It is seldom called, and so a function of its own.
     #[inline(never)]
     fn step_inside(&mut self, buffer: &mut Buffer, rest: &[u8]) -> Result<Run, AllocError>
-        requires reader { IsReader limits (held buffer.old self.old) (length buffer.old.bytes) }
-        requires room { length buffer.old.bytes + length rest.now ≤ 2 ^ 24 }
-        requires some { 0 < length rest.now }
-        ensures moves { IfOk result (λ r. r.turn ≡ ReaderTurn.Goes → 0 < r.taken) }
-        ensures runs { IfOk result (λ r. Runs limits buffer.old self.old rest.now r.taken r.lines r.turn buffer.new self.new) }
+        requires { IsReading limits buffer.old self.old rest.now }
+        ensures { IfOk result (λ r. Steps limits buffer.old self.old rest.now r buffer.new self.new) }
     {
         let taken = self.run_plain(buffer, rest)?;
         if taken == 0 {
@@ -386,11 +370,8 @@ impl Reader {
 
     // Takes the first byte.
     fn step_byte(&mut self, buffer: &mut Buffer, rest: &[u8]) -> Result<Run, AllocError>
-        requires reader { IsReader limits (held buffer.old self.old) (length buffer.old.bytes) }
-        requires room { length buffer.old.bytes + length rest.now ≤ 2 ^ 24 }
-        requires some { 0 < length rest.now }
-        ensures moves { IfOk result (λ r. r.turn ≡ ReaderTurn.Goes → 0 < r.taken) }
-        ensures runs { IfOk result (λ r. Runs limits buffer.old self.old rest.now r.taken r.lines r.turn buffer.new self.new) }
+        requires { IsReading limits buffer.old self.old rest.now }
+        ensures { IfOk result (λ r. Steps limits buffer.old self.old rest.now r buffer.new self.new) }
     {
         let at = buffer.bytes().len();
         let turn = self.turn(buffer, at, rest[0])?;
@@ -400,13 +381,10 @@ impl Reader {
     // Takes the spaces at the front of `rest`.
     #[inline(always)]
     fn take_blanks(&self, buffer: &mut Buffer, rest: &[u8]) -> Result<Run, AllocError>
-        requires reader { IsReader limits (held buffer.old self.now) (length buffer.old.bytes) }
+        requires begun { IsReading limits buffer.old self.now rest.now }
         requires gap { self.now.position ≡ Position.Gap }
-        requires room { length buffer.old.bytes + length rest.now ≤ 2 ^ 24 }
-        requires some { 0 < length rest.now }
         requires first { get_or rest.now 0 0 ≡ 32 }
-        ensures moves { IfOk result (λ r. r.turn ≡ ReaderTurn.Goes → 0 < r.taken) }
-        ensures runs { IfOk result (λ r. Runs limits buffer.old self.now rest.now r.taken r.lines r.turn buffer.new self.now) }
+        ensures { IfOk result (λ r. Steps limits buffer.old self.now rest.now r buffer.new self.now) }
     {
         let taken = blank_run(rest);
         buffer.extend(rest, taken)?;
@@ -452,7 +430,7 @@ impl Reader {
         }
     }
 
-    // Takes a quoted symbol with `n` bytes before its closing bar, and the spaces behind it.
+    // Takes a quoted symbol with `n` bytes before its closing bar, and the spaces after it.
     #[inline(always)]
     fn take_quoted(&self, buffer: &mut Buffer, n: usize, rest: &[u8]) -> Result<Run, AllocError>
         requires reader { IsReader limits (held buffer.old self.now) (length buffer.old.bytes) }
@@ -461,8 +439,7 @@ impl Reader {
         requires ahead { IsAhead limits buffer.old Token.Quoted rest.now n }
         requires bar { get_or rest.now n 0 ≡ 124 }
         requires short { n < limits.token }
-        ensures moves { IfOk result (λ r. r.turn ≡ ReaderTurn.Goes → 0 < r.taken) }
-        ensures runs { IfOk result (λ r. Runs limits buffer.old self.now rest.now r.taken r.lines r.turn buffer.new self.now) }
+        ensures { IfOk result (λ r. Steps limits buffer.old self.now rest.now r buffer.new self.now) }
     {
         let at = buffer.bytes().len();
         let to = n + 1;
@@ -476,21 +453,20 @@ impl Reader {
         })
     }
 
-    // Takes the first `n` bytes of a string, and the byte behind them.
+    // Takes the first `n` bytes of a string, and the byte after them.
     #[inline(always)]
     fn take_text(&mut self, buffer: &mut Buffer, n: usize, rest: &[u8]) -> Result<Run, AllocError>
         requires reader { IsReader limits (held buffer.old self.old) (length buffer.old.bytes) }
         requires first { IsFirstOf self.old (get_or rest.now 0 0) (Token.Text false) }
         requires ahead { IsAhead limits buffer.old (Token.Text false) rest.now n }
-        ensures moves { IfOk result (λ r. r.turn ≡ ReaderTurn.Goes → 0 < r.taken) }
-        ensures runs { IfOk result (λ r. Runs limits buffer.old self.old rest.now r.taken r.lines r.turn buffer.new self.new) }
+        ensures { IfOk result (λ r. Steps limits buffer.old self.old rest.now r buffer.new self.new) }
     {
         let at = buffer.bytes().len();
         let turn = self.turn_behind(buffer, Token::Text { closed: false }, at, n, rest)?;
         keep(buffer, rest, n, turn)
     }
 
-    // Takes a word of `n` bytes and the byte behind it.
+    // Takes a word of `n` bytes and the byte after it.
     #[inline(always)]
     fn take_word(
         &mut self,
@@ -499,13 +475,11 @@ impl Reader {
         n: usize,
         rest: &[u8],
     ) -> Result<Run, AllocError>
-        requires reader { IsReader limits (held buffer.old self.old) at }
-        requires at { length buffer.old.bytes ≡ at }
+        requires begun { IsBegunAt limits buffer.old self.old at }
         requires first { IsFirstOf self.old (get_or rest.now 0 0) Token.Word }
         requires ahead { IsAhead limits buffer.old Token.Word rest.now n }
         requires ends { is_plain Token.Word (get_or rest.now n 0) ≡ false }
-        ensures moves { IfOk result (λ r. r.turn ≡ ReaderTurn.Goes → 0 < r.taken) }
-        ensures runs { IfOk result (λ r. Runs limits buffer.old self.old rest.now r.taken r.lines r.turn buffer.new self.new) }
+        ensures { IfOk result (λ r. Steps limits buffer.old self.old rest.now r buffer.new self.new) }
     {
         if rest[n] == b' ' {
             buffer.extend(rest, n + 1)?;
@@ -520,7 +494,7 @@ impl Reader {
         keep(buffer, rest, n, turn)
     }
 
-    // Takes a word of `n` bytes, and tells what the byte behind it does.
+    // Takes a word of `n` bytes, and returns what the byte after it does.
     #[inline(always)]
     fn turn_word(
         &mut self,
@@ -529,8 +503,7 @@ impl Reader {
         n: usize,
         rest: &[u8],
     ) -> Result<ReaderTurn, AllocError>
-        requires reader { IsReader limits (held buffer.old self.old) at }
-        requires at { length buffer.old.bytes ≡ at }
+        requires begun { IsBegunAt limits buffer.old self.old at }
         requires first { IsFirstOf self.old (get_or rest.now 0 0) Token.Word }
         requires ahead { IsAhead limits buffer.old Token.Word rest.now n }
         requires ends { is_plain Token.Word (get_or rest.now n 0) ≡ false }
@@ -541,7 +514,7 @@ impl Reader {
         self.turn_gap(buffer, at + n, rest[n])
     }
 
-    // Takes the first `n` bytes of a token, and tells what the byte behind them does.
+    // Takes the first `n` bytes of a token, and returns what the byte after them does.
     #[inline(always)]
     fn turn_behind(
         &mut self,
@@ -551,8 +524,7 @@ impl Reader {
         n: usize,
         rest: &[u8],
     ) -> Result<ReaderTurn, AllocError>
-        requires reader { IsReader limits (held buffer.old self.old) at }
-        requires at { length buffer.old.bytes ≡ at }
+        requires begun { IsBegunAt limits buffer.old self.old at }
         requires first { IsFirstOf self.old (get_or rest.now 0 0) token }
         requires ahead { IsAhead limits buffer.old token rest.now n }
         ensures { IfOk result (λ t. StopsAt limits buffer.old self.old rest.now n 0 t buffer.new self.new) }
@@ -564,7 +536,7 @@ impl Reader {
     }
 
     // Takes the bytes at the front of `rest` that leave a token or a comment as it is, but no line
-    // feed, and tells how many.
+    // feed, and returns how many.
     #[inline(always)]
     fn run_plain(&self, buffer: &mut Buffer, rest: &[u8]) -> Result<usize, AllocError>
         requires reader { IsReader limits (held buffer.old self.now) (length buffer.old.bytes) }
@@ -618,9 +590,8 @@ impl Reader {
     // The byte x between two tokens of a list.
     #[inline(always)]
     fn turn_gap(&mut self, buffer: &mut Buffer, at: usize, x: u8) -> Result<ReaderTurn, AllocError>
-        requires reader { IsReader limits (held buffer.old self.old) at }
+        requires begun { IsBegunAt limits buffer.old self.old at }
         requires gap { self.old.position ≡ Position.Gap }
-        requires at { length buffer.old.bytes ≡ at }
         requires room { at ≤ 2 ^ 24 }
         ensures bytes { OnOk result (buffer.new.bytes ≡ buffer.old.bytes) }
         ensures turns { IfOk result (λ t. Turns limits (held buffer.old self.old) at x t (held (with_byte buffer.new x) self.new)) }
@@ -651,9 +622,8 @@ impl Reader {
 
     // A `(` between two tokens of a list.
     fn open_list(&mut self, buffer: &mut Buffer, at: usize) -> Result<ReaderTurn, AllocError>
-        requires reader { IsReader limits (held buffer.old self.old) at }
+        requires begun { IsBegunAt limits buffer.old self.old at }
         requires gap { self.old.position ≡ Position.Gap }
-        requires at { length buffer.old.bytes ≡ at }
         requires room { at < 2 ^ 31 }
         ensures bytes { OnOk result (buffer.new.bytes ≡ buffer.old.bytes) }
         ensures turns { IfOk result (λ t. (x : ℕ) → class x ≡ Open →
@@ -669,7 +639,7 @@ impl Reader {
         Ok(ReaderTurn::Goes)
     }
 
-    // The byte x inside or behind a token.
+    // The byte x inside or after a token.
     #[inline(always)]
     fn turn_token(
         &mut self,
@@ -678,9 +648,8 @@ impl Reader {
         at: usize,
         x: u8,
     ) -> Result<ReaderTurn, AllocError>
-        requires reader { IsReader limits (held buffer.old self.old) at }
+        requires begun { IsBegunAt limits buffer.old self.old at }
         requires token { self.old.position ≡ Position.Token token }
-        requires at { length buffer.old.bytes ≡ at }
         requires room { at ≤ 2 ^ 24 }
         ensures bytes { OnOk result (buffer.new.bytes ≡ buffer.old.bytes) }
         ensures turns { IfOk result (λ t. Turns limits (held buffer.old self.old) at x t (held (with_byte buffer.new x) self.new)) }
@@ -711,7 +680,7 @@ impl Reader {
     }
 
     // Adds the atom that the token begun is, where it ends before the byte with this number, and
-    // tells whether it is the whole command.
+    // returns whether it is the whole command.
     #[inline(always)]
     fn end_token(&self, buffer: &mut Buffer, token: Token, to: usize) -> Result<bool, AllocError>
         requires token { self.now.position ≡ Position.Token token }
@@ -739,11 +708,10 @@ impl Reader {
         }
     }
 
-    // Makes the command whole, where the input ends behind its bytes and makes it so, and tells
+    // Makes the command whole, where the input ends after its bytes and makes it so, and returns
     // whether it does. It takes no memory.
     pub(crate) fn finish(&mut self, buffer: &mut Buffer, to: usize) -> bool
-        requires reader { IsReader limits (held buffer.old self.old) to }
-        requires at { length buffer.old.bytes ≡ to }
+        requires begun { IsBegunAt limits buffer.old self.old to }
         requires short { to ≤ 2 ^ 31 }
         ensures bytes { buffer.new.bytes ≡ buffer.old.bytes }
         ensures ends { Ends limits (held buffer.old self.old) to buffer.new result }

@@ -22,7 +22,7 @@ pub(crate) enum AtomKind {
 
 impl AtomKind {
     /// The same among all that an s-expression may be.
-    pub(crate) fn told(self) -> Kind
+    pub(crate) fn kind_of_atom(self) -> Kind
         ensures { result ≡ kind_told (kind_meant self) }
     {
         match self {
@@ -34,11 +34,11 @@ impl AtomKind {
     }
 }
 
-/// How a token that is begun goes on.
+/// A token that is begun, by how it goes on.
 #[derive(Clone, Copy)]
 pub(crate) enum Token {
     Word,
-    /// A string literal. `closed` tells that its last byte was a quote that no quote has doubled.
+    /// A string literal. `closed` says that its last byte was a quote that no quote has doubled.
     Text { closed: bool },
     /// A quoted symbol.
     Quoted,
@@ -57,7 +57,7 @@ pub(crate) enum TokenTurn {
     Fault(FaultName),
 }
 
-// A byte more for a token of `size` bytes, which goes on as `token`.
+// One more byte for a token of `size` bytes, which goes on as `token`.
 #[tactic(auto, unfolding(eo_base::specs::Limits::limits))]
 #[inline(always)]
 fn go_on(size: usize, token: Token) -> TokenTurn
@@ -70,7 +70,7 @@ fn go_on(size: usize, token: Token) -> TokenTurn
     }
 }
 
-// The last byte of a token behind `size` bytes.
+// The last byte of a token after `size` bytes.
 #[tactic(auto, unfolding(eo_base::specs::Limits::limits))]
 #[inline(always)]
 fn close(size: usize) -> TokenTurn
@@ -83,7 +83,7 @@ fn close(size: usize) -> TokenTurn
     }
 }
 
-// The byte x behind `size` bytes of a token.
+// The byte x after `size` bytes of a token.
 #[tactic(auto, unfolding(crate::specs::Token::token_turn))]
 #[inline(always)]
 pub(crate) fn token_turn(token: Token, size: usize, x: u8) -> TokenTurn

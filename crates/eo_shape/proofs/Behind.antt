@@ -1,4 +1,4 @@
--- A rule and a step by the parts that stand first.
+-- A rule and a step by the parts that are first.
 use Rattle.std.proofs.Common.{◌≡◌, ℕ, true, false, List, [], ◌∷◌, Option, None, Some, ap, sym, ◌∙◌}
 use Rattle.std.proofs.lemmas.Option.{same_Some}
 use Rattle.std.specs.Prelude.{option_map, option_and_then, codes, if◌then◌else◌}

@@ -1,4 +1,4 @@
--- The parts of a command as the program has them, which borrow, and those of the definitions for which they stand.
+-- The parts of a command as the program has them, which borrow, and those of the definitions that they represent.
 use Rattle.eo_base.specs.declared.FaultName.{FaultName}
 use Rattle.eo_base.specs.declared.FaultName.TheVariants as fault
 use Rattle.eo_sexp.specs.Sexp.{Sexp}

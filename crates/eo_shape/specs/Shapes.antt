@@ -12,7 +12,7 @@ use Rattle.eo_shape.specs.Words.{symbol_of, keyword_of, numeral_of, string_of, i
 
 -- ---- parts
 
--- (x T), with `:implicit` and `:list` behind it
+-- (x T), with `:implicit` and `:list` after it
 pub record ParameterShape : Type 0 where
   pub name : List ℕ
   pub type : Sexp
@@ -100,7 +100,7 @@ list_of_each f s = option_and_then (every f) (list_of s)
 abbrev pub is_keyword : List ℕ → Sexp → Bool
 is_keyword word s = is_some_word word (keyword_of s)
 
--- a keyword's thing, where the keyword stands first with something behind it; and what follows
+-- the part after a keyword, where the keyword comes first with a part after it; and what follows
 abbrev pub optional : List ℕ → List Sexp → Option Sexp × List Sexp
 optional word (k ∷ v ∷ rest) = if is_keyword word k then (Some v, rest) else (None, k ∷ v ∷ rest)
 optional word ss = (None, ss)
@@ -227,7 +227,7 @@ define_program (s ∷ ps ∷ k ∷ rest) =
     option_and_then (λ name. option_and_then (λ parameters. signed_program name parameters k rest) (parameters_of ps)) (symbol_of s)
 define_program ss = None
 
--- ---- rules, by the parts in the order in which they stand
+-- ---- rules, by their parts in order
 
 abbrev pub premises_of : List Sexp → Option (PremisesShape × List Sexp)
 premises_of (k ∷ p ∷ f ∷ rest) =
@@ -276,7 +276,7 @@ abbrev pub named_formula : (List ℕ → Sexp → Command) → List Sexp → Opt
 named_formula command (s ∷ t ∷ []) = option_map (λ name. command name t) (symbol_of s)
 named_formula command ss = None
 
--- the arguments, behind which nothing stands
+-- the arguments, after which nothing follows
 abbrev pub last_arguments : List Sexp → Option (List Sexp)
 last_arguments [] = Some []
 last_arguments (k ∷ v ∷ []) = if is_keyword (codes ":args") k then list_of v else None

@@ -13,17 +13,17 @@ pub(crate) fn attribute<'b>(parts: &Children<'b>) -> Option<AttributeShape<'b>>
 {
     match parts.len() {
         0 => Some(AttributeShape::None),
-        1 => marked(&parts.first()),
+        1 => bare_attribute(&parts.first()),
         2 => {
             let (keyword, value) = parts.only_two()?;
-            valued(&keyword, value)
+            valued_attribute(&keyword, value)
         }
         _ => None,
     }
 }
 
 /// The attribute of this keyword alone.
-fn marked<'a>(keyword: &Sexp<'_>) -> Option<AttributeShape<'a>>
+fn bare_attribute<'a>(keyword: &Sexp<'_>) -> Option<AttributeShape<'a>>
     ensures { option_map read_attribute result ≡ marked_attribute keyword.now }
 {
     if is_keyword(keyword, b":right-assoc") {
@@ -36,7 +36,7 @@ fn marked<'a>(keyword: &Sexp<'_>) -> Option<AttributeShape<'a>>
 }
 
 /// The attribute of this keyword with this value.
-fn valued<'a>(keyword: &Sexp<'_>, value: Sexp<'a>) -> Option<AttributeShape<'a>>
+fn valued_attribute<'a>(keyword: &Sexp<'_>, value: Sexp<'a>) -> Option<AttributeShape<'a>>
     ensures { option_map read_attribute result ≡ valued_attribute keyword.now value.entry }
 {
     if is_keyword(keyword, b":right-assoc-nil") {

@@ -88,11 +88,11 @@ fn case<'b>(program: &[u8], s: &Sexp<'b>) -> Option<CaseShape<'b>>
     ensures { option_map read_case result ≡ shaped_case program.now s.now }
 {
     let (left, body) = s.list()?.only_two()?;
-    applied(program, &left.list()?, body)
+    applied_case(program, &left.list()?, body)
 }
 
 /// The case with these parts on its left side, of which the first is the program's name.
-fn applied<'b>(program: &[u8], left: &Children<'b>, body: Sexp<'b>) -> Option<CaseShape<'b>>
+fn applied_case<'b>(program: &[u8], left: &Children<'b>, body: Sexp<'b>) -> Option<CaseShape<'b>>
     ensures { option_map read_case result ≡ applied_case program.now body.entry left.now }
 {
     let (head, patterns) = left.split_first()?;

@@ -232,7 +232,7 @@ pub enum Command<'a> {
 /// Why an s-expression is no command.
 #[derive(Clone, Copy, Debug, PartialEq, Eq)]
 pub enum ShapeRefused {
-    /// Its word is no command's word where it stands.
+    /// Its word is no command of this kind of file.
     UnknownCommand,
     /// It is no list that begins with a symbol, or its parts have a wrong shape.
     BadCommand,

@@ -142,7 +142,7 @@ fn parameter_in<'b>(parts: &Children<'b>) -> Option<ParameterShape<'b>>
     with_marks(unmarked, &marks)
 }
 
-/// The parameter with these marks, where each stands at most once.
+/// The parameter with these marks, where each occurs at most once.
 fn with_marks<'a>(parameter: ParameterShape<'a>, marks: &Children<'_>) -> Option<ParameterShape<'a>>
     ensures { option_map read_parameter result ≡ with_marks (read_parameter parameter.entry) marks.now }
 {

@@ -58,7 +58,7 @@ fn rule_with<'b>(
     })
 }
 
-/// What stands behind this keyword, where it comes first; and what follows.
+/// The part after this keyword, where it comes first; and what follows.
 fn optional<'b>(parts: &Children<'b>, word: &[u8]) -> (Option<Sexp<'b>>, Children<'b>)
     ensures { result ≡ shapes.optional word.now parts.now }
 {
@@ -71,7 +71,7 @@ fn optional<'b>(parts: &Children<'b>, word: &[u8]) -> (Option<Sexp<'b>>, Childre
     (Some(thing), rest)
 }
 
-/// The terms that are listed behind this keyword, where it comes first, or none; and what follows.
+/// The terms that are listed after this keyword, where it comes first, or none; and what follows.
 fn terms_behind<'b>(word: &[u8], parts: &Children<'b>) -> Option<(Children<'b>, Children<'b>)>
     ensures { result ≡ shapes.optional_list list_of word.now parts.now }
 {
@@ -84,7 +84,7 @@ fn terms_behind<'b>(word: &[u8], parts: &Children<'b>) -> Option<(Children<'b>, 
     Some((list.list()?, rest))
 }
 
-/// The pairs that are listed behind this keyword, where it comes first, or none; and what follows.
+/// The pairs that are listed after this keyword, where it comes first, or none; and what follows.
 fn pairs_behind<'b>(word: &[u8], parts: &Children<'b>) -> Option<(PairShapes<'b>, Children<'b>)>
     ensures { result ≡ shapes.optional_list shapes.pairs_of word.now parts.now }
 {
@@ -121,7 +121,7 @@ fn premises<'b>(parts: &Children<'b>) -> Option<(PremisesShape<'b>, Children<'b>
     Some((PremisesShape::Each(parts.none()), parts.again()))
 }
 
-/// The term behind `:conclusion`, and whether `:sorry` follows.
+/// The term after `:conclusion`, and whether `:sorry` follows.
 fn conclusion<'b>(parts: &Children<'b>) -> Option<(Sexp<'b>, bool)>
     ensures { result ≡ shapes.conclusion_of parts.now }
 {

@@ -77,7 +77,7 @@ pub fn command_of<'b>(s: &Sexp<'b>, in_reference: bool) -> Result<Command<'b>, S
     let Some(form) = form_named(word, in_reference) else {
         return Err(ShapeRefused::UnknownCommand);
     };
-    match shaped(form, &parts) {
+    match command_by_form(form, &parts) {
         Some(command) => Ok(command),
         None => Err(ShapeRefused::BadCommand),
     }
@@ -196,7 +196,7 @@ fn proving_form(word: &[u8]) -> Option<Form>
 }
 
 /// The command of this form with these parts, where they have its shape.
-fn shaped<'b>(form: Form, parts: &Children<'b>) -> Option<Command<'b>>
+fn command_by_form<'b>(form: Form, parts: &Children<'b>) -> Option<Command<'b>>
     ensures { option_map read_command result ≡ shape_by form parts.now }
 {
     match form {

@@ -27,12 +27,12 @@ fn step_of<'b>(parts: &Children<'b>) -> Option<StepShape<'b>>
     ensures { option_map read_step result ≡ shapes.step_of parts.now }
 {
     let (name, rest) = parts.split_first()?;
-    let (stated, rest) = stated(&rest);
+    let (stated, rest) = stated_formula(&rest);
     step_by_rule(symbol(&name)?, stated, &rest)
 }
 
 /// The first part as the formula that is stated, unless it is `:rule`; and what follows.
-fn stated<'b>(parts: &Children<'b>) -> (Option<Sexp<'b>>, Children<'b>)
+fn stated_formula<'b>(parts: &Children<'b>) -> (Option<Sexp<'b>>, Children<'b>)
     ensures { result ≡ shapes.stated_of parts.now }
 {
     let Some((first, rest)) = parts.split_first() else {
@@ -80,7 +80,7 @@ fn step_with<'b>(
     })
 }
 
-/// The names that are listed behind `:premises`, where it comes first, or none; and what follows.
+/// The names that are listed after `:premises`, where it comes first, or none; and what follows.
 fn premises<'b>(parts: &Children<'b>) -> Option<(Symbols<'b>, Children<'b>)>
     ensures { result ≡ shapes.premise_names parts.now }
 {
@@ -93,7 +93,7 @@ fn premises<'b>(parts: &Children<'b>) -> Option<(Symbols<'b>, Children<'b>)>
     Some((symbols_in(&list)?, rest))
 }
 
-/// The terms that are listed behind `:args`, where there is anything, and behind which nothing is.
+/// The terms that are listed after `:args`, where there is anything, and after which nothing follows.
 fn arguments<'b>(parts: &Children<'b>) -> Option<Children<'b>>
     ensures { result ≡ shapes.last_arguments parts.now }
 {

@@ -43,7 +43,7 @@ module _ (S : Signature) where
       go (Some n) f h = with_items n (spelled (Con k) n (App (App (Con k) a) r)) refl f h
   list_of-is t l e = cc
 
-  -- a literal that has a spelling, and a constant that its name stands for
+  -- a literal that has a spelling, and a constant that its name means
   abbrev pub IsSpelled : Tree → Type 0
   IsSpelled (Con k) = constant_named S (name_of S k) ≡ Some k
   IsSpelled (Num z) = FitsSigned w128 z

@@ -107,7 +107,7 @@ module _ (S : Signature) where
       go (list_given u n e some few)
     where
       short_test : (l : ℕ × List Tree) (n c : ℕ) (b : Bool) → l.0 ≡ c → length l.1 ≡ n → 0 < n → n < 1001 → takes S c n ≡ b → is_short_list S l ≡ b
-      short_test l n c b e h some few t = ap₂ (λ (x y : Bool). x && y && takes S l.0 (length l.1)) (le-leb 1 (length l.1) (omega (arith, h, some))) (le-leb (length l.1) 1000 (omega (arith, h, few))) ∙ ap (λ k. takes S k (length l.1)) e ∙ t
+      short_test l n c b e h some few t = ap₂ (λ (x y : Bool). x && y && takes S l.0 (length l.1)) (le-leb 1 (length l.1) (omega (arith, h, some))) (le-leb (length l.1) 1000 (omega (arith, h, few))) ∙ (λ i. takes S (e i) (h i)) ∙ t
 
       go : (l : ℕ × List Tree) × (list_of S u ≡ Some l) × (length l.1 ≡ n) → short_list S u ≡ (if b then Some c else None)
       go (l, is, count) =

@@ -65,7 +65,7 @@ module _ (S : Signature) (macros : List Macro) where
 
   entries : (S : Signature) → length (constants S) + length (programs S) ≤ length S
   entries [] = omega arith
-  entries (IsConstant c ∷ S) = omega (arith, entries S)
+  entries (IsConstant c n ∷ S) = omega (arith, entries S)
   entries (IsProgram p ∷ S) = omega (arith, entries S)
   entries (IsRule r ∷ S) = omega (arith, entries S)
   entries (IsLiteralType l t ∷ S) = omega (arith, entries S)

@@ -1,4 +1,4 @@
--- Spellings of literals are words, and those of strings can stand between quotes.
+-- Spellings of literals are words, and those of strings can be between quotes.
 use Rattle.std.specs.Prelude.{◌≡◌, refl, ℕ, zero, suc, ◌+◌, ◌*◌, ◌/◌, ◌%◌, ◌^◌, ◌<◌, ◌≤◌, pos, negsuc, Bool, true, false, not, ◌&&◌, ◌==◌, List, [], ◌∷◌, ◌++◌, length, flat_map, if◌then◌else◌, codes}
 use Rattle.std.specs.List.{list_all}
 use Rattle.std.specs.Fmt.{decimal, digits, digits_onto, digit_glyph}
@@ -22,7 +22,7 @@ abbrev pub width_of : Literal → ℕ
 width_of (Number z) = 0
 width_of (BitString w v) = w
 
--- a character that stands for itself, and is no quote
+-- a character that represents itself, and is no quote
 is_itself : ℕ → Bool
 is_itself c = stands_for_itself c && not (c == 34)
 
@@ -155,7 +155,7 @@ length-literal (BitString w v) = omega (arith, length-bits w v)
 
 -- ---- strings
 
--- bytes that may stand in a string literal, none of them a quote
+-- bytes that may be in a string literal, none of them a quote
 abbrev AreInside : List ℕ → Type 0
 AreInside [] = Unit {0}
 AreInside (x ∷ xs) = (string_byte x ≡ Inside) × AreInside xs

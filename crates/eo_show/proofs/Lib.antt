@@ -21,6 +21,7 @@ pub mod Same
 pub mod Counting
 pub mod NumberedLines
 pub mod Looks
+pub mod Ranges
 pub mod Numbering
 pub mod Atoms
 mod Sized

@@ -13,7 +13,7 @@ use Rattle.eo_show.specs.Members.{parts_of, with_members, members, has_no_spelli
 use Rattle.eo_term.specs.Ranges.{IsInRange}
 use Rattle.eo_show.proofs.FormFacts.{list_of-is, IsSpelled}
 
--- it holds of what stands in a tree of which it holds
+-- it holds of what is in a tree of which it holds
 pub record GoesDown (Q : Tree → Type 0) : Type 0 where
   pub app : (f x : Tree) → Q (App f x) → Q f × Q x
   pub arr : (a b : Tree) → Q (Arr a b) → Q a × Q b

@@ -4,6 +4,7 @@ use Rattle.std.proofs.Common.{ap, arith, length-append}
 use Rattle.std.proofs.lemmas.Bool.{leb-true, ltb-false}
 use Rattle.std.proofs.lemmas.List.{length-map}
 use Rattle.std.proofs.lemmas.List.Elements.{All-head, All-tail}
+use Rattle.eo_show.proofs.Ranges.{named-range, counted-range}
 use Rattle.eo_base.specs.Limits.{limits}
 use Rattle.eo_base.proofs.Tests.{both}
 use Rattle.eo_term.specs.Tree.{Tree, Con, Num, Bits, Str, Par, Var, App, Arr, Qar, Op, is_value}
@@ -15,7 +16,7 @@ use Rattle.eo_sexp.specs.Lexicon.{is_word, begins_digit, kind_of}
 use Rattle.eo_sexp.specs.Printing.{printed, printed_others, printed_atom, is_text_of, is_word_of}
 use Rattle.eo_sexp.proofs.ReadSymbols.{words-quotable}
 use Rattle.eo_sig.specs.Signature.{Signature, constant_named}
-use Rattle.eo_show.specs.Forms.{symbol, list, name_of, attribute_of, takes, Form, Leaf, Folded, Plainly, Function, Variable, most_arguments, head_of, arguments_of, joins_plainly, list_of, is_short_list, by_head, chain, list_or, form, parts, with_parts}
+use Rattle.eo_show.specs.Forms.{symbol, list, name_of, attribute_of, takes, Form, Leaf, Folded, Plainly, Function, Variable, most_arguments, head_of, arguments_of, joins_plainly, list_of, is_short_list, by_head, chain, list_or, form, parts, with_parts, counted}
 use Rattle.eo_show.specs.Members.{nesting, nesting_all, has_no_spelling}
 use Rattle.eo_show.specs.Printable.{IsPrintedName, ArePrintedNames}
 use Rattle.eo_term.specs.Ranges.{IsInRange}
@@ -37,7 +38,7 @@ module _ (S : Signature) where
   by_head-sound (Con k) args names few = go (takes S k (length args) && joins_plainly (attribute_of S k) (length args)) refl
     where
       go : (b : Bool) → (takes S k (length args) && joins_plainly (attribute_of S k) (length args)) ≡ b → FormSound (if b then Folded k args else Plainly (Con k) args)
-      go true e = (names k (is_this-is S k (constant_named S (name_of S k)) (both e).0), omega arith)
+      go true e = (names k (counted-range S (name_of S k) (length args) k (is_this-is S k (counted S (name_of S k) (length args)) (both e).0)), omega arith)
       go false e = omega arith
   by_head-sound h args names few = omega arith
 
@@ -53,7 +54,7 @@ module _ (S : Signature) where
   application-sound f x names (Some l) = go (is_short_list S l) refl
     where
       go : (b : Bool) → is_short_list S l ≡ b → FormSound (if b then Folded l.0 l.1 else chain S f x)
-      go true e = (names l.0 (is_this-is S l.0 (constant_named S (name_of S l.0)) (both e).1), leb-true (length l.1) 1000 (both (both e).0).1)
+      go true e = (names l.0 (counted-range S (name_of S l.0) (length l.1) l.0 (is_this-is S l.0 (counted S (name_of S l.0) (length l.1)) (both e).1)), leb-true (length l.1) 1000 (both (both e).0).1)
       go false e = chain-sound f x names
 
   literal-sound : (l : Literal) → width_of l ≤ 128 → FormSound (Leaf kind.Literal (literal_spelling l))
@@ -65,7 +66,7 @@ module _ (S : Signature) where
   string-sound s e = (string-body s, omega (arith, ltb-false 1_048_576 (2 + length (string_spelling s)) e, length-append (string_spelling s) (codes "\"")))
 
   name-sound : (k : ℕ) → ArePrintedNames S → constant_named S (name_of S k) ≡ Some k → FormSound (Leaf kind.Symbol (name_of S k))
-  name-sound k names e = names k e
+  name-sound k names e = names k (named-range S (name_of S k) k e)
 
   pub form-sound : (t : Tree) → ArePrintedNames S → is_value t ≡ true → IsInRange t → has_no_spelling S t ≡ false → FormSound (form S t)
   unfolding form

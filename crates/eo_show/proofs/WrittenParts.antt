@@ -4,7 +4,6 @@ use Rattle.std.proofs.Common.{sym, ap, ap₂, ◌∙◌, subst, arith, append-ni
 use Rattle.std.proofs.lemmas.List.{map-append}
 use Rattle.std.proofs.lemmas.List.Elements.{All-nil, All-cons, All-head, All-tail, All-append, All-weaker}
 use Rattle.std.proofs.lemmas.List.Quantifiers.{position-Some}
-use Rattle.eo_sexp.specs.AtomKind.{AtomKind}
 use Rattle.eo_sexp.specs.AtomKind as kind
 use Rattle.eo_sexp.specs.Sexp.{sexps_of}
 use Rattle.eo_sexp.specs.Printing.{printed, printed_atom, printed_others, is_word_of, in_bars}

@@ -58,7 +58,7 @@ module _ (S : Signature) (all : List Tree) where
   abbrev pub gets_line : Tree → Tree → Bool
   gets_line top u = tree_eq u top || is_defined S all u
 
--- the names of trees, as the numbers tell them
+-- the names of trees, by their numbers
 pub record AreNamed (us : List Tree) (numbers : List ℕ) (named : Tree → Option (List ℕ)) : Type 0 where
   pub none : (i : ℕ) (u : Tree) → i < length us → u ≡ slice_index_or us i u → slice_index_or numbers i 0 ≡ 0 → named u ≡ None
   pub some : (i k : ℕ) (u : Tree) → i < length us → u ≡ slice_index_or us i u → slice_index_or numbers i 0 ≡ suc k → named u ≡ Some (line_name (suc k))

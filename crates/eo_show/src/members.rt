@@ -133,7 +133,7 @@ impl Members {
         Ok(())
     }
 
-    /// No two members are the same tree. A call costs nothing: it tells a proof this.
+    /// No two members are the same tree. A call costs nothing: it gives a proof this fact.
     #[tactic(auto, using(crate::proofs::Same::apart_same))]
     pub(crate) fn laws(&self, table: &Table)
         requires { All (IsLive table.now) self.now.found.keys }

@@ -97,17 +97,17 @@ fn term_form(
         Node::Bits { width, .. } => bits_form(alloc, width),
         Node::Str(text) => string_form(alloc, table, text),
         Node::Par(_) => Ok(leaf(alloc)),
-        Node::Var { name, ty } => made(variable_form(alloc, table, name, ty)),
+        Node::Var { name, ty } => form_or_refusal(variable_form(alloc, table, name, ty)),
         Node::App { fun, arg } => {
-            made(application_form(alloc, sig, table, lengths, id, fun, arg))
+            form_or_refusal(application_form(alloc, sig, table, lengths, id, fun, arg))
         }
-        Node::Arr { from, to } => made(function_form(alloc, table, from, to)),
+        Node::Arr { from, to } => form_or_refusal(function_form(alloc, table, from, to)),
         Node::Qar { .. } => Ok(leaf(alloc)),
         Node::Op { .. } => Ok(leaf(alloc)),
     }
 }
 
-fn made(found: Result<Form, AllocError>) -> Result<Form, ShowRefused>
+fn form_or_refusal(found: Result<Form, AllocError>) -> Result<Form, ShowRefused>
     ensures { (S : spec.Signature) (t : Terms) (u : Tree) → has_no_spelling S u ≡ false →
         IfOk found (λ f. IsForm S t (form S u) f.shape f.parts.items) → GivesForm S t u result }
 {
@@ -150,7 +150,7 @@ fn function_form(alloc: Global, table: &Table, from: Id, to: Id) -> Result<Form,
     Ok(form)
 }
 
-/// Whether the name of a constant means it.
+/// Whether the name of a constant means it by itself: it is the first of its name.
 #[tactic(auto, using(crate::proofs::Lookups::none_past, crate::proofs::Lookups::name_given))]
 pub(crate) fn takes(sig: &Signature, constant: usize) -> bool
     ensures within { IsTrue result → constant < length (constants_of sig.now) }
@@ -166,12 +166,40 @@ pub(crate) fn takes(sig: &Signature, constant: usize) -> bool
     }
 }
 
-// The constant that a name means.
+// The constant that a name means by itself.
 #[tactic(auto, using(crate::proofs::Lookups::as_constant_is))]
 fn constant_named(sig: &Signature, name: &[u8]) -> Option<usize>
     ensures { (ts : List Tree) → result ≡ spec.constant_named (signature ts sig.now) name.now }
 {
     match sig.lookup(name) {
+        Some(Entry::Constant(k)) => Some(k),
+        Some(Entry::Macro(_)) => None,
+        Some(Entry::Program(_)) => None,
+        None => None,
+    }
+}
+
+/// Whether the name of a constant means it before so many arguments.
+#[tactic(auto, using(crate::proofs::Lookups::none_before, crate::proofs::Lookups::name_given))]
+fn takes_before(sig: &Signature, constant: usize, n: usize) -> bool
+    ensures within { IsTrue result → constant < length (constants_of sig.now) }
+    ensures tells { (ts : List Tree) → result ≡ forms.takes (signature ts sig.now) constant n }
+{
+    if constant >= sig.constants() {
+        return false;
+    }
+    match constant_before(sig, sig.constant(constant).name.as_bytes(), n) {
+        Some(k) => k == constant,
+        None => false,
+    }
+}
+
+// The constant that a name means before so many arguments.
+#[tactic(auto, using(crate::proofs::Lookups::as_constant_before))]
+fn constant_before(sig: &Signature, name: &[u8], n: usize) -> Option<usize>
+    ensures { (ts : List Tree) → result ≡ spec.constant_for (signature ts sig.now) name.now n }
+{
+    match sig.lookup_count(name, n) {
         Some(Entry::Constant(k)) => Some(k),
         Some(Entry::Macro(_)) => None,
         Some(Entry::Program(_)) => None,
@@ -270,7 +298,7 @@ fn short_list(sig: &Signature, table: &Table, lengths: &Lengths, id: Id) -> Opti
         return None;
     }
     let link = unlink(table, id)?;
-    if takes(sig, link.constant) {
+    if takes_before(sig, link.constant, run as usize) {
         Some(link.constant)
     } else {
         None
@@ -386,7 +414,7 @@ fn folding(sig: &Signature, table: &Table, head: Id, count: u8) -> Option<usize>
     let Node::Con(constant) = table.node(head) else {
         return None;
     };
-    if !takes(sig, constant) {
+    if !takes_before(sig, constant, count as usize) {
         return None;
     }
     if joins_plainly(sig.constant(constant).attribute, count) {

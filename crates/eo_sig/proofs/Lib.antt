@@ -12,3 +12,8 @@ pub mod Adding
 pub mod Growing
 pub mod Views
 pub mod Telling
+pub mod Positions
+pub mod Single
+pub mod Arguments
+pub mod Indexed
+pub mod Looking

@@ -1,12 +1,12 @@
 -- What is kept, read over a list of trees.
-use Rattle.std.proofs.Common.{◌≡◌, ℕ, ◌<◌, Bool, true, false, List, [], ◌∷◌, map, position, slice_get, Option, Some, None, refl, sym, ap, ◌∙◌, subst, true≢false}
-use Rattle.std.specs.List.{filter_map, cons_option}
+use Rattle.std.proofs.Common.{◌≡◌, ℕ, ◌<◌, Bool, true, false, not, ◌&&◌, ◌||◌, List, [], ◌∷◌, length, map, position, slice_get, get_or, Option, Some, None, refl, sym, ap, ◌∙◌, subst, true≢false}
+use Rattle.std.specs.List.{filter_map, cons_option, list_any}
 use Rattle.std.specs.Prelude.{option_map, if◌then◌else◌, bytes_eq, is_none, IfSome}
 use Rattle.std.specs.Option.{option_or}
 use Rattle.std.proofs.lemmas.Bool.{and_parts}
-use Rattle.std.proofs.lemmas.List.{map-append}
+use Rattle.std.proofs.lemmas.List.{length-map, map-append}
 use Rattle.std.proofs.lemmas.List.Elements.{All-push}
-use Rattle.std.proofs.lemmas.Option.{none-some, same_Some, slice_get-map}
+use Rattle.std.proofs.lemmas.Option.{none-some, same_Some, slice_get-map, slice_get_within}
 use Rattle.eo_base.proofs.Tests.{is_nothing}
 use Rattle.eo_term.specs.Tree.{Tree}
 use Rattle.eo_term.specs.Terms.{tree_at}
@@ -14,61 +14,83 @@ use Rattle.eo_lit.specs.declared.LiteralClass.{LiteralClass}
 use Rattle.eo_sig.specs.declared.records.Declared.{Declared}
 use Rattle.eo_sig.specs.declared.records.Declared.TheVariants as declared
 use Rattle.eo_sig.specs.declared.records.ConstDecl.{ConstDecl}
+use Rattle.eo_sig.specs.declared.records.Counts.{Counts}
 use Rattle.eo_sig.specs.declared.records.MacroDecl.{MacroDecl}
 use Rattle.eo_sig.specs.declared.records.ProgramDecl.{ProgramDecl}
 use Rattle.eo_sig.specs.declared.records.RuleDecl.{RuleDecl}
 use Rattle.eo_sig.specs.Signature as sig
-use Rattle.eo_sig.specs.Reading.{Kept, signature, macros, read_entry, read_constant, read_macro, read_program, read_rule, const_of, program_decl_of, rule_decl_of, constants_of, programs_of, rules_of, EntryBelow, ConstBelow, MacroBelow, ProgramBelow, RuleBelow, IsBelow, Adds, with_entry, with_macro, IsFree, IsFreeRule}
-use Rattle.eo_sig.specs.Held.{const_name, program_name, rule_name, literal_id, first_literal, IsTable}
-use Rattle.eo_sig.proofs.Tables.{position_same, map_twice, table_names, own_holds}
+use Rattle.eo_sig.specs.Reading.{Kept, signature, macros, read_entry, read_constant, read_counts, read_macro, read_program, read_rule, const_of, program_decl_of, rule_decl_of, constants_of, programs_of, rules_of, EntryBelow, ConstBelow, MacroBelow, ProgramBelow, RuleBelow, IsBelow, Adds, with_entry, with_macro, IsFree, IsFreeRule}
+use Rattle.eo_sig.specs.Held.{counted_decl_of, program_name, rule_name, literal_id, first_literal, IsTable, IsPlaces}
+use Rattle.eo_sig.specs.Indexed.{is_met, counts_at}
+use Rattle.eo_sig.proofs.Tables.{position_same, map_twice, table_names, numbered, numbered_here, numbers, own_holds}
+
+-- the name of a constant, with what it takes
+abbrev pub key_of : sig.Constant × sig.Counts → List ℕ × sig.Counts
+key_of d = (d.0.name, d.1)
+
+-- the constants are those with what they take
+pub decls_of : (es : List Declared) → filter_map const_of es ≡ map (λ (q : ConstDecl × Counts). q.0) (filter_map counted_decl_of es)
+decls_of [] = refl
+decls_of (declared.Const d n ∷ es) = ap (λ ds. d ∷ ds) (decls_of es)
+decls_of (declared.Program d ∷ es) = decls_of es
+decls_of (declared.Rule d ∷ es) = decls_of es
+decls_of (declared.Literal l t ∷ es) = decls_of es
 
 module _ (ts : List Tree) where
   -- by kind
   pub constants_read : (es : List Declared) → sig.constants (map (read_entry ts) es) ≡ map (read_constant ts) (filter_map const_of es)
   constants_read [] = refl
-  constants_read (declared.Const d ∷ es) = ap (λ cs. read_constant ts d ∷ cs) (constants_read es)
+  constants_read (declared.Const d n ∷ es) = ap (λ cs. read_constant ts d ∷ cs) (constants_read es)
   constants_read (declared.Program d ∷ es) = constants_read es
   constants_read (declared.Rule d ∷ es) = constants_read es
   constants_read (declared.Literal l t ∷ es) = constants_read es
 
   pub programs_read : (es : List Declared) → sig.programs (map (read_entry ts) es) ≡ map (read_program ts) (filter_map program_decl_of es)
   programs_read [] = refl
-  programs_read (declared.Const d ∷ es) = programs_read es
+  programs_read (declared.Const d n ∷ es) = programs_read es
   programs_read (declared.Program d ∷ es) = ap (λ cs. read_program ts d ∷ cs) (programs_read es)
   programs_read (declared.Rule d ∷ es) = programs_read es
   programs_read (declared.Literal l t ∷ es) = programs_read es
 
   pub rules_read : (es : List Declared) → sig.rules (map (read_entry ts) es) ≡ map (read_rule ts) (filter_map rule_decl_of es)
   rules_read [] = refl
-  rules_read (declared.Const d ∷ es) = rules_read es
+  rules_read (declared.Const d n ∷ es) = rules_read es
   rules_read (declared.Program d ∷ es) = rules_read es
   rules_read (declared.Rule d ∷ es) = ap (λ cs. read_rule ts d ∷ cs) (rules_read es)
   rules_read (declared.Literal l t ∷ es) = rules_read es
 
-  pub constant_names : (es : List Declared) → filter_map const_name es ≡ map (λ (c : sig.Constant). c.name) (sig.constants (map (read_entry ts) es))
+  -- the names of constants, with what they take
+  pub counted_keys : (es : List Declared) → map key_of (sig.counted (map (read_entry ts) es)) ≡ map (λ (q : ConstDecl × Counts). (q.0.name, read_counts q.1)) (filter_map counted_decl_of es)
+  counted_keys [] = refl
+  counted_keys (declared.Const d n ∷ es) = ap (λ ks. (d.name, read_counts n) ∷ ks) (counted_keys es)
+  counted_keys (declared.Program d ∷ es) = counted_keys es
+  counted_keys (declared.Rule d ∷ es) = counted_keys es
+  counted_keys (declared.Literal l t ∷ es) = counted_keys es
+
+  pub constant_names : (es : List Declared) → map (λ (c : sig.Constant). c.name) (sig.constants (map (read_entry ts) es)) ≡ map (λ (q : ConstDecl × Counts). q.0.name) (filter_map counted_decl_of es)
   constant_names [] = refl
-  constant_names (declared.Const d ∷ es) = ap (λ ws. d.name ∷ ws) (constant_names es)
+  constant_names (declared.Const d n ∷ es) = ap (λ ws. d.name ∷ ws) (constant_names es)
   constant_names (declared.Program d ∷ es) = constant_names es
   constant_names (declared.Rule d ∷ es) = constant_names es
   constant_names (declared.Literal l t ∷ es) = constant_names es
 
   pub program_names : (es : List Declared) → filter_map program_name es ≡ map (λ (c : sig.Program). c.name) (sig.programs (map (read_entry ts) es))
   program_names [] = refl
-  program_names (declared.Const d ∷ es) = program_names es
+  program_names (declared.Const d n ∷ es) = program_names es
   program_names (declared.Program d ∷ es) = ap (λ ws. d.name ∷ ws) (program_names es)
   program_names (declared.Rule d ∷ es) = program_names es
   program_names (declared.Literal l t ∷ es) = program_names es
 
   pub rule_names : (es : List Declared) → filter_map rule_name es ≡ map (λ (c : sig.Rule). c.name) (sig.rules (map (read_entry ts) es))
   rule_names [] = refl
-  rule_names (declared.Const d ∷ es) = rule_names es
+  rule_names (declared.Const d n ∷ es) = rule_names es
   rule_names (declared.Program d ∷ es) = rule_names es
   rule_names (declared.Rule d ∷ es) = ap (λ ws. d.name ∷ ws) (rule_names es)
   rule_names (declared.Literal l t ∷ es) = rule_names es
 
   literals_read : (l : LiteralClass) (es : List Declared) → filter_map (sig.literal_type_of l) (map (read_entry ts) es) ≡ map (tree_at ts) (filter_map (literal_id l) es)
   literals_read l [] = refl
-  literals_read l (declared.Const d ∷ es) = literals_read l es
+  literals_read l (declared.Const d n ∷ es) = literals_read l es
   literals_read l (declared.Program d ∷ es) = literals_read l es
   literals_read l (declared.Rule d ∷ es) = literals_read l es
   literals_read l (declared.Literal k t ∷ es) = by (sig.is_same_class l k) (literals_read l es)
@@ -87,9 +109,6 @@ module _ (ts : List Tree) where
         → position (λ v. bytes_eq w v) (map (λ (e : List ℕ × ℕ). e.0) names) ≡ position (λ y. bytes_eq w (name y)) ys
     same_names names name ys e =
         position_same (bytes_eq w) (λ v. v) name (map (λ (e : List ℕ × ℕ). e.0) names) ys (map_twice (λ v. v) (λ (e : List ℕ × ℕ). e.0) (λ e. e.0) (λ e. refl) names ∙ e)
-
-    pub constant_found : (es : List Declared) (names : List (List ℕ × ℕ)) → IsTable const_name es names → position (λ v. bytes_eq w v) (map (λ (e : List ℕ × ℕ). e.0) names) ≡ sig.constant_named (map (read_entry ts) es) w
-    constant_found es names h = same_names names (λ (c : sig.Constant). c.name) (sig.constants (map (read_entry ts) es)) (table_names const_name es names h ∙ constant_names es)
 
     pub program_found : (es : List Declared) (names : List (List ℕ × ℕ)) → IsTable program_name es names → position (λ v. bytes_eq w v) (map (λ (e : List ℕ × ℕ). e.0) names) ≡ sig.program_named (map (read_entry ts) es) w
     program_found es names h = same_names names (λ (c : sig.Program). c.name) (sig.programs (map (read_entry ts) es)) (table_names program_name es names h ∙ program_names es)
@@ -117,25 +136,25 @@ pub below_macro : (n : ℕ) (k : Kept) (d : MacroDecl) → IsBelow n k → Macro
 below_macro n k d h e = record { entries = h.entries; macros = All-push (MacroBelow n) k.macros d h.macros e }
 
 const_part : (n : ℕ) (x : Declared) (d : ConstDecl) → const_of x ≡ Some d → EntryBelow n x → ConstBelow n d
-const_part n (declared.Const c) d e h = subst (ConstBelow n) (same_Some c d e) h
+const_part n (declared.Const c m) d e h = subst (ConstBelow n) (same_Some c d e) h
 const_part n (declared.Program c) d e h = absurd (none-some d e)
 const_part n (declared.Rule c) d e h = absurd (none-some d e)
 const_part n (declared.Literal l t) d e h = absurd (none-some d e)
 
 program_part : (n : ℕ) (x : Declared) (d : ProgramDecl) → program_decl_of x ≡ Some d → EntryBelow n x → ProgramBelow n d
-program_part n (declared.Const c) d e h = absurd (none-some d e)
+program_part n (declared.Const c m) d e h = absurd (none-some d e)
 program_part n (declared.Program c) d e h = subst (ProgramBelow n) (same_Some c d e) h
 program_part n (declared.Rule c) d e h = absurd (none-some d e)
 program_part n (declared.Literal l t) d e h = absurd (none-some d e)
 
 rule_part : (n : ℕ) (x : Declared) (d : RuleDecl) → rule_decl_of x ≡ Some d → EntryBelow n x → RuleBelow n d
-rule_part n (declared.Const c) d e h = absurd (none-some d e)
+rule_part n (declared.Const c m) d e h = absurd (none-some d e)
 rule_part n (declared.Program c) d e h = absurd (none-some d e)
 rule_part n (declared.Rule c) d e h = subst (RuleBelow n) (same_Some c d e) h
 rule_part n (declared.Literal l t) d e h = absurd (none-some d e)
 
 literal_part : (l : LiteralClass) (n : ℕ) (x : Declared) (t : ℕ) → literal_id l x ≡ Some t → EntryBelow n x → t < n
-literal_part l n (declared.Const c) t e h = absurd (none-some t e)
+literal_part l n (declared.Const c m) t e h = absurd (none-some t e)
 literal_part l n (declared.Program c) t e h = absurd (none-some t e)
 literal_part l n (declared.Rule c) t e h = absurd (none-some t e)
 literal_part l n (declared.Literal k u) t e h = by (sig.is_same_class l k) e
@@ -170,6 +189,80 @@ rule_read ts k i d p = ap (λ cs. slice_get cs i) (rules_read ts k.entries) ∙ 
 
 pub macro_read : (ts : List Tree) (k : Kept) (i : ℕ) (d : MacroDecl) → slice_get k.macros i ≡ Some d → slice_get (macros ts k) i ≡ Some (read_macro ts d)
 macro_read ts k i d p = slice_get-map (read_macro ts) k.macros i ∙ ap (option_map (read_macro ts)) p
+
+-- No tree plays a part in the look-ups of constants by name.
+
+any-map : {X Y : Type 0} (p : Y → Bool) (f : X → Y) (xs : List X) → list_any (λ x. p (f x)) xs ≡ list_any p (map f xs)
+any-map p f [] = refl
+any-map p f (x ∷ xs) = ap (λ b. p (f x) || b) (any-map p f xs)
+
+module _ (ts : List Tree) (es : List Declared) where
+  abbrev here : sig.Signature
+  here = map (read_entry ts) es
+
+  abbrev bare : sig.Signature
+  bare = map (read_entry []) es
+
+  pub named_anywhere : (w : List ℕ) → sig.constant_named here w ≡ sig.constant_named bare w
+  named_anywhere w = position_same (bytes_eq w) (λ (c : sig.Constant). c.name) (λ (c : sig.Constant). c.name) (sig.constants here) (sig.constants bare) (constant_names ts es ∙ sym (constant_names [] es))
+
+  same_keys : map key_of (sig.counted here) ≡ map key_of (sig.counted bare)
+  same_keys = counted_keys ts es ∙ sym (counted_keys [] es)
+
+  pub taking_anywhere : (w : List ℕ) (n : ℕ) → sig.constant_taking here w n ≡ sig.constant_taking bare w n
+  taking_anywhere w n = position_same (λ (k : List ℕ × sig.Counts). bytes_eq w k.0 && sig.takes k.1 n) key_of key_of (sig.counted here) (sig.counted bare) same_keys
+
+  pub met_anywhere : (w : List ℕ) (m : sig.Counts) → is_met here w m ≡ is_met bare w m
+  met_anywhere w m =
+      let p = λ (k : List ℕ × sig.Counts). bytes_eq w k.0 && sig.meet k.1 m in
+      any-map p key_of (sig.counted here) ∙ ap (list_any p) same_keys ∙ sym (any-map p key_of (sig.counted bare))
+
+  pub apart_anywhere : (w : List ℕ) (m : sig.Counts) → sig.is_apart here w m ≡ sig.is_apart bare w m
+  apart_anywhere w m = ap not (met_anywhere w m)
+
+-- ---- constants by number
+
+-- as many as there are with what they take
+pub bare_count : (ts : List Tree) (k : Kept) → length (sig.constants (signature ts k)) ≡ length (constants_of k)
+bare_count ts k = ap length (constants_read ts k.entries) ∙ length-map (constants_of k) (read_constant ts)
+
+pub places_count : (es : List Declared) (places : List ℕ) → IsPlaces es places → length places ≡ length (filter_map const_of es)
+places_count es places h =
+    sym (length-map places (λ p. ([], p))) ∙ numbers counted_decl_of (λ (q : ConstDecl × Counts). []) es (map (λ p. ([], p)) places) h
+    ∙ sym (length-map (filter_map counted_decl_of es) (λ (q : ConstDecl × Counts). q.0)) ∙ sym (ap length (decls_of es))
+
+-- the constant at a place, with what it takes
+abbrev pub AtPlace : List Declared → ℕ → Declared → Type 0
+AtPlace es n x = (q : ConstDecl × Counts) × (counted_decl_of x ≡ Some q) × (slice_get (filter_map counted_decl_of es) n ≡ Some q)
+
+pub place_in : (es : List Declared) (places : List ℕ) (n p : ℕ) → IsPlaces es places → slice_get places n ≡ Some p → p < length es
+place_in es places n p h e =
+    let r = numbered counted_decl_of (λ (q : ConstDecl × Counts). []) es (map (λ p. ([], p)) places) n ([], p) h (slice_get-map (λ p. ([], p)) places n ∙ ap (option_map (λ p. ([], p))) e) in
+    slice_get_within es p r.0 r.2
+
+pub at_place : (es : List Declared) (places : List ℕ) (n p : ℕ) (x : Declared) → IsPlaces es places → slice_get places n ≡ Some p → x ≡ get_or es p x → AtPlace es n x
+at_place es places n p x h e g =
+    numbered_here counted_decl_of (λ (q : ConstDecl × Counts). []) es (map (λ p. ([], p)) places) n ([], p) x h (slice_get-map (λ p. ([], p)) places n ∙ ap (option_map (λ p. ([], p))) e) g
+
+pub const_at : (es : List Declared) (n : ℕ) (x : Declared) (a : AtPlace es n x) → (const_of x ≡ Some a.0.0) × (slice_get (filter_map const_of es) n ≡ Some a.0.0)
+const_at es n x a = (as_const x a.0 a.1, ap (λ ds. slice_get ds n) (decls_of es) ∙ slice_get-map (λ (q : ConstDecl × Counts). q.0) (filter_map counted_decl_of es) n ∙ ap (option_map (λ (q : ConstDecl × Counts). q.0)) a.2)
+  where
+    as_const : (x : Declared) (q : ConstDecl × Counts) → counted_decl_of x ≡ Some q → const_of x ≡ Some q.0
+    as_const (declared.Const d n) q e = ap (option_map (λ (q : ConstDecl × Counts). q.0)) e
+    as_const (declared.Program d) q e = absurd (none-some q e)
+    as_const (declared.Rule d) q e = absurd (none-some q e)
+    as_const (declared.Literal l t) q e = absurd (none-some q e)
+
+keyed : (o : Option (sig.Constant × sig.Counts)) → option_map (λ (d : sig.Constant × sig.Counts). d.1) o ≡ option_map (λ (k : List ℕ × sig.Counts). k.1) (option_map key_of o)
+keyed None = refl
+keyed (Some d) = refl
+
+pub counts_read : (es : List Declared) (n : ℕ) (x : Declared) (a : AtPlace es n x) → counts_at (map (read_entry []) es) n ≡ Some (read_counts a.0.1)
+counts_read es n x a =
+    keyed (slice_get (sig.counted (map (read_entry []) es)) n)
+    ∙ sym (ap (option_map (λ (k : List ℕ × sig.Counts). k.1)) (slice_get-map key_of (sig.counted (map (read_entry []) es)) n))
+    ∙ ap (λ (ks : List (List ℕ × sig.Counts)). option_map (λ (k : List ℕ × sig.Counts). k.1) (slice_get ks n)) (counted_keys [] es)
+    ∙ ap (option_map (λ (k : List ℕ × sig.Counts). k.1)) (slice_get-map (λ (q : ConstDecl × Counts). (q.0.name, read_counts q.1)) (filter_map counted_decl_of es) n ∙ ap (option_map (λ (q : ConstDecl × Counts). (q.0.name, read_counts q.1))) a.2)
 
 -- a free name is nobody's
 

@@ -18,7 +18,7 @@ use Rattle.eo_sig.specs.declared.records.RuleDecl.{RuleDecl}
 use Rattle.eo_sig.specs.declared.records.Declared.{Declared}
 use Rattle.eo_sig.specs.declared.records.Declared.TheVariants as declared
 use Rattle.eo_sig.specs.Signature as sig
-use Rattle.eo_sig.specs.Reading.{Kept, signature, macros, read_parameter, read_attribute, read_constant, read_macro, read_case, read_program, read_premises, read_pair, read_rule, read_entry, AttributeBelow, ConstBelow, MacroBelow, CaseBelow, ProgramBelow, PremisesBelow, SomeBelow, RuleBelow, EntryBelow, IsBelow, Stays}
+use Rattle.eo_sig.specs.Reading.{Kept, signature, macros, read_parameter, read_attribute, read_constant, read_counts, read_macro, read_case, read_program, read_premises, read_pair, read_rule, read_entry, AttributeBelow, ConstBelow, MacroBelow, CaseBelow, ProgramBelow, PremisesBelow, SomeBelow, RuleBelow, EntryBelow, IsBelow, Stays}
 
 map_same : {X Y : Type 0} (P : X → Type 0) (f g : X → Y) → ((x : X) → P x → f x ≡ g x) → (xs : List X) → All P xs → map f xs ≡ map g xs
 map_same P f g e [] h = refl
@@ -80,7 +80,7 @@ module _ (n : ℕ) (ts us : List Tree) (s : SameTrees n ts us) where
       λ i. record { name = d.name; parameters = p i; assumed = o i; premises = q i; arguments = a i; requirements = r i; conclusion = s.at d.conclusion h.conclusion i; sorry = d.sorry }
 
   entry_same : (x : Declared) → EntryBelow n x → read_entry us x ≡ read_entry ts x
-  entry_same (declared.Const d) h = ap sig.IsConstant (constant_same d h)
+  entry_same (declared.Const d n) h = ap (λ c. sig.IsConstant c (read_counts n)) (constant_same d h)
   entry_same (declared.Program d) h = ap sig.IsProgram (program_same d h)
   entry_same (declared.Rule d) h = ap sig.IsRule (rule_same d h)
   entry_same (declared.Literal l t) h = ap (sig.IsLiteralType l) (s.at t h)
@@ -132,7 +132,7 @@ rule_more n m l d h = record {
 }
 
 entry_more : (n m : ℕ) → n ≤ m → (x : Declared) → EntryBelow n x → EntryBelow m x
-entry_more n m l (declared.Const d) h = record { params = params_more n m l d.params h.params; type = omega (arith, h.type); attribute = attribute_more n m l d.attribute h.attribute }
+entry_more n m l (declared.Const d c) h = record { params = params_more n m l d.params h.params; type = omega (arith, h.type); attribute = attribute_more n m l d.attribute h.attribute }
 entry_more n m l (declared.Program d) h = record {
   params = params_more n m l d.params h.params;
   inputs = ids_more n m l d.inputs h.inputs;

@@ -1,4 +1,4 @@
--- What the answers of checks tell.
+-- What the results of checks say.
 use Rattle.std.proofs.Common.{◌≡◌, Bool, true, false, Option, None, Some, sym, subst, ◌∙◌}
 use Rattle.std.specs.Prelude.{Result, Ok, Err}
 use Rattle.std.specs.Result.{IsErrAnd}
@@ -26,7 +26,7 @@ module _ (r : Result (Unit {0}) SigRefused) (f : Option FaultName) (h : Tells r 
   pub no_fault : (x : Unit {0}) → r ≡ Ok x → f ≡ None
   no_fault x e = subst (λ (s : Result (Unit {0}) SigRefused). Tells s f) e h
 
-  -- a refusal of a check tells the same for what was to be declared
+  -- a refusal of a check says the same for what was to be declared
   pub tells_refused : {X : Type 0} (s : Result X SigRefused) (e : SigRefused) → r ≡ Err e → IsErrAnd s (λ x. x ≡ e) → Tells s f
   tells_refused {X} s e g q = at_exit (λ (s : Result X SigRefused). Tells s f) s e q (by e (subst (λ (s : Result (Unit {0}) SigRefused). Tells s f) g h))
     where

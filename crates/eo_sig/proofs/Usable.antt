@@ -73,10 +73,10 @@ holds : (a b : Bool) → sig.first_wrong a b ≡ None → a ≡ true
 holds true b e = refl
 holds false b e = absurd (none-some _ (sym e))
 
-pub usable_constant : (S : Signature) (c : Constant) → IsUsable S → sig.constant_fault c ≡ None → IsUsable (S ++ sig.IsConstant c ∷ [])
-usable_constant S c h e =
+pub usable_constant : (S : Signature) (c : Constant) (m : sig.Counts) → IsUsable S → sig.constant_fault c ≡ None → IsUsable (S ++ sig.IsConstant c m ∷ [])
+usable_constant S c m h e =
     let may = (and_parts _ _ (and_parts _ _ (holds _ _ e)).1).1 in
-    usable_more S (sig.IsConstant c) h (record {
+    usable_more S (sig.IsConstant c m) h (record {
       terminator = λ d n p t. folds c.attribute n may (ap (λ (q : Constant). sig.terminator_of q.attribute) (same_Some c d p) ∙ t);
       ordered = λ r p. absurd (none-some r p);
     })

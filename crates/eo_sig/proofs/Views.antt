@@ -1,10 +1,8 @@
--- What is declared where a term stands.
-use Rattle.std.proofs.Common.{◌≡◌, ℕ, suc, ◌+◌, ◌<◌, Bool, true, false, not, List, [], ◌∷◌, ◌++◌, length, refl, ap, sym, subst, ◌∙◌, cond, arith}
-use Rattle.std.specs.Prelude.{Option, Some, None, option_map, IfSome, bytes_eq, nat_lt, position, slice_get, if◌then◌else◌}
-use Rattle.std.specs.List.{position_or_len}
+-- What is declared at the place of a term.
+use Rattle.std.proofs.Common.{◌≡◌, ℕ, ◌+◌, ◌<◌, Bool, true, false, ◌&&◌, List, [], ◌∷◌, ◌++◌, length, refl, ap, sym, subst, ◌∙◌, arith}
+use Rattle.std.specs.Prelude.{Option, Some, None, option_map, IfSome, bytes_eq, position, slice_get, if◌then◌else◌}
 use Rattle.std.specs.Option.{option_or}
 use Rattle.std.proofs.lemmas.List.{append-nil, length-append, length-map, map-append}
-use Rattle.std.proofs.lemmas.Bool.Decides.{nat_tests}
 use Rattle.std.proofs.lemmas.List.Elements.{filter_map-append}
 use Rattle.eo_base.proofs.Elements.{slice_get_left, slice_get_seam}
 use Rattle.eo_term.specs.Tree.{Tree}
@@ -16,6 +14,7 @@ use Rattle.eo_sig.specs.Signature as sig
 use Rattle.eo_sig.specs.Parts.{lookup_in}
 use Rattle.eo_sig.specs.Reading.{Kept, signature, macros, read_entry, read_program, read_named, const_of, program_decl_of, constants_of, programs_of, IsWithin}
 use Rattle.eo_sig.specs.Views.{with_own, own_entry}
+use Rattle.eo_sig.proofs.Positions.{position-push}
 use Rattle.eo_sig.proofs.Readings.{programs_read}
 
 -- ---- by number
@@ -33,7 +32,7 @@ programs_count ts k = ap length (programs_read ts k.entries) ∙ length-map (pro
 own_count : (k : Kept) (d : ProgramDecl) → length (programs_of (with_own k (Some d))) ≡ length (programs_of k) + 1
 own_count k d = ap length (own_programs k d) ∙ length-append (programs_of k) (d ∷ [])
 
--- the program behind the signature has the next number, and those before it have theirs
+-- the program after the signature has the next number, and those before it have theirs
 pub own_here : (k : Kept) (d : ProgramDecl) (n : ℕ) → n ≡ length (programs_of k) → slice_get (programs_of (with_own k (Some d))) n ≡ Some d
 own_here k d n e = (λ i. slice_get (own_programs k d i) (e i)) ∙ slice_get_seam (programs_of k) d []
 
@@ -45,39 +44,6 @@ pub own_less : (k : Kept) (d : ProgramDecl) (n : ℕ) → n < length (programs_o
 own_less k d n h differs = let count = own_count k d in omega (arith, h, count, differs)
 
 -- ---- by name
-
-lt-suc : (n m : ℕ) → nat_lt (suc n) (suc m) ≡ nat_lt n m
-lt-suc n m = grind (arith, nat_tests)
-
-one_more : (n : ℕ) → 1 + n ≡ suc n
-one_more n = omega arith
-
-lt-zero : (n : ℕ) → nat_lt 0 (suc n) ≡ true
-lt-zero n = grind (arith, nat_tests)
-
-module _ {X : Type 0} (p : X → Bool) where
-  position-cons : (x : X) (xs : List X) → position p (x ∷ xs) ≡ cond (p x) (Some 0) (option_map suc (position p xs))
-  position-cons x xs = by (p x)
-    where
-      less : (b : Bool) → cond b (Some (suc (position_or_len p xs))) None ≡ option_map suc (cond b (Some (position_or_len p xs)) None)
-      less true = refl
-      less false = refl
-
-      by : (b : Bool) → cond (nat_lt (cond (not b) (1 + position_or_len p xs) 0) (suc (length xs))) (Some (cond (not b) (1 + position_or_len p xs) 0)) None ≡ cond b (Some 0) (option_map suc (position p xs))
-      by true = ap (λ b. cond b (Some 0) None) (lt-zero (length xs))
-      by false = (λ i. cond (nat_lt (one_more (position_or_len p xs) i) (suc (length xs))) (Some (one_more (position_or_len p xs) i)) None) ∙ ap (λ b. cond b (Some (suc (position_or_len p xs))) None) (lt-suc (position_or_len p xs) (length xs)) ∙ less (nat_lt (position_or_len p xs) (length xs))
-
-  position-push : (xs : List X) (y : X) → position p (xs ++ y ∷ []) ≡ option_or (position p xs) (if p y then Some (length xs) else None)
-  position-push [] y = position-cons y []
-  position-push (x ∷ xs) y =
-      position-cons x (xs ++ y ∷ []) ∙ ap (λ o. cond (p x) (Some 0) (option_map suc o)) (position-push xs y) ∙ by (p x) (position p xs) (p y)
-      ∙ ap (λ o. option_or o (if p y then Some (suc (length xs)) else None)) (sym (position-cons x xs))
-    where
-      by : (b : Bool) (o : Option ℕ) (c : Bool) → cond b (Some 0) (option_map suc (option_or o (if c then Some (length xs) else None))) ≡ option_or (cond b (Some 0) (option_map suc o)) (if c then Some (suc (length xs)) else None)
-      by true o c = refl
-      by false (Some n) c = refl
-      by false None true = refl
-      by false None false = refl
 
 module _ (ts : List Tree) (k : Kept) (name : List ℕ) where
   -- what a signature and then another program give
@@ -109,6 +75,24 @@ module _ (ts : List Tree) (k : Kept) (name : List ℕ) where
       ∙ ap (λ o. option_or (option_map sig.NamesConstant (sig.constant_named S name)) (option_or (option_map sig.NamesMacro (sig.macro_named (macros ts k) name)) (option_map sig.NamesProgram o))) (position-push (λ (q : sig.Program). bytes_eq name q.name) (sig.programs S) p)
       ∙ either (sig.constant_named S name) (sig.macro_named (macros ts k) name) (sig.program_named S name) (if bytes_eq name d.name then Some (length (sig.programs S)) else None)
       ∙ ap (option_or (sig.lookup S (macros ts k) name)) (by_number (bytes_eq name d.name) (length (sig.programs S)) n number)
+
+  -- the same before m arguments
+  pub own_lookup_count : (m : ℕ) (o : Option ProgramDecl) (n : ℕ) → length (programs_of k) ≡ n
+      → sig.lookup_count (signature ts (with_own k o)) (macros ts (with_own k o)) name m ≡ option_or (sig.lookup_count (signature ts k) (macros ts k) name m) (option_map read_named (own_entry o n name))
+  own_lookup_count m None n e = none-behind (sig.lookup_count (signature ts k) (macros ts k) name m)
+  own_lookup_count m (Some d) n e =
+      let S = signature ts k in
+      let p = read_program ts d in
+      let whole : signature ts (with_own k (Some d)) ≡ S ++ sig.IsProgram p ∷ [] = map-append (read_entry ts) k.entries (declared.Program d ∷ []) in
+      let constants : sig.constants (S ++ sig.IsProgram p ∷ []) ≡ sig.constants S = filter_map-append sig.constant_of S (sig.IsProgram p ∷ []) ∙ append-nil (sig.constants S) in
+      let counted : sig.counted (S ++ sig.IsProgram p ∷ []) ≡ sig.counted S = filter_map-append sig.counted_of S (sig.IsProgram p ∷ []) ∙ append-nil (sig.counted S) in
+      let programs : sig.programs (S ++ sig.IsProgram p ∷ []) ≡ sig.programs S ++ p ∷ [] = filter_map-append sig.program_of S (sig.IsProgram p ∷ []) in
+      let number : length (sig.programs S) ≡ n = programs_count ts k ∙ e in
+      ap (λ T. sig.lookup_count T (macros ts k) name m) whole
+      ∙ (λ i. option_or (option_map sig.NamesConstant (option_or (position (λ (q : sig.Constant × sig.Counts). bytes_eq name q.0.name && sig.takes q.1 m) (counted i)) (position (λ (c : sig.Constant). bytes_eq name c.name) (constants i)))) (option_or (option_map sig.NamesMacro (sig.macro_named (macros ts k) name)) (option_map sig.NamesProgram (position (λ (q : sig.Program). bytes_eq name q.name) (programs i)))))
+      ∙ ap (λ o. option_or (option_map sig.NamesConstant (sig.constant_for S name m)) (option_or (option_map sig.NamesMacro (sig.macro_named (macros ts k) name)) (option_map sig.NamesProgram o))) (position-push (λ (q : sig.Program). bytes_eq name q.name) (sig.programs S) p)
+      ∙ either (sig.constant_for S name m) (sig.macro_named (macros ts k) name) (sig.program_named S name) (if bytes_eq name d.name then Some (length (sig.programs S)) else None)
+      ∙ ap (option_or (sig.lookup_count S (macros ts k) name m)) (by_number (bytes_eq name d.name) (length (sig.programs S)) n number)
 
 pub within_before : (k : Kept) (o : Option ProgramDecl) (e : code_entry.Entry) → IsWithin k e → IsWithin (with_own k o) e
 within_before k None e h = h

@@ -8,3 +8,5 @@ pub mod Usable
 pub mod Growth
 pub mod Views
 pub mod Adding
+pub mod Indexed
+pub mod Overloads

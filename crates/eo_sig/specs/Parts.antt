@@ -25,7 +25,7 @@ abbrev pub Solves : Terms → List Param → ℕ → ℕ → Type 0
 Solves t ps old new =
     (patterns : List Tree) → ((j : ℕ) → has old j ≡ occurs_in j patterns) → (j : ℕ) → has new j ≡ known patterns 0 (parameters_in t ps) j
 
--- what a name stands for
+-- what a name means
 abbrev pub lookup_in : List Tree → Kept → List ℕ → Option Named
 lookup_in ts k name = lookup (signature ts k) (macros ts k) name
 

@@ -17,7 +17,9 @@ use Rattle.eo_sig.specs.declared.records.Entry as code_entry
 use Rattle.eo_sig.specs.declared.records.Entry.TheVariants as names
 use Rattle.eo_sig.specs.declared.records.Declared.{Declared}
 use Rattle.eo_sig.specs.declared.records.Declared.TheVariants as declared
-use Rattle.eo_sig.specs.Signature.{Parameter, Attribute, Plain, RightNil, LeftNil, Right, Left, Chain, Pairs, Binder, Constant, Macro, Case, Program, PremiseShape, Each, Joined, Rule, SignatureEntry, IsConstant, IsProgram, IsRule, IsLiteralType, Signature, Named, NamesConstant, NamesMacro, NamesProgram, is_free, is_free_rule}
+use Rattle.eo_sig.specs.declared.records.Counts as code_counts
+use Rattle.eo_sig.specs.declared.records.Counts.TheVariants as counts
+use Rattle.eo_sig.specs.Signature.{Parameter, Attribute, Plain, RightNil, LeftNil, Right, Left, Chain, Pairs, Binder, Constant, Counts, Exactly, From, Macro, Case, Program, PremiseShape, Each, Joined, Rule, SignatureEntry, IsConstant, IsProgram, IsRule, IsLiteralType, Signature, Named, NamesConstant, NamesMacro, NamesProgram, counts_of, is_free, is_free_rule}
 
 -- What a signature keeps: the declarations in order, and beside them the macros in order.
 pub record Kept : Type 0 where
@@ -47,6 +49,18 @@ read_constant ts d = record {
   attribute = read_attribute ts d.attribute;
   from_reference = d.from_reference;
 }
+
+abbrev pub read_counts : code_counts.Counts → Counts
+read_counts (counts.Exactly k) = Exactly k
+read_counts (counts.From k) = From k
+
+abbrev pub write_counts : Counts → code_counts.Counts
+write_counts (Exactly k) = counts.Exactly k
+write_counts (From k) = counts.From k
+
+-- the numbers of arguments that a constant takes
+abbrev pub counts_in : List Tree → ConstDecl → code_counts.Counts
+counts_in ts d = write_counts (counts_of (read_constant ts d))
 
 abbrev pub read_macro : List Tree → MacroDecl → Macro
 read_macro ts d = record {
@@ -88,7 +102,7 @@ read_rule ts d = record {
 }
 
 abbrev pub read_entry : List Tree → Declared → SignatureEntry
-read_entry ts (declared.Const d) = IsConstant (read_constant ts d)
+read_entry ts (declared.Const d n) = IsConstant (read_constant ts d) (read_counts n)
 read_entry ts (declared.Program d) = IsProgram (read_program ts d)
 read_entry ts (declared.Rule d) = IsRule (read_rule ts d)
 read_entry ts (declared.Literal l t) = IsLiteralType l (tree_at ts t)
@@ -152,7 +166,7 @@ pub record RuleBelow (n : ℕ) (d : RuleDecl) : Type 0 where
   pub conclusion : d.conclusion < n
 
 abbrev pub EntryBelow : ℕ → Declared → Type 0
-EntryBelow n (declared.Const d) = ConstBelow n d
+EntryBelow n (declared.Const d c) = ConstBelow n d
 EntryBelow n (declared.Program d) = ProgramBelow n d
 EntryBelow n (declared.Rule d) = RuleBelow n d
 EntryBelow n (declared.Literal l t) = t < n
@@ -165,19 +179,19 @@ pub record IsBelow (n : ℕ) (k : Kept) : Type 0 where
 -- by kind
 
 abbrev pub const_of : Declared → Option ConstDecl
-const_of (declared.Const d) = Some d
+const_of (declared.Const d n) = Some d
 const_of (declared.Program d) = None
 const_of (declared.Rule d) = None
 const_of (declared.Literal l t) = None
 
 abbrev pub program_decl_of : Declared → Option ProgramDecl
-program_decl_of (declared.Const d) = None
+program_decl_of (declared.Const d n) = None
 program_decl_of (declared.Program d) = Some d
 program_decl_of (declared.Rule d) = None
 program_decl_of (declared.Literal l t) = None
 
 abbrev pub rule_decl_of : Declared → Option RuleDecl
-rule_decl_of (declared.Const d) = None
+rule_decl_of (declared.Const d n) = None
 rule_decl_of (declared.Program d) = None
 rule_decl_of (declared.Rule d) = Some d
 rule_decl_of (declared.Literal l t) = None
@@ -202,7 +216,7 @@ IsWithin k (names.Program n) = n < length (programs_of k)
 abbrev pub with_entry : Declared → Kept → Kept
 with_entry x k = record { entries = k.entries ++ x ∷ []; macros = k.macros }
 
--- a declaration that is added comes behind those that are kept; a refused call changes nothing
+-- a declaration that is added comes after those that are kept; a refused call changes nothing
 abbrev pub Enters : {X E : Type 0} → Result X E → Declared → (old new : Kept) → Type 0
 Enters (Ok x) d old new = new ≡ with_entry d old
 Enters (Err e) d old new = new ≡ old
@@ -236,7 +250,7 @@ IsFreeRule k name = is_free_rule (signature [] k) name ≡ true
 
 abbrev pub first_constant : List ℕ → ℕ → Declared
 first_constant name t =
-    declared.Const (record { name = name; params = []; ty = t; attribute = attribute.Plain; from_reference = false })
+    declared.Const (record { name = name; params = []; ty = t; attribute = attribute.Plain; from_reference = false }) (counts.Exactly 0)
 
 abbrev pub first_kept : Kept
 first_kept = record {

@@ -1,5 +1,5 @@
 -- A signature: the kinds of declarations and their parts, looking them up by number or by name, and what a declaration may hold.
-use Rattle.std.specs.Prelude.{◌≡◌, ℕ, suc, Bool, true, false, not, ◌&&◌, ◌||◌, if◌then◌else◌, nat_eq, nat_lt, bytes_eq, codes, List, [], ◌∷◌, ◌++◌, drop, Option, Some, None, is_some, is_none, option_map, option_and_then, option_to_list, slice_get, filter_map, position}
+use Rattle.std.specs.Prelude.{◌≡◌, ℕ, suc, Bool, true, false, not, ◌&&◌, ◌||◌, ◌==◌, if◌then◌else◌, nat_eq, nat_lt, nat_le, bytes_eq, codes, List, [], ◌∷◌, ◌++◌, drop, length, Option, Some, None, is_some, is_none, option_map, option_and_then, option_to_list, slice_get, filter_map, position}
 use Rattle.std.specs.List.{list_all, list_any, starts_with}
 use Rattle.std.specs.Option.{option_or}
 use Rattle.eo_base.specs.declared.FaultName.{FaultName}
@@ -35,6 +35,11 @@ pub record Constant : Type 0 where
   pub attribute : Attribute
   pub from_reference : Bool
 
+-- The numbers of arguments that a constant takes: one, or all from one on.
+pub data Counts : Type 0 where
+  Exactly : (count : ℕ) → Counts
+  From : (least : ℕ) → Counts
+
 -- A name for a tree, in which its parameters are open.
 pub record Macro : Type 0 where
   pub name : List ℕ
@@ -69,35 +74,42 @@ pub record Rule : Type 0 where
   pub sorry : Bool
 
 pub data SignatureEntry : Type 0 where
-  IsConstant : (constant : Constant) → SignatureEntry
+  IsConstant : (constant : Constant) (counts : Counts) → SignatureEntry
   IsProgram : (program : Program) → SignatureEntry
   IsRule : (rule : Rule) → SignatureEntry
   IsLiteralType : (class : LiteralClass) (type : Tree) → SignatureEntry
 
--- What is declared, in order of declaration. Constants, programs and rules are each numbered from 0 in that order.
+-- What is declared, in order of declaration. Constants, programs and rules are each numbered from 0 in that order. Constants may share a name where no number of arguments is taken by two of them.
 abbrev pub Signature : Type 0
 Signature = List SignatureEntry
 
--- a signature as it stood when only its first entries were declared
+-- a signature as it was when only its first entries were declared
 abbrev pub IsStage : Signature → Signature → Type 0
 IsStage stage S = (later : Signature) × (S ≡ stage ++ later)
 
 -- Look-ups, each through the list from its front.
 
 abbrev pub constant_of : SignatureEntry → Option Constant
-constant_of (IsConstant c) = Some c
+constant_of (IsConstant c n) = Some c
 constant_of (IsProgram p) = None
 constant_of (IsRule r) = None
 constant_of (IsLiteralType l t) = None
 
+-- a constant with the numbers of arguments that it takes
+abbrev pub counted_of : SignatureEntry → Option (Constant × Counts)
+counted_of (IsConstant c n) = Some (c, n)
+counted_of (IsProgram p) = None
+counted_of (IsRule r) = None
+counted_of (IsLiteralType l t) = None
+
 abbrev pub program_of : SignatureEntry → Option Program
-program_of (IsConstant c) = None
+program_of (IsConstant c n) = None
 program_of (IsProgram p) = Some p
 program_of (IsRule r) = None
 program_of (IsLiteralType l t) = None
 
 abbrev pub rule_of : SignatureEntry → Option Rule
-rule_of (IsConstant c) = None
+rule_of (IsConstant c n) = None
 rule_of (IsProgram p) = None
 rule_of (IsRule r) = Some r
 rule_of (IsLiteralType l t) = None
@@ -109,13 +121,16 @@ is_same_class String String = true
 is_same_class _ _ = false
 
 abbrev pub literal_type_of : LiteralClass → SignatureEntry → Option Tree
-literal_type_of class (IsConstant c) = None
+literal_type_of class (IsConstant c n) = None
 literal_type_of class (IsProgram p) = None
 literal_type_of class (IsRule r) = None
 literal_type_of class (IsLiteralType l t) = if is_same_class class l then Some t else None
 
 abbrev pub constants : Signature → List Constant
 constants S = filter_map constant_of S
+
+abbrev pub counted : Signature → List (Constant × Counts)
+counted S = filter_map counted_of S
 
 abbrev pub programs : Signature → List Program
 programs S = filter_map program_of S
@@ -133,11 +148,11 @@ program_at S k = slice_get (programs S) k
 abbrev pub rule_at : Signature → ℕ → Option Rule
 rule_at S k = slice_get (rules S) k
 
--- the type of a class of literals, in which parameter 0 stands for the literal
+-- the type of a class of literals, in which parameter 0 is the literal
 abbrev pub literal_type : Signature → LiteralClass → Option Tree
 literal_type S class = slice_get (filter_map (literal_type_of class) S) 0
 
--- by name, the number
+-- by name, the number; of several constants that of the first
 abbrev pub constant_named : Signature → List ℕ → Option ℕ
 constant_named S name = position (λ c. bytes_eq name c.name) (constants S)
 
@@ -150,15 +165,35 @@ rule_named S name = position (λ r. bytes_eq name r.name) (rules S)
 abbrev pub macro_named : List Macro → List ℕ → Option ℕ
 macro_named macros name = position (λ m. bytes_eq name m.name) macros
 
--- what a name stands for among constants, macros and programs, which share one space of names
+-- what a name means among constants, macros and programs, which share one space of names
 pub data Named : Type 0 where
   NamesConstant : (number : ℕ) → Named
   NamesMacro : (number : ℕ) → Named
   NamesProgram : (number : ℕ) → Named
 
+-- a macro or a program
+abbrev pub other_named : Signature → List Macro → List ℕ → Option Named
+other_named S macros name = option_or (option_map NamesMacro (macro_named macros name)) (option_map NamesProgram (program_named S name))
+
 abbrev pub lookup : Signature → List Macro → List ℕ → Option Named
-lookup S macros name =
-    option_or (option_map NamesConstant (constant_named S name)) (option_or (option_map NamesMacro (macro_named macros name)) (option_map NamesProgram (program_named S name)))
+lookup S macros name = option_or (option_map NamesConstant (constant_named S name)) (other_named S macros name)
+
+-- The same by name and number of arguments.
+
+abbrev pub takes : Counts → ℕ → Bool
+takes (Exactly k) n = n == k
+takes (From k) n = nat_le k n
+
+abbrev pub constant_taking : Signature → List ℕ → (arguments : ℕ) → Option ℕ
+constant_taking S name n = position (λ d. bytes_eq name d.0.name && takes d.1 n) (counted S)
+
+-- the constant of the name that takes so many arguments, and the first of the name where none does
+abbrev pub constant_for : Signature → List ℕ → (arguments : ℕ) → Option ℕ
+constant_for S name n = option_or (constant_taking S name n) (constant_named S name)
+
+-- what a name means as the head of so many arguments
+abbrev pub lookup_count : Signature → List Macro → List ℕ → (arguments : ℕ) → Option Named
+lookup_count S macros name n = option_or (option_map NamesConstant (constant_for S name n)) (other_named S macros name)
 
 -- names that cannot be declared
 abbrev pub reserved_names : List (List ℕ)
@@ -177,7 +212,7 @@ is_free_rule S name = not (is_reserved name) && is_none (rule_named S name)
 
 abbrev pub first_constant : List ℕ → Tree → SignatureEntry
 first_constant name type =
-    IsConstant (record { name = name; parameters = []; type = type; attribute = Plain; from_reference = false })
+    IsConstant (record { name = name; parameters = []; type = type; attribute = Plain; from_reference = false }) (Exactly 0)
 
 abbrev pub first_signature : Signature
 first_signature =
@@ -231,6 +266,41 @@ argument_types (Arr a b) = a ∷ argument_types b
 argument_types (Qar i t b) = t ∷ argument_types b
 argument_types (Op c ts) = []
 
+-- The numbers of arguments that a constant takes, by its attribute and by how many its type has.
+abbrev pub counts_by : Attribute → (arguments : ℕ) → Counts
+counts_by Plain k = Exactly k
+counts_by (RightNil n) k = From 1
+counts_by (LeftNil n) k = From 1
+counts_by Right k = From 2
+counts_by Left k = From 2
+counts_by (Chain g) k = From 2
+counts_by (Pairs g) k = From 2
+counts_by (Binder g) k = Exactly k
+
+abbrev pub counts_of : Constant → Counts
+counts_of c = counts_by c.attribute (length (argument_types c.type))
+
+-- whether some number is in both
+abbrev pub meet : Counts → Counts → Bool
+meet (Exactly k) m = takes m k
+meet (From k) (Exactly n) = nat_le k n
+meet (From k) (From n) = true
+
+-- Whether a constant may have the name: it is not reserved, and no macro and no program has it.
+abbrev pub may_name_constant : Signature → List Macro → List ℕ → Bool
+may_name_constant S macros name = not (is_reserved name) && is_none (other_named S macros name)
+
+-- whether no constant of the name takes one of these numbers of arguments
+abbrev pub is_apart : Signature → List ℕ → Counts → Bool
+is_apart S name counts = not (list_any (λ d. bytes_eq name d.0.name && meet d.1 counts) (counted S))
+
+-- whether a constant of the name may take these numbers of arguments
+abbrev pub is_free_as : Signature → List Macro → List ℕ → Counts → Bool
+is_free_as S macros name counts = may_name_constant S macros name && is_apart S name counts
+
+abbrev pub is_free_for : Signature → List Macro → Constant → Bool
+is_free_for S macros c = is_free_as S macros c.name (counts_of c)
+
 -- whether each implicit parameter of the list, whose first has number i, occurs in one of the types outside every operator
 abbrev pub implicit_occur : List Tree → ℕ → List Parameter → Bool
 implicit_occur types i [] = true
@@ -246,6 +316,10 @@ constant_may_hold c = may_be_type c.type && (may_type c.parameters && may_fold c
 
 abbrev pub constant_fault : Constant → Option FaultName
 constant_fault c = first_wrong (constant_may_hold c) (implicit_occur (argument_types c.type) 0 c.parameters)
+
+-- and whether it may have its name, which is asked last
+abbrev pub declare_fault : Signature → List Macro → Constant → Option FaultName
+declare_fault S macros c = option_or (constant_fault c) (if is_free_for S macros c then None else Some Redeclared)
 
 -- a class of literals gets one type
 abbrev pub literal_type_fault : Signature → LiteralClass → Tree → Option FaultName

@@ -1,4 +1,4 @@
--- What is declared where a term stands: a signature, and in the cases of a program that program behind it.
+-- What is declared at the place of a term: a signature, and in the cases of a program that program too, after all others.
 use Rattle.std.specs.Prelude.{ℕ, List, Option, Some, None, bytes_eq, if◌then◌else◌}
 use Rattle.eo_sig.specs.declared.records.Declared.TheVariants as declared
 use Rattle.eo_sig.specs.declared.records.Entry as code_entry

@@ -1,4 +1,4 @@
-//! Laws of signatures. A call costs nothing: it tells a proof what its clause says.
+//! Laws of signatures. A call costs nothing: it gives a proof what its clause says.
 ghost use Rattle.std.specs.Prelude.{◌≡◌, ◌≤◌, ℕ, length};
 ghost use Rattle.eo_term.specs.Terms.{Terms, Since};
 ghost use Rattle.eo_sig.specs.declared.records.RuleDecl.{RuleDecl};

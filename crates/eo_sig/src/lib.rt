@@ -5,8 +5,10 @@
 //! of that table, which the call's contract names by `signature trees kept`.
 #![tactic(auto)]
 
+mod counts;
 mod laws;
 mod ordering;
+mod overloads;
 mod patterns;
 mod records;
 mod refused;
@@ -19,8 +21,8 @@ pub use eo_lit::LiteralClass;
 pub use laws::{growth_law, longer_law};
 pub use ordering::are_ordered;
 pub use records::{
-    Attribute, Case, Cases, ConstDecl, Declaration, Declared, Entry, IdPairs, MacroDecl, Param,
-    Params, PremiseShape, ProgramDecl, RuleDecl,
+    Attribute, Case, Cases, ConstDecl, Counts, Declaration, Declared, Entry, IdPairs, MacroDecl,
+    Param, Params, PremiseShape, ProgramDecl, RuleDecl,
 };
 pub use refused::SigRefused;
 pub use reserved::is_reserved;

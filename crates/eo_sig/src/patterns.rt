@@ -107,13 +107,13 @@ pub(crate) fn rule_is_bound(table: &Table, d: &RuleDecl) -> bool
     requires { RuleBelow (length table.now.trees) d.now }
     ensures { result ≡ sig.rule_is_bound (read_rule table.now.trees d.now) }
 {
-    let solved = solved(table, d);
+    let solved = solved_params(table, d);
     pairs_use_only(table, &solved, d.requirements.as_slice())
         && table.uses_only(&solved, d.conclusion)
 }
 
 // The parameters of the rule that get a value.
-fn solved(table: &Table, d: &RuleDecl) -> ParamSet
+fn solved_params(table: &Table, d: &RuleDecl) -> ParamSet
     requires { RuleBelow (length table.now.trees) d.now }
     ensures { (j : ℕ) → has result j ≡ sig.is_solved (read_rule table.now.trees d.now) j }
 {

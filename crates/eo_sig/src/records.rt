@@ -1,9 +1,10 @@
 //! The records of declarations.
-ghost use Rattle.std.specs.Prelude.{◌≡◌, length};
+ghost use Rattle.std.specs.Prelude.{◌≡◌, length, option_map};
 ghost use Rattle.std.specs.Option.{option_copied};
 ghost use Rattle.eo_sig.specs.Signature.{constant_may_hold};
 ghost use Rattle.eo_sig.specs.Growth.{Lasts};
 ghost use Rattle.eo_sig.specs.Reading.{const_of, program_decl_of, rule_decl_of, read_constant, ConstBelow};
+ghost use Rattle.eo_sig.specs.Held.{counted_decl_of};
 
 use crate::LiteralClass;
 use crate::types::{may_fold, may_type};
@@ -19,7 +20,7 @@ pub struct Param {
     pub ty: Id,
     /// Whether it is not written as an argument, but follows from the types of those that are.
     pub implicit: bool,
-    /// Whether it stands for a list of arguments, spelled by a constant with a terminator.
+    /// Whether it represents a list of arguments, spelled by a constant with a terminator.
     pub list: bool,
 }
 
@@ -47,6 +48,15 @@ pub enum Attribute {
     Binder(usize),
 }
 
+/// The numbers of arguments that a constant takes.
+#[derive(Clone, Copy, Debug, PartialEq, Eq)]
+pub enum Counts {
+    /// This one.
+    Exactly(usize),
+    /// All from this one on.
+    From(usize),
+}
+
 /// A constant.
 #[derive(Debug, Drop)]
 pub struct ConstDecl {
@@ -63,7 +73,7 @@ pub struct ConstDecl {
 }
 
 impl ConstDecl {
-    /// It is the same constant where the table grows. A call costs nothing: it tells a proof this.
+    /// It is the same constant where the table grows. A call costs nothing: it gives a proof this fact.
     pub fn laws(&self)
         ensures { Lasts self.now }
     {
@@ -160,7 +170,7 @@ pub struct RuleDecl {
     pub sorry: bool,
 }
 
-/// What a name stands for among constants, macros and programs, by its number.
+/// What a name means among constants, macros and programs, by its number.
 #[derive(Clone, Copy, Debug, PartialEq, Eq)]
 pub enum Entry {
     /// A constant.
@@ -180,7 +190,7 @@ pub enum Declaration {
     Literal {
         /// The class.
         class: LiteralClass,
-        /// Its type, in which parameter 0 stands for the literal.
+        /// Its type, in which parameter 0 is the literal.
         ty: Id,
     },
     /// A macro.
@@ -194,8 +204,8 @@ pub enum Declaration {
 /// An entry of a signature's list: what is declared, apart from macros.
 #[derive(Debug, Drop)]
 pub enum Declared {
-    /// A constant.
-    Const(ConstDecl),
+    /// A constant, with the numbers of arguments that it takes.
+    Const(ConstDecl, Counts),
     /// A program.
     Program(ProgramDecl),
     /// A rule.
@@ -204,7 +214,7 @@ pub enum Declared {
     Literal {
         /// The class.
         class: LiteralClass,
-        /// Its type, in which parameter 0 stands for the literal.
+        /// Its type, in which parameter 0 is the literal.
         ty: Id,
     },
 }
@@ -215,7 +225,19 @@ impl Declared {
         ensures { option_copied result ≡ const_of self.now }
     {
         match self {
-            Declared::Const(d) => Some(d),
+            Declared::Const(d, _) => Some(d),
+            Declared::Program(_) => None,
+            Declared::Rule(_) => None,
+            Declared::Literal { .. } => None,
+        }
+    }
+
+    /// The numbers of arguments that it takes, if it is a constant.
+    pub(crate) fn as_counts(&self) -> Option<Counts>
+        ensures { result ≡ option_map (λ q. q.1) (counted_decl_of self.now) }
+    {
+        match self {
+            Declared::Const(_, counts) => Some(*counts),
             Declared::Program(_) => None,
             Declared::Rule(_) => None,
             Declared::Literal { .. } => None,
@@ -227,7 +249,7 @@ impl Declared {
         ensures { option_copied result ≡ program_decl_of self.now }
     {
         match self {
-            Declared::Const(_) => None,
+            Declared::Const(_, _) => None,
             Declared::Program(d) => Some(d),
             Declared::Rule(_) => None,
             Declared::Literal { .. } => None,
@@ -239,7 +261,7 @@ impl Declared {
         ensures { option_copied result ≡ rule_decl_of self.now }
     {
         match self {
-            Declared::Const(_) => None,
+            Declared::Const(_, _) => None,
             Declared::Program(_) => None,
             Declared::Rule(d) => Some(d),
             Declared::Literal { .. } => None,

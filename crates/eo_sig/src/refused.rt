@@ -15,7 +15,7 @@ pub enum SigRefused {
     /// can give a value.
     #[error("a parameter is not bound")]
     UnboundParam,
-    /// Want of memory.
+    /// Out of memory.
     #[error("out of memory")]
     Memory(#[from(alloc)] AllocError),
 }

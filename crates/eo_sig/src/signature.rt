@@ -1,4 +1,4 @@
-//! The signature: how it is kept, and what its names stand for.
+//! The signature: how it is kept, and what its names mean.
 ghost use Rattle.std.specs.Prelude.{◌≡◌, ℕ, ◌<◌, ◌≤◌, List, [], length, take, true, None, IfOk, IfSome, OnOk, option_map};
 ghost use Rattle.eo_term.specs.Tree.{Tree};
 ghost use Rattle.eo_term.specs.Terms.{first_trees};
@@ -14,9 +14,11 @@ mod counting;
 mod declaring;
 mod keeping;
 mod numbered;
+mod overloaded;
 
-use crate::{Attribute, ConstDecl, Declared, Entry, MacroDecl, Params, is_reserved};
-use eo_base::{Name, NameRef, both};
+use crate::overloads::Overloads;
+use crate::{Attribute, ConstDecl, Counts, Declared, Entry, MacroDecl, Params, is_reserved};
+use eo_base::{Name, NameRef, ok_with};
 use eo_term::{BOOL, Id, TYPE};
 use indexmap::IndexMap;
 use std::alloc::{AllocError, Global};
@@ -50,8 +52,12 @@ impl Model for SigMark {
 pub struct Signature {
     alloc: Global,
     entries: Vec<Declared>,
+    // The places of the constants in `entries`, by number.
+    constants: Vec<usize>,
+    // By name the number of the first constant of that name.
+    firsts: Named<usize>,
+    overloads: Overloads,
     // By name the places in `entries`, in order: the place in the map is the number.
-    constants: Named<usize>,
     programs: Named<usize>,
     rules: Named<usize>,
     macros: Named<MacroDecl>,
@@ -64,13 +70,14 @@ impl Model for Signature {
     ghost use Rattle.std.specs.Prelude.{map};
     ghost use Rattle.eo_sig.specs.Reading.{Kept};
     ghost use Rattle.eo_sig.specs.Held.{IsKept};
+    ghost use Rattle.eo_sig.specs.Overloads.{tables_of};
 
     ghost Value = { Kept };
 
     ghost view = { λ a. record { entries = a.entries.items; macros = map (λ e. e.1) a.macros.entries } };
 
-    ghost invariant = { λ a. IsKept a.entries.items a.constants.entries a.programs.entries a.rules.entries a.macros.entries
-        a.numeral a.binary a.string };
+    ghost invariant = { λ a. IsKept a.entries.items a.constants.items (tables_of a.firsts.entries a.overloads)
+        a.programs.entries a.rules.entries a.macros.entries a.numeral a.binary a.string };
 }
 
 impl Signature {
@@ -84,31 +91,48 @@ impl Signature {
         ensures below { IfOk result (λ s. IsBelow 4 s) }
     {
         let mut s = Signature::empty(alloc);
-        let ((), s) = both(s.keep_constants(), s)?;
+        let ((), s) = ok_with(s.keep_constants(), s)?;
         Ok(s)
     }
 
-    /// It stays what it is where the table grows. A call costs nothing: it tells a proof this.
+    /// It stays what it is where the table grows. A call costs nothing: it gives a proof this fact.
     pub fn laws(&self)
         ensures { StaysUnder self.now }
     {
         let _count = self.entries.len();
     }
 
-    /// What the name stands for among constants, macros and programs, which share one space of
-    /// names.
+    /// What the name means among constants, macros and programs, which share one space of
+    /// names. Of several constants it is the first.
     pub fn lookup(&self, name: &[u8]) -> Option<Entry>
         ensures named { (ts : List Tree) → option_map read_named result ≡ lookup_in ts self.now name.now }
         ensures within { IfSome result (λ e. IsWithin self.now e) }
     {
-        match self.constants.get_index_of(NameRef(name)) {
+        match self.first_named(name) {
             Some(n) => Some(Entry::Constant(n)),
-            None => match self.macros.get_index_of(NameRef(name)) {
-                Some(n) => Some(Entry::Macro(n)),
-                None => match self.programs.get_index_of(NameRef(name)) {
-                    Some(n) => Some(Entry::Program(n)),
-                    None => None,
-                },
+            None => self.other_named(name),
+        }
+    }
+
+    /// The number of the first constant of the name.
+    fn first_named(&self, name: &[u8]) -> Option<usize>
+        ensures named { (ts : List Tree) → result ≡ sig.constant_named (signature ts self.now) name.now }
+        ensures within { IfSome result (λ n. n < length (constants_of self.now)) }
+    {
+        self.firsts.get(NameRef(name)).copied()
+    }
+
+    /// The macro or the program of the name.
+    fn other_named(&self, name: &[u8]) -> Option<Entry>
+        ensures named { (ts : List Tree) → option_map read_named result
+            ≡ sig.other_named (signature ts self.now) (macros ts self.now) name.now }
+        ensures within { IfSome result (λ e. IsWithin self.now e) }
+    {
+        match self.macros.get_index_of(NameRef(name)) {
+            Some(n) => Some(Entry::Macro(n)),
+            None => match self.programs.get_index_of(NameRef(name)) {
+                Some(n) => Some(Entry::Program(n)),
+                None => None,
             },
         }
     }
@@ -121,8 +145,8 @@ impl Signature {
         self.rules.get_index_of(NameRef(name))
     }
 
-    /// Whether a constant, a macro or a program may get the name: it is not reserved, and none of
-    /// them has it.
+    /// Whether a macro or a program may get the name: it is not reserved, and no constant, macro or
+    /// program has it.
     pub fn is_free(&self, name: &[u8]) -> bool
         ensures { (ts : List Tree) → result ≡ sig.is_free (signature ts self.now) (macros ts self.now) name.now }
     {
@@ -183,10 +207,13 @@ impl Signature {
     fn empty(alloc: Global) -> Signature
         ensures { result ≡ record { entries = []; macros = [] } }
     {
+        let overloads = Overloads::new(alloc);
         Signature {
             alloc,
             entries: Vec::new(alloc),
-            constants: IndexMap::with_hasher(alloc, BuildHasherDefault::new()),
+            constants: Vec::new(alloc),
+            firsts: IndexMap::with_hasher(alloc, BuildHasherDefault::new()),
+            overloads,
             programs: IndexMap::with_hasher(alloc, BuildHasherDefault::new()),
             rules: IndexMap::with_hasher(alloc, BuildHasherDefault::new()),
             macros: IndexMap::with_hasher(alloc, BuildHasherDefault::new()),
@@ -210,7 +237,7 @@ impl Signature {
 
     // Declares one of the first constants.
     fn keep_first(&mut self, name: &[u8], ty: Id) -> Result<(), AllocError>
-        requires { sig.constant_named (signature [] self.old) name.now ≡ None }
+        requires { sig.is_apart (signature [] self.old) name.now (sig.Exactly 0) ≡ true }
         ensures { OnOk result (self.new ≡ with_entry (first_constant name.now ty) self.old) }
     {
         let d = ConstDecl {
@@ -220,7 +247,7 @@ impl Signature {
             attribute: Attribute::Plain,
             from_reference: false,
         };
-        self.keep_constant(d)?;
+        self.keep_constant(d, Counts::Exactly(0))?;
         Ok(())
     }
 }

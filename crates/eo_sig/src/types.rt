@@ -1,34 +1,34 @@
 //! What declared types and terminators may hold.
-ghost use Rattle.std.specs.Prelude.{◌≡◌, ℕ, ◌<◌, List, length, is_some, All};
+ghost use Rattle.std.specs.Prelude.{◌≡◌, ◌<◌, List, length, is_some, All};
 ghost use Rattle.std.specs.List.{list_any};
 ghost use Rattle.eo_term.specs.Growth.{tree_in};
-ghost use Rattle.eo_term.specs.ParamSet.{has};
 ghost use Rattle.eo_term.specs.Tree.{Tree, occurs_openly};
 ghost use Rattle.eo_sig.specs.Signature as sig;
 ghost use Rattle.eo_sig.specs.Parts.{parameters_in, Splits};
 ghost use Rattle.eo_sig.specs.Reading.{read_attribute, AttributeBelow};
 
 use crate::{Attribute, Param};
-use eo_term::{Id, Node, ParamSet, Table};
+use eo_term::{Id, Node, Table};
 
-// The parameters that occur outside every operator in the type of an argument of a constant of this
-// type. The table keeps them with each term, those of the result among them: so the arguments are
-// asked one by one.
-fn open_in_arguments(table: &Table, ty: Id) -> ParamSet
+// Whether the parameter occurs outside every operator in the type of an argument of a constant of
+// this type. The table keeps with each term which parameters do, those of the result among them: so
+// the arguments are asked one by one, up to the first in which it occurs.
+fn occurs_in_argument(table: &Table, ty: Id, par: usize) -> bool
     requires { ty < length table.now.trees }
-    ensures { (j : ℕ) → has result j ≡ list_any (occurs_openly j) (sig.argument_types (tree_in table.now ty)) }
+    ensures { result ≡ list_any (occurs_openly par) (sig.argument_types (tree_in table.now ty)) }
 {
-    let mut found = ParamSet::new();
     let mut rest = ty;
     while let Some((argument, to)) = first_argument(table, rest) {
-        found.add_all(table.open_parameters(argument));
+        if table.open_parameters(argument).has(par) {
+            return true;
+        }
         rest = to;
     }
-    found
+    false
 }
 
 // The type of the first argument of a constant of this type, and the type of what it gives then.
-fn first_argument(table: &Table, ty: Id) -> Option<(Id, Id)>
+pub(crate) fn first_argument(table: &Table, ty: Id) -> Option<(Id, Id)>
     requires { ty < length table.now.trees }
     ensures { Splits table.now ty result }
 {
@@ -68,9 +68,8 @@ pub(crate) fn implicit_occur(table: &Table, ty: Id, params: &[Param]) -> bool
     requires ty { ty < length table.now.trees }
     ensures { result ≡ sig.implicit_occur (sig.argument_types (tree_in table.now ty)) 0 (parameters_in table.now params.now) }
 {
-    let open = open_in_arguments(table, ty);
     for (i, p) in params.iter().enumerate() {
-        if p.implicit && !open.has(i) {
+        if p.implicit && !occurs_in_argument(table, ty, i) {
             return false;
         }
     }

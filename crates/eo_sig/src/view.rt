@@ -1,4 +1,4 @@
-//! What is declared where a term stands.
+//! What is declared at the place of a term.
 ghost use Rattle.std.specs.Prelude.{◌≡◌, ℕ, ◌<◌, List, length, Some, slice_get, IfSome, option_map};
 ghost use Rattle.eo_term.specs.Tree.{Tree};
 ghost use Rattle.std.specs.Option.{option_copied};
@@ -12,12 +12,12 @@ ghost use Rattle.eo_sig.specs.Reading.{constants_of, programs_of, Adds, IsWithin
 use crate::{ConstDecl, Entry, MacroDecl, ProgramDecl, Signature};
 use std::marker::Model;
 
-/// What is declared where a term stands: all that a signature declares, and in the cases of a
-/// program that it does not declare yet, that program behind it.
+/// What is declared at the place of a term: all that a signature declares, and in the cases of a
+/// program that it does not declare yet, that program too, after all others.
 #[derive(Drop)]
 pub struct SignatureView<'a> {
     sig: &'a Signature,
-    // The program in whose cases the term stands.
+    // The program in whose cases the term is.
     own: Option<&'a ProgramDecl>,
 }
 
@@ -39,7 +39,7 @@ impl<'a> SignatureView<'a> {
         SignatureView { sig, own: None }
     }
 
-    /// All that the signature declares, and behind it the program. Its name need not be free: what
+    /// All that the signature declares, and after it the program. Its name need not be free: what
     /// the signature declares comes first.
     pub fn with_program(sig: &'a Signature, program: &'a ProgramDecl) -> SignatureView<'a>
         ensures adds { (ts : List Tree) → Adds ts sig.now (IsProgram (read_program ts program.now)) result }
@@ -51,12 +51,25 @@ impl<'a> SignatureView<'a> {
         }
     }
 
-    /// What the name stands for among constants, macros and programs.
+    /// What the name means among constants, macros and programs; of several constants it is the
+    /// first.
     pub fn lookup(&self, name: &[u8]) -> Option<Entry>
         ensures named { (ts : List Tree) → option_map read_named result ≡ lookup_in ts self.now name.now }
         ensures within { IfSome result (λ e. IsWithin self.now e) }
     {
         match self.sig.lookup(name) {
+            Some(entry) => Some(entry),
+            None => own_named(self.own, self.sig.programs(), name),
+        }
+    }
+
+    /// What the name means as the head of so many arguments, as
+    /// [`Signature::lookup_count`] says.
+    pub fn lookup_count(&self, name: &[u8], n: usize) -> Option<Entry>
+        ensures named { (ts : List Tree) → option_map read_named result ≡ sig.lookup_count (signature ts self.now) (macros ts self.now) name.now n }
+        ensures within { IfSome result (λ e. IsWithin self.now e) }
+    {
+        match self.sig.lookup_count(name, n) {
             Some(entry) => Some(entry),
             None => own_named(self.own, self.sig.programs(), name),
         }

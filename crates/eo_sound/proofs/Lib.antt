@@ -5,3 +5,4 @@ pub mod RulesNamed
 pub mod SoundDeclarations
 pub mod SoundSteps
 pub mod Soundness
+pub mod SingleNames

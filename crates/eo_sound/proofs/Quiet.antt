@@ -9,14 +9,14 @@ use Rattle.eo_declare.specs.Declarations.{declared_const, declared_fun, declared
 use Rattle.eo_lit.specs.declared.LiteralClass.{LiteralClass}
 use Rattle.eo_session.specs.Origin.{Origin}
 use Rattle.eo_names.specs.Contexts.{InReference}
-use Rattle.eo_names.specs.Readers.{Label}
+use Rattle.eo_names.specs.Readers.{NamedTerm}
 use Rattle.eo_sound.specs.Quiet.{IsQuiet}
 use Rattle.eo_session.specs.State.{State, context, context_in, with_entry, with_macro, with_assertion, with_fact, with_scope, without_scope, is_asserted}
-use Rattle.eo_session.specs.Step.{setting_of, added_constant, type_value, typed_constant, checked_constant, checked_literals, added_macro, define, define_fun, define_sort, define_program, declare_rule, formula_of, formula, with_labels, assume, assume_push, assert, concluded, with_conclusion, step_plain, step_pop}
+use Rattle.eo_session.specs.Step.{file_kind_of, added_constant, type_value, typed_constant, repeats_constant, named_apart, apart_constant, checked_constant, checked_literals, added_macro, define, define_fun, define_sort, define_program, declare_rule, formula_of, formula, with_named_terms, assume, assume_push, assert, concluded, with_conclusion, step_plain, step_pop}
 use Rattle.eo_session.specs.Commands.{by_command}
 use Rattle.eo_sexp.specs.Sexp.{Sexp}
 use Rattle.eo_shape.specs.Shapes.{ParameterShape, ProgramShape, RuleShape, StepShape, Command, DeclareConst, DeclareFun, DeclareSort, DeclareParameterized, DeclareLiterals, Define, DefineProgram, DeclareRule, Assume, AssumePush, Step, StepPop, Include, Refer, DefineFun, DefineSort, Assert, Exit, Skip}
-use Rattle.eo_sig.specs.Signature.{Signature, SignatureEntry, IsConstant, IsProgram, IsRule, IsLiteralType, Constant, Macro, program_of, rule_of, programs, rules, constant_fault, literal_type_fault}
+use Rattle.eo_sig.specs.Signature.{Signature, SignatureEntry, IsConstant, IsProgram, IsRule, IsLiteralType, Constant, Macro, counts_of, program_of, rule_of, programs, rules, constant_fault, literal_type_fault}
 use Rattle.eo_term.specs.Tree.{Tree}
 
 -- ---- states that have the same programs and rules
@@ -31,19 +31,19 @@ quiet_self : (st : State) → IsQuiet st st
 quiet_self st = record { closed = refl; programs_stay = refl; rules_stay = refl; grows = not_grown st.signature }
 
 abbrev declares : SignatureEntry → Bool
-declares (IsConstant d) = false
+declares (IsConstant d n) = false
 declares (IsProgram p) = true
 declares (IsRule r) = true
 declares (IsLiteralType class t) = false
 
 programs_more : (S : Signature) (e : SignatureEntry) → declares e ≡ false → programs (S ++ e ∷ []) ≡ programs S
-programs_more S (IsConstant d) h = filter_map-append program_of S (IsConstant d ∷ []) ∙ append-nil (programs S)
+programs_more S (IsConstant d n) h = filter_map-append program_of S (IsConstant d n ∷ []) ∙ append-nil (programs S)
 programs_more S (IsProgram p) h = absurd (true≢false h)
 programs_more S (IsRule r) h = absurd (true≢false h)
 programs_more S (IsLiteralType class t) h = filter_map-append program_of S (IsLiteralType class t ∷ []) ∙ append-nil (programs S)
 
 rules_more : (S : Signature) (e : SignatureEntry) → declares e ≡ false → rules (S ++ e ∷ []) ≡ rules S
-rules_more S (IsConstant d) h = filter_map-append rule_of S (IsConstant d ∷ []) ∙ append-nil (rules S)
+rules_more S (IsConstant d n) h = filter_map-append rule_of S (IsConstant d n ∷ []) ∙ append-nil (rules S)
 rules_more S (IsProgram p) h = absurd (true≢false h)
 rules_more S (IsRule r) h = absurd (true≢false h)
 rules_more S (IsLiteralType class t) h = filter_map-append rule_of S (IsLiteralType class t ∷ []) ∙ append-nil (rules S)
@@ -57,12 +57,14 @@ module _ (st new : State) where
   entry_quiet e h k =
       quiet_then st (with_entry st e) new (record { closed = refl; programs_stay = programs_more st.signature e h; rules_stay = rules_more st.signature e h; grows = (e ∷ [], refl) }) k
 
+  apart_quiet : (d : Constant) → apart_constant st d ≡ Ok new → IsQuiet st new
+  apart_quiet d e =
+      entry_quiet (IsConstant d (counts_of d)) refl (bind_ok (named_apart st.naming st.signature d) (λ _. Ok (with_entry st (IsConstant d (counts_of d)))) new e).2
+
   constant_quiet : (d : Constant) → added_constant st d ≡ Ok new → IsQuiet st new
   unfolding added_constant
   constant_quiet d e =
-      by_test st new (is_reference_name (context st) d.name) _ _
-      (λ k. quiet_then st st new (quiet_self st) (require_then _ _ _ new k).1)
-      (λ k. entry_quiet (IsConstant d) refl k) e
+      by_test st new (repeats_constant st d) _ _ (λ k. quiet_then st st new (quiet_self st) k) (apart_quiet d) e
 
   typed_quiet : (m : Checked Constant) → (m >>= typed_constant st) ≡ Ok new → IsQuiet st new
   unfolding typed_constant
@@ -73,7 +75,7 @@ module _ (st new : State) where
 
   checked_quiet : (m : Checked Constant) → (m >>= checked_constant st) ≡ Ok new → IsQuiet st new
   checked_quiet m e =
-      let d = bind_ok m _ new e in entry_quiet (IsConstant d.0) refl (no_fault_then (constant_fault d.0) _ new d.2).1
+      let d = bind_ok m _ new e in apart_quiet d.0 (no_fault_then (constant_fault d.0) _ new d.2).1
 
   literals_quiet : (class : LiteralClass) (m : Checked Tree) → (m >>= checked_literals st class) ≡ Ok new → IsQuiet st new
   literals_quiet class m e =
@@ -132,16 +134,16 @@ module _ (st new : State) where
   assertion_quiet t true = quiet_self st
   assertion_quiet t false = record { closed = refl; programs_stay = refl; rules_stay = refl; grows = not_grown st.signature }
 
-  labels_quiet : (mid : State) (labels : List Label) → IsQuiet st mid → IsQuiet st (with_labels mid labels)
-  labels_quiet mid labels q = record { closed = q.closed; programs_stay = q.programs_stay; rules_stay = q.rules_stay; grows = q.grows }
+  named_terms_quiet : (mid : State) (named_terms : List NamedTerm) → IsQuiet st mid → IsQuiet st (with_named_terms mid named_terms)
+  named_terms_quiet mid named_terms q = record { closed = q.closed; programs_stay = q.programs_stay; rules_stay = q.rules_stay; grows = q.grows }
 
   assert_quiet : (s : Sexp) → assert st s ≡ Ok new → IsQuiet st new
   unfolding assert
   assert_quiet s e =
       let r = bind_ok _ _ new e in
       let v = bind_ok (formula_of st r.0.0) _ new r.2 in
-      quiet_then st (with_labels (with_assertion st v.0) r.0.1) new
-      (labels_quiet (with_assertion st v.0) r.0.1 (assertion_quiet v.0 (is_asserted st v.0))) v.2
+      quiet_then st (with_named_terms (with_assertion st v.0) r.0.1) new
+      (named_terms_quiet (with_assertion st v.0) r.0.1 (assertion_quiet v.0 (is_asserted st v.0))) v.2
 
 -- ---- what declares a program or a rule
 
@@ -151,9 +153,9 @@ declares_rules (DeclareRule shape) = true
 declares_rules command = false
 
 pub quiet_command : (st : State) (from : Origin) (command : Command) (new : State) → declares_rules command ≡ false → by_command st from command ≡ Ok new → IsQuiet st new
-quiet_command st from (DeclareConst name type shape) new h e = typed_quiet st new (declared_const (context_in st (setting_of from)) name type shape) e
-quiet_command st from (DeclareFun name inputs output) new h e = typed_quiet st new (declared_fun (context_in st (setting_of from)) name inputs output) e
-quiet_command st from (DeclareSort name arity) new h e = typed_quiet st new (declared_sort (context_in st (setting_of from)) name arity) e
+quiet_command st from (DeclareConst name type shape) new h e = typed_quiet st new (declared_const (context_in st (file_kind_of from)) name type shape) e
+quiet_command st from (DeclareFun name inputs output) new h e = typed_quiet st new (declared_fun (context_in st (file_kind_of from)) name inputs output) e
+quiet_command st from (DeclareSort name arity) new h e = typed_quiet st new (declared_sort (context_in st (file_kind_of from)) name arity) e
 quiet_command st from (DeclareParameterized name params type shape) new h e = checked_quiet st new (declared_parameterized (context st) name params type shape) e
 quiet_command st from (DeclareLiterals class type) new h e = literals_quiet st new class (declared_literals (context st) class type) e
 quiet_command st from (Define name params body) new h e = define_quiet st new name params body e

@@ -21,7 +21,7 @@ at_place [] i lt = absurd (omega (arith, lt))
 at_place (r ∷ rs) zero lt = (r, refl)
 at_place (r ∷ rs) (suc i) lt = at_place rs i (omega (arith, lt))
 
--- the rule that a name stands for
+-- the rule that a name means
 is_rule_name : (S : Signature) (name : List ℕ) (n : ℕ) → rule_named S name ≡ Some n → IsRuleName S name
 is_rule_name S name n e =
     by (rules S) refl

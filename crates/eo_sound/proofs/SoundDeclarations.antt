@@ -10,21 +10,21 @@ use Rattle.eo_session.proofs.Adding.{fold_of}
 use Rattle.eo_base.proofs.ChecksLemmas.{ok_injective, bind_ok, require_then, no_fault_then}
 use Rattle.eo_base.specs.Checks.{Checked, ◌>>=◌}
 use Rattle.eo_declare.specs.Declarations.{constant, plain_constant, sort_type, declared_const, declared_fun, declared_sort, defined, defined_fun, defined_sort, declared_program, declared_rule, is_reference_name}
-use Rattle.eo_elab.specs.Fitting.{FitsTerms, macro_is_bound, label_is_closed}
+use Rattle.eo_elab.specs.Fitting.{FitsTerms, macro_is_bound, named_term_is_closed}
 use Rattle.eo_elab.specs.Meaning.{means}
 use Rattle.eo_lit.specs.declared.LiteralClass.{LiteralClass}
-use Rattle.eo_names.specs.Contexts.{Context, Setting, InReference, InAssert}
-use Rattle.eo_names.specs.Readers.{Label}
+use Rattle.eo_names.specs.Contexts.{Context, FileKind, InReference, InAssert}
+use Rattle.eo_names.specs.Readers.{NamedTerm}
 use Rattle.eo_sound.proofs.Deriving.{declared_derives, asserted_derives, none_assumed}
 use Rattle.eo_session.proofs.Fitting.{MayFold, slice_get_more, fits_entry, fits_macro, fits_macros}
 use Rattle.eo_sound.specs.Layers.{Layers}
 use Rattle.eo_sound.specs.Soundness.{IsSoundBy}
 use Rattle.eo_session.specs.State.{State, context, context_in, with_entry, with_macro, with_assertion, is_asserted}
-use Rattle.eo_session.specs.Step.{added_constant, type_value, typed_constant, checked_constant, checked_literals, added_macro, define, define_fun, define_sort, define_program, declare_rule, formula_of, label_macro, with_labels, assert}
+use Rattle.eo_session.specs.Step.{repeats_constant, named_apart, apart_constant, added_constant, type_value, typed_constant, checked_constant, checked_literals, added_macro, define, define_fun, define_sort, define_program, declare_rule, formula_of, named_term_macro, with_named_terms, assert}
 use Rattle.eo_session.specs.Origin.{Origin}
 use Rattle.eo_sexp.specs.Sexp.{Sexp}
 use Rattle.eo_shape.specs.Shapes.{ParameterShape, AttributeShape, ProgramShape, RuleShape}
-use Rattle.eo_sig.specs.Signature.{Signature, SignatureEntry, IsConstant, IsProgram, IsRule, IsLiteralType, Attribute, Plain, RightNil, LeftNil, Right, Left, Chain, Pairs, Binder, Constant, Macro, Rule, rule_of, rules, rule_at, constant_at, terminator_of, may_fold, are_ordered, constant_fault, literal_type_fault, program_fault, rule_fault}
+use Rattle.eo_sig.specs.Signature.{Signature, SignatureEntry, IsConstant, IsProgram, IsRule, IsLiteralType, Attribute, Plain, RightNil, LeftNil, Right, Left, Chain, Pairs, Binder, Constant, Macro, Rule, counts_of, rule_of, rules, rule_at, constant_at, terminator_of, may_fold, are_ordered, constant_fault, literal_type_fault, program_fault, rule_fault}
 use Rattle.eo_sig.specs.Usable.{IsUsable}
 use Rattle.eo_term.specs.Tree.{Tree, bool_tree, is_value}
 use Rattle.eo_type.specs.Types.{Typed, type_of}
@@ -61,13 +61,13 @@ sort_folds c name arity d e = let free = require_then _ _ _ d e in plain_folds c
 
 -- a terminator is a value, and the type of a rule's parameter uses earlier ones only
 abbrev EntryFits : SignatureEntry → Type 0
-EntryFits (IsConstant d) = may_fold d.attribute ≡ true
+EntryFits (IsConstant d n) = may_fold d.attribute ≡ true
 EntryFits (IsProgram p) = Unit {0}
 EntryFits (IsRule r) = are_ordered 0 r.parameters ≡ true
 EntryFits (IsLiteralType class t) = Unit {0}
 
 fits_fold : (e : SignatureEntry) → EntryFits e → MayFold e
-fits_fold (IsConstant d) h = h
+fits_fold (IsConstant d n) h = h
 fits_fold (IsProgram p) h = tt
 fits_fold (IsRule r) h = tt
 fits_fold (IsLiteralType class t) h = tt
@@ -78,7 +78,7 @@ module _ (S : Signature) (old : (k : ℕ) (r : Rule) → rule_at S k ≡ Some r 
 
   one_more : (e : SignatureEntry) → EntryFits e → slice_get (rules S ++ rules (e ∷ [])) k ≡ Some r → are_ordered 0 r.parameters ≡ true
   one_more (IsRule x) ordered is = slice_get_more (λ (r : Rule). are_ordered 0 r.parameters ≡ true) (rules S) x k r old ordered is
-  one_more (IsConstant d) ordered is = none_more is
+  one_more (IsConstant d n) ordered is = none_more is
   one_more (IsProgram p) ordered is = none_more is
   one_more (IsLiteralType class t) ordered is = none_more is
 
@@ -105,9 +105,9 @@ usable_signature S folds ordered = record { terminators = λ f n e. by f n (cons
 -- ---- what is declared
 
 -- names of terms without parameters are macros
-labels_bound : (labels : List Label) → list_all label_is_closed labels ≡ true → list_all macro_is_bound (map label_macro labels) ≡ true
-labels_bound [] h = refl
-labels_bound (l ∷ ls) h = let p = and_parts (label_is_closed l) (list_all label_is_closed ls) h in (λ i. p.0 i && labels_bound ls p.1 i)
+named_terms_bound : (named_terms : List NamedTerm) → list_all named_term_is_closed named_terms ≡ true → list_all macro_is_bound (map named_term_macro named_terms) ≡ true
+named_terms_bound [] h = refl
+named_terms_bound (l ∷ ls) h = let p = and_parts (named_term_is_closed l) (list_all named_term_is_closed ls) h in (λ i. p.0 i && named_terms_bound ls p.1 i)
 
 module _ (allowed : List ℕ → Bool) where
   pub sound_after : (new st' : State) → IsSoundBy allowed new → ◌≡◌ {A = Checked State} (Ok new) (Ok st') → IsSoundBy allowed st'
@@ -117,10 +117,10 @@ module _ (allowed : List ℕ → Bool) where
   by_test st' true x y f g e = f e
   by_test st' false x y f g e = g e
 
-  labels_sound : (st : State) → IsSoundBy allowed st → (labels : List Label) → list_all label_is_closed labels ≡ true → IsSoundBy allowed (with_labels st labels)
-  labels_sound st h labels closed = record {
+  named_terms_sound : (st : State) → IsSoundBy allowed st → (named_terms : List NamedTerm) → list_all named_term_is_closed named_terms ≡ true → IsSoundBy allowed (with_named_terms st named_terms)
+  named_terms_sound st h named_terms closed = record {
     usable = h.usable;
-    terms = fits_macros st.signature st.signature st.macros (st.macros ++ map label_macro labels) h.terms refl (map label_macro labels) refl (labels_bound labels closed);
+    terms = fits_macros st.signature st.signature st.macros (st.macros ++ map named_term_macro named_terms) h.terms refl (map named_term_macro named_terms) refl (named_terms_bound named_terms closed);
     values = h.values;
     formulas = h.formulas;
     facts = h.facts;
@@ -145,8 +145,8 @@ module _ (allowed : List ℕ → Bool) where
         (λ k. sound_after (with_macro st m) st' (macro_sound m bound) k) e
 
     -- in a file of any kind terms are read of the same macros and constants
-    fits_in : (setting : Setting) → FitsTerms (context_in st setting)
-    fits_in setting = record { folds = h.terms.folds; macros = h.terms.macros }
+    fits_in : (file_kind : FileKind) → FitsTerms (context_in st file_kind)
+    fits_in file_kind = record { folds = h.terms.folds; macros = h.terms.macros }
 
     pub define_fun_sound : (name : List ℕ) (shapes : List ParameterShape) (output body : Sexp) (st' : State) → define_fun st name shapes output body ≡ Ok st' → IsSoundBy allowed st'
     define_fun_sound name shapes output body st' e =
@@ -176,12 +176,15 @@ module _ (allowed : List ℕ → Bool) where
             facts = λ s. declared_derives allowed laws st.signature (e ∷ []) st.assertions st.scopes.outermost st.scopes.opened top (h.facts s);
           }
 
+      apart_constant_sound : (d : Constant) (st' : State) → may_fold d.attribute ≡ true → apart_constant st d ≡ Ok st' → IsSoundBy allowed st'
+      apart_constant_sound d st' folds e =
+          let k = bind_ok (named_apart st.naming st.signature d) (λ _. Ok (with_entry st (IsConstant d (counts_of d)))) st' e in
+          sound_after (with_entry st (IsConstant d (counts_of d))) st' (entry_sound (IsConstant d (counts_of d)) folds) k.2
+
       added_constant_sound : (d : Constant) (st' : State) → may_fold d.attribute ≡ true → added_constant st d ≡ Ok st' → IsSoundBy allowed st'
       unfolding added_constant
       added_constant_sound d st' folds e =
-          by_test st' (is_reference_name (context st) d.name) _ _
-          (λ k. sound_after st st' h (require_then _ _ _ st' k).1)
-          (λ k. sound_after (with_entry st (IsConstant d)) st' (entry_sound (IsConstant d) folds) k) e
+          by_test st' (repeats_constant st d) _ _ (λ k. sound_after st st' h k) (apart_constant_sound d st' folds) e
 
       -- a constant whose declared type is evaluated
       pub typed_sound : (m : Checked Constant) (st' : State) → ((d : Constant) → m ≡ Ok d → may_fold d.attribute ≡ true) → (m >>= typed_constant st) ≡ Ok st' → IsSoundBy allowed st'
@@ -196,7 +199,7 @@ module _ (allowed : List ℕ → Bool) where
       checked_sound m st' e =
           let d = bind_ok m _ st' e in
           let k = no_fault_then (constant_fault d.0) _ st' d.2 in
-          sound_after (with_entry st (IsConstant d.0)) st' (entry_sound (IsConstant d.0) (fold_of d.0 k.0)) k.1
+          apart_constant_sound d.0 st' (fold_of d.0 k.0) k.1
 
       pub literals_sound : (class : LiteralClass) (m : Checked Tree) (st' : State) → (m >>= checked_literals st class) ≡ Ok st' → IsSoundBy allowed st'
       literals_sound class m st' e =
@@ -236,6 +239,6 @@ module _ (allowed : List ℕ → Bool) where
       assert_sound s st' e =
           let r = bind_ok (means (context_in st InAssert) [] s []) _ st' e in
           let v = bind_ok (formula_of st r.0.0) _ st' r.2 in
-          let closed = laws.labels (context_in st InAssert) s r.0.0 r.0.1 (fits_in InAssert) r.1 in
-          sound_after (with_labels (with_assertion st v.0) r.0.1) st'
-          (labels_sound (with_assertion st v.0) (assertion_sound v.0 (is_asserted st v.0)) r.0.1 closed) v.2
+          let closed = laws.named_terms (context_in st InAssert) s r.0.0 r.0.1 (fits_in InAssert) r.1 in
+          sound_after (with_named_terms (with_assertion st v.0) r.0.1) st'
+          (named_terms_sound (with_assertion st v.0) (assertion_sound v.0 (is_asserted st v.0)) r.0.1 closed) v.2

@@ -19,7 +19,7 @@ use Rattle.eo_sound.proofs.SoundDeclarations.{const_folds, fun_folds, sort_folds
 use Rattle.eo_sound.proofs.SoundSteps.{assume_sound, assume_push_sound, step_plain_sound, step_pop_sound}
 use Rattle.eo_sound.specs.Soundness.{AllDerive, FactsDerive, IsSoundBy}
 use Rattle.eo_session.specs.State.{State, first_state, begin_reference, end_fault, is_in_scope, with_command, context, context_in}
-use Rattle.eo_session.specs.Step.{setting_of}
+use Rattle.eo_session.specs.Step.{file_kind_of}
 use Rattle.eo_session.specs.Commands.{by_command, may_be_in_scope, scoped_command, placed_command, uncounted, step}
 use Rattle.eo_session.specs.Origin.{Origin}
 use Rattle.eo_session.specs.declared.Next.{Next}
@@ -33,7 +33,7 @@ use Rattle.eo_type.specs.Types.{Typed, type_of}
 
 -- ---- each command
 
--- where a command may not stand in a scope, none is open
+-- where a command is not allowed in a scope, none is open
 none_open : (ss : List Scope) → (not (not (nat_eq (length ss) 0)) || false) ≡ true → ss ≡ []
 none_open [] e = refl
 none_open (s ∷ ss) e =
@@ -90,14 +90,14 @@ module _ (allowed : List ℕ → Bool) where
   module _ (laws : Layers) where
     command_sound : (st : State) (from : Origin) (command : Command) (new : State) → IsSoundBy allowed st → may_use allowed (rule_used command) ≡ true → (not (is_in_scope st) || may_be_in_scope command) ≡ true → by_command st from command ≡ Ok new → IsSoundBy allowed new
     command_sound st from (DeclareConst name type shape) new h may top e =
-        typed_sound allowed laws st h (none_open st.scopes.opened top) (declared_const (context_in st (setting_of from)) name type shape) new
-        (const_folds (context_in st (setting_of from)) name type shape) e
+        typed_sound allowed laws st h (none_open st.scopes.opened top) (declared_const (context_in st (file_kind_of from)) name type shape) new
+        (const_folds (context_in st (file_kind_of from)) name type shape) e
     command_sound st from (DeclareFun name inputs output) new h may top e =
-        typed_sound allowed laws st h (none_open st.scopes.opened top) (declared_fun (context_in st (setting_of from)) name inputs output) new
-        (fun_folds (context_in st (setting_of from)) name inputs output) e
+        typed_sound allowed laws st h (none_open st.scopes.opened top) (declared_fun (context_in st (file_kind_of from)) name inputs output) new
+        (fun_folds (context_in st (file_kind_of from)) name inputs output) e
     command_sound st from (DeclareSort name arity) new h may top e =
-        typed_sound allowed laws st h (none_open st.scopes.opened top) (declared_sort (context_in st (setting_of from)) name arity) new
-        (sort_folds (context_in st (setting_of from)) name arity) e
+        typed_sound allowed laws st h (none_open st.scopes.opened top) (declared_sort (context_in st (file_kind_of from)) name arity) new
+        (sort_folds (context_in st (file_kind_of from)) name arity) e
     command_sound st from (DeclareParameterized name shapes type shape) new h may top e =
         checked_sound allowed laws st h (none_open st.scopes.opened top) (declared_parameterized (context st) name shapes type shape) new e
     command_sound st from (DeclareLiterals class type) new h may top e =

@@ -2,7 +2,7 @@
 use Rattle.std.specs.Prelude.{◌≡◌, ℕ, Bool, false, List, [], ◌∷◌, ◌++◌, map, All}
 use Rattle.eo_elab.specs.Fitting.{FitsTerms}
 use Rattle.eo_proof.specs.Scopes.{Fact, Scope, hypotheses}
-use Rattle.eo_session.specs.Held.{AreValues}
+use Rattle.eo_session.specs.Store.{AreValues}
 use Rattle.eo_session.specs.State.{State, context}
 use Rattle.eo_sig.specs.Signature.{Signature}
 use Rattle.eo_sig.specs.Usable.{IsUsable}
@@ -26,7 +26,7 @@ module _ (allowed : List ℕ → Bool) where
   FactsDerive S assertions outermost (s ∷ ss) =
       AllDerive S (in_force assertions (s ∷ ss)) s.facts × FactsDerive S assertions outermost ss
 
-  -- Terms can be read and rules be used: terminators are values, parameters are used where they stand, and facts and assumptions are values. Each assumption of a scope is a formula; nothing is declared while a scope is open. Where no step used a rule that is marked as unproved, each fact is derivable by the allowed rules.
+  -- Terms can be read and rules be used: terminators are values, parameters are used only where they are declared, and facts and assumptions are values. Each assumption of a scope is a formula; nothing is declared while a scope is open. Where no step used a rule that is marked as unproved, each fact is derivable by the allowed rules.
   pub record IsSoundBy (st : State) : Type 0 where
     pub usable : IsUsable st.signature
     pub terms : FitsTerms (context st)

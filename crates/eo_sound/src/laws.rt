@@ -1,4 +1,4 @@
-//! What holds of each command. A call costs nothing: it tells a proof what its clauses say.
+//! What holds of each command. A call costs nothing: it gives a proof what its clauses say.
 ghost use Rattle.std.specs.Prelude.{◌≡◌, ◌≢◌, ℕ, List, Bool, true, false, None, Some, Ok};
 ghost use Rattle.eo_rule.specs.Derivability.{Derives};
 ghost use Rattle.eo_sexp.specs.Sexp.{Sexp};
@@ -14,7 +14,7 @@ ghost use Rattle.eo_session.specs.State.{State, first_state, begin_reference, en
 ghost use Rattle.eo_session.specs.declared.Next.{Next};
 
 use eo_declare::{ordering_law, reference_law};
-use eo_elab::labels_law;
+use eo_elab::named_terms_law;
 use eo_eval::values_law;
 use eo_rule::{conclusion_law, derivability_law};
 use eo_term::equality_law;
@@ -68,7 +68,7 @@ fn layers_law()
     equality_law();
     ordering_law();
     reference_law();
-    labels_law();
+    named_terms_law();
     values_law();
     conclusion_law();
     derivability_law();

@@ -1,4 +1,4 @@
--- Values that stand for parameters, none of them taller than a number.
+-- Values of parameters, none of them taller than a number.
 use Rattle.std.specs.Prelude.{◌≡◌, ℕ, zero, suc, ◌≤◌, All, false, List, [], ◌∷◌, Option, Some, None, option_map, slice_get}
 use Rattle.std.specs.Option.{option_flatten}
 use Rattle.std.proofs.Common.{subst, arith}

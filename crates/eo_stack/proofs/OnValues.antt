@@ -11,7 +11,7 @@ use Rattle.eo_lists.specs.Lists.{by_operator, list_value, terminator_of_tree}
 use Rattle.eo_lists.specs.Outcomes.{IsListOperator}
 use Rattle.eo_ops.specs.Operators.{Literal, OpAnswer, Gives, IsStuck, IsOutOfRange, literals, literal_tree, answer_map, op_value, kind_value, on_literals, tree_op_value}
 use Rattle.eo_type.specs.Types.{typed_answer, value_type}
-use Rattle.eo_stack.specs.Evaluation.{Outcome, Value, Stuck, Tall, Call, Begun, Eval, ends, node, type_value, answer_value, value_or, on_outcome, operator_value}
+use Rattle.eo_stack.specs.Evaluation.{Outcome, Value, Stuck, Tall, Call, Begun, Eval, ends, node, typed_outcome, answer_value, value_or, on_outcome, operator_value}
 use Rattle.eo_stack.specs.Machine.{is_call, low_value, low_outcome, other_value, variable_value, name_value, parts_of, made, made_of}
 
 pub not_listed : (S : Signature) (o : OpName) (vs : List Tree) → ((f n : Tree) (ts : List Tree) → by_operator f n o ts ≡ None) → list_value S o vs ≡ None
@@ -40,13 +40,13 @@ pub name_is : (S : Signature) (a : Tree) → low_outcome (operator_value S OpNam
 name_is S (Var s t) = refl
 name_is S a = ap low_outcome (nothing S OpName.Nameof (a ∷ []) (λ f n ts. refl) refl (λ ls. refl))
 
-type_answer : (a : OpAnswer Tree) → type_value (typed_answer a) ≡ answer_value a
+type_answer : (a : OpAnswer Tree) → typed_outcome (typed_answer a) ≡ answer_value a
 type_answer (Gives t) = refl
 type_answer IsStuck = refl
 type_answer IsOutOfRange = refl
 
 -- any other one gives nothing on lists
-pub literal_operator : (S : Signature) (o : OpName) (vs : List Tree) → (IsListOperator o → ⊥) → other_value S o vs ≡ type_value (typed_answer (tree_op_value o vs))
+pub literal_operator : (S : Signature) (o : OpName) (vs : List Tree) → (IsListOperator o → ⊥) → other_value S o vs ≡ typed_outcome (typed_answer (tree_op_value o vs))
 literal_operator S o vs h = ap (λ l. value_or l (answer_value (tree_op_value o vs))) (not_listed S o vs (none o h)) ∙ sym (type_answer (tree_op_value o vs))
   where
     none : (o : OpName) → (IsListOperator o → ⊥) → (f n : Tree) (ts : List Tree) → by_operator f n o ts ≡ None
@@ -134,9 +134,9 @@ module _ (S : Signature) (ts : List Tree) where
   variable_given (x ∷ y ∷ []) a b n p q = (λ i. variable_value (tree_at ts (p i)) (tree_at ts (q i))) ∙ sym (variable_is S (tree_at ts x) (tree_at ts y))
   variable_given (x ∷ y ∷ z ∷ zs) a b n p q = absurd (omega (arith, n))
 
-  pub type_given : (xs : List ℕ) (a : ℕ) → length xs ≡ 1 → a ≡ get_or xs 0 a → low_outcome (type_value (value_type S (tree_at ts a))) ≡ low_outcome (operator_value S OpName.Typeof (map (tree_at ts) xs))
+  pub type_given : (xs : List ℕ) (a : ℕ) → length xs ≡ 1 → a ≡ get_or xs 0 a → low_outcome (typed_outcome (value_type S (tree_at ts a))) ≡ low_outcome (operator_value S OpName.Typeof (map (tree_at ts) xs))
   type_given [] a n p = absurd (omega (arith, n))
-  type_given (x ∷ []) a n p = ap (λ i. low_outcome (type_value (value_type S (tree_at ts i)))) p
+  type_given (x ∷ []) a n p = ap (λ i. low_outcome (typed_outcome (value_type S (tree_at ts i)))) p
   type_given (x ∷ y ∷ zs) a n p = absurd (omega (arith, n))
 
   pub name_given : (xs : List ℕ) (a : ℕ) → length xs ≡ 1 → a ≡ get_or xs 0 a → name_value (tree_at ts a) ≡ low_outcome (operator_value S OpName.Nameof (map (tree_at ts) xs))

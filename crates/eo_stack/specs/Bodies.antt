@@ -1,4 +1,4 @@
--- The case of a call, its body, and how the program tells them.
+-- The case of a call, its body, and how the program represents them.
 use Rattle.std.specs.Prelude.{◌≡◌, ℕ, ◌<◌, true, false, List, [], ◌∷◌, length, Option, Some, None, Result, Ok, Err, option_map, option_and_then}
 use Rattle.std.specs.Option.{option_or}
 use Rattle.eo_term.specs.Tree.{Tree, is_tall}
@@ -10,7 +10,7 @@ use Rattle.eo_pattern.specs.Matching.{Assignment, empty, matching}
 use Rattle.eo_pattern.specs.Slots.{Slots, held, AreBelow}
 use Rattle.eo_stack.specs.Evaluation.{Call}
 
--- what stands for the parameters of the first case whose patterns match, and its body
+-- the values of the parameters of the first case whose patterns match, and its body
 abbrev pub first_case : List Case → List Tree → Option (Assignment × Tree)
 first_case [] vs = None
 first_case (c ∷ cs) vs = option_or (option_map (λ σ. (σ, c.body)) (matching empty c.patterns vs)) (first_case cs vs)
@@ -22,11 +22,11 @@ abbrev pub assigned : Option (Assignment × Tree) → Assignment
 assigned None = empty
 assigned (Some r) = r.0
 
--- what stands for the parameters of a call's case
+-- the values of the parameters of a call's case
 abbrev pub assignment_of : Signature → Call → Assignment
 assignment_of S c = assigned (chosen_case S c)
 
--- the body that is found, for whose parameters stands what is held
+-- the body that is found, whose parameters have the values that are held
 pub record IsFound (t : Terms) (s : Slots) (chosen : Option (Assignment × Tree)) (i : ℕ) : Type 0 where
   pub live : i < length t.trees
   pub case : chosen ≡ Some (held t.trees s, tree_at t.trees i)
@@ -36,7 +36,7 @@ abbrev pub Finds : Terms → Slots → Option ℕ → Option (Assignment × Tree
 Finds t s (Some i) chosen = IsFound t s chosen i
 Finds t s None chosen = chosen ≡ None
 
--- the body, with the parameters put in
+-- the body, with the parameters substituted
 pub record IsBody (t : Terms) (body : Option Tree) (i : ℕ) : Type 0 where
   pub live : i < length t.trees
   pub tree : body ≡ Some (tree_at t.trees i)

@@ -86,11 +86,11 @@ abbrev pub are_equal : Option Tree → Option Tree → Bool
 are_equal (Some a) (Some b) = tree_eq a b
 are_equal _ _ = false
 
-abbrev pub type_value : TypeOutcome Tree → Outcome Tree
-type_value (Typed t) = Value t
-type_value Untyped = Stuck
-type_value TypeRange = Range
-type_value TypeTall = Tall
+abbrev pub typed_outcome : TypeOutcome Tree → Outcome Tree
+typed_outcome (Typed t) = Value t
+typed_outcome Untyped = Stuck
+typed_outcome TypeRange = Range
+typed_outcome TypeTall = Tall
 
 abbrev pub answer_value : OpAnswer Tree → Outcome Tree
 answer_value (Gives t) = Value t
@@ -103,7 +103,7 @@ value_or (Some t) o = Value t
 
 -- An operator is one on lists or one on literals, and the other kind gives nothing for it.
 abbrev pub operator_value : Signature → OpName → List Tree → Outcome Tree
-operator_value S OpName.Typeof (t ∷ []) = type_value (value_type S t)
+operator_value S OpName.Typeof (t ∷ []) = typed_outcome (value_type S t)
 operator_value S OpName.Var (Str s ∷ t ∷ []) = Value (Var s t)
 operator_value S OpName.Nameof (Var s t ∷ []) = Value (Str s)
 operator_value S o vs = value_or (list_value S o vs) (answer_value (tree_op_value o vs))
@@ -159,7 +159,7 @@ module _ (S : Signature) (call : Call → Eval Tree) where
 
 -- Program calls.
 
--- the body of the first case whose patterns match, with the parameters put in
+-- the body of the first case whose patterns match, with the parameters substituted
 abbrev pub first_match : List Case → List Tree → Option Tree
 first_match [] vs = None
 first_match (c ∷ cs) vs =

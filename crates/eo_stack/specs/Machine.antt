@@ -24,11 +24,11 @@ pub data Wait : Type 0 where
   Parts : (whole : Tree) (values : List Tree) → Wait
   Choice : (yes no : Tree) → Wait
   Tested : Wait
-  Left : (other : Tree) → Wait
-  Right : (first : Option Tree) → Wait
-  Require : (other next : Tree) → Wait
-  Required : (first : Option Tree) (next : Tree) → Wait
-  Handed : Wait
+  EqLeft : (other : Tree) → Wait
+  EqRight : (first : Option Tree) → Wait
+  RequireLeft : (other next : Tree) → Wait
+  RequireRight : (first : Option Tree) (next : Tree) → Wait
+  Tail : Wait
 
 -- a part that may be stuck
 abbrev pub maybe : Ended Tree → Ended (Option Tree)
@@ -88,11 +88,11 @@ module _ (S : Signature) (call : Call → Eval Tree) where
   resume_with (Parts t vs) e = on_value e (λ v. rest_with t (vs ++ v ∷ []))
   resume_with (Choice x y) e = on_value e (λ v. chosen v (eval_with S call x) (eval_with S call y) (ends Stuck))
   resume_with Tested e = on_value (maybe e) (λ u. ends (Value (truth (is_some u))))
-  resume_with (Left y) e = on_value (maybe e) (λ u b. on_value (or_none (eval_with S call y) b) (λ v. ends (Value (truth (are_equal u v)))))
-  resume_with (Right u) e = on_value (maybe e) (λ v. ends (Value (truth (are_equal u v))))
-  resume_with (Require y t) e = on_value (maybe e) (λ u b. on_value (or_none (eval_with S call y) b) (λ v. if are_equal u v then eval_with S call t else ends Stuck))
-  resume_with (Required u t) e = on_value (maybe e) (λ v. if are_equal u v then eval_with S call t else ends Stuck)
-  resume_with Handed e = e
+  resume_with (EqLeft y) e = on_value (maybe e) (λ u b. on_value (or_none (eval_with S call y) b) (λ v. ends (Value (truth (are_equal u v)))))
+  resume_with (EqRight u) e = on_value (maybe e) (λ v. ends (Value (truth (are_equal u v))))
+  resume_with (RequireLeft y t) e = on_value (maybe e) (λ u b. on_value (or_none (eval_with S call y) b) (λ v. if are_equal u v then eval_with S call t else ends Stuck))
+  resume_with (RequireRight u t) e = on_value (maybe e) (λ v. if are_equal u v then eval_with S call t else ends Stuck)
+  resume_with Tail e = e
 
 -- an evaluation, by the number of calls that may be open
 abbrev pub Family : Type 0

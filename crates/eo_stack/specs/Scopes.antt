@@ -1,4 +1,4 @@
--- What stands for parameters while the bodies of calls are evaluated, and the terms that are evaluated so.
+-- The values of parameters while the bodies of calls are evaluated, and the terms that are evaluated with them.
 use Rattle.std.specs.Prelude.{◌≡◌, ℕ, zero, suc, ◌<◌, ◌≤◌, true, List, [], ◌++◌, length, take, drop, Option, Some, None, option_map, slice_get, slice_index_or}
 use Rattle.std.specs.Option.{option_flatten}
 use Rattle.eo_term.specs.Tree.{Tree, is_value, height}
@@ -20,7 +20,7 @@ none_bound = record { slots = []; base = 0; here = 0 }
 abbrev pub slot_at : Bound → ℕ → Option ℕ
 slot_at s i = option_flatten (slice_get (drop s.base s.slots) i)
 
--- what stands for each parameter, over a list of trees
+-- the value of each parameter, over a list of trees
 abbrev pub standing : List Tree → Bound → Assignment
 standing ts s i = option_map (tree_at ts) (slot_at s i)
 
@@ -36,7 +36,7 @@ inner s here more = record { slots = s.slots ++ more; base = length s.slots; her
 abbrev pub outer : Bound → ℕ → ℕ → Bound
 outer s base here = record { slots = take s.base s.slots; base = base; here = here }
 
--- a value stands there, or nothing
+-- a value is there, or none
 abbrev pub IsValueSlot : List Tree → Option ℕ → Type 0
 IsValueSlot ts None = Unit {0}
 IsValueSlot ts (Some i) = (i < length ts) × (is_value (tree_at ts i) ≡ true)
@@ -49,12 +49,12 @@ IsLightSlot ts h (Some i) = IsValueSlot ts (Some i) × (height (tree_at ts i) �
 abbrev pub call_at : Begun → ℕ → Call
 call_at b i = slice_index_or b i (record { program = 0; arguments = [] })
 
--- what stands for the parameters of the call before a number, or nothing
+-- the values of the parameters of the call before a number, or none
 abbrev pub assignment_here : Signature → Begun → ℕ → Assignment
 assignment_here S b zero = empty
 assignment_here S b (suc place) = assignment_of S (call_at b place)
 
--- what stands for parameters is that
+-- the values of parameters are those
 pub record IsScope (S : Signature) (ts : List Tree) (b : Begun) (s : Bound) : Type 0 where
   pub begun : s.here ≤ length b
   pub agrees : standing ts s ≡ assignment_here S b s.here

@@ -15,7 +15,7 @@ use eo_sig::{Case, Signature};
 use eo_term::{HEIGHT_LIMIT, Id, Table};
 use std::alloc::AllocError;
 
-/// The body of the first case whose patterns match these values. What stands for its parameters is
+/// The body of the first case whose patterns match these values. The values of its parameters are
 /// then held.
 pub fn find_body(
     sig: &Signature,
@@ -59,9 +59,9 @@ fn first_body(
     Ok(None)
 }
 
-/// Whether the body of a call may be evaluated under what is held: what stands for parameters are
-/// values, and with them put in it is surely not too tall.
-pub fn is_light(table: &Table, subst: &Subst, body: Id) -> bool
+/// Whether the body of a call may be evaluated under what is held: all that parameters are given
+/// are values, and with them substituted it is not too tall.
+pub fn fits_unsubstituted(table: &Table, subst: &Subst, body: Id) -> bool
     requires live { body < length table.now.trees }
     requires below { AreBelow (length table.now.trees) subst.now }
     ensures low { IsTrue result → is_tall (put_in table.now subst.now body) ≡ false }
@@ -74,8 +74,8 @@ pub fn is_light(table: &Table, subst: &Subst, body: Id) -> bool
     table.height(body) + tallest <= HEIGHT_LIMIT + 1
 }
 
-// The height of the tallest of the values that stand for parameters, or of a leaf; none, where any
-// is no value.
+// The height of the tallest of the values of parameters, or of a leaf; none, where any is no
+// value.
 fn tallest_value(table: &Table, slots: &[Option<Id>]) -> Option<u32>
     requires below { All (SlotBelow (length table.now.trees)) slots.now }
     ensures some { IfSome result (λ h. 1 ≤ h) }
@@ -92,7 +92,7 @@ fn tallest_value(table: &Table, slots: &[Option<Id>]) -> Option<u32>
     Some(tallest)
 }
 
-// The height of the value that stands for a parameter, or of a leaf; none, where it is no value.
+// The height of the value of a parameter, or of a leaf; none, where it is no value.
 fn value_height(table: &Table, slot: &Option<Id>) -> Option<u32>
     requires { SlotBelow (length table.now.trees) slot.now }
     ensures some { IfSome result (λ h. 1 ≤ h) }
@@ -108,7 +108,7 @@ fn value_height(table: &Table, slot: &Option<Id>) -> Option<u32>
     Some(table.height(id).max(1))
 }
 
-// Whether these patterns match. What stands for their parameters is then held.
+// Whether these patterns match. The values of their parameters are then held.
 fn is_match(
     table: &Table,
     subst: &mut Subst,

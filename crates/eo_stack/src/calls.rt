@@ -14,13 +14,13 @@ pub struct CallKey {
     pub args: Args,
 }
 
-/// The arguments of a call. Up to three stand in the value itself, without an allocation.
+/// The arguments of a call. Up to three are in the value itself, without an allocation.
 #[derive(Drop)]
 pub struct Args {
     held: Held,
 }
 
-// Where arguments stand.
+// How arguments are kept.
 #[derive(Drop)]
 enum Held {
     One([Id; 1]),

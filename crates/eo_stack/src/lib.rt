@@ -1,19 +1,19 @@
-//! What an evaluation is made of: what waits for a result, what stands for parameters, the keys of
-//! calls, their bodies, and what nodes are over the values of their parts.
+//! What an evaluation is made of: what waits for a result, the values of parameters, the keys of
+//! calls, their bodies, and the results of nodes over the values of their parts.
 #![tactic(auto)]
 
 mod bodies;
 mod calls;
+mod env;
 mod operators;
-mod scope;
 mod stack;
 
-pub use bodies::{find_body, is_light};
+pub use bodies::{find_body, fits_unsubstituted};
 pub use calls::{Args, CallKey, LocalKey};
+pub use env::Env;
 use eo_term::Id;
-pub use operators::made;
-pub use scope::Scope;
-pub use stack::{Frame, Known, Now, Stack};
+pub use operators::apply_node;
+pub use stack::{CallMemo, Control, Frame, Stack};
 
 /// How evaluation ends.
 #[derive(Clone, Copy, Debug, PartialEq, Eq)]

@@ -1,20 +1,20 @@
 //! What nodes are over the values of their parts.
 ghost use Rattle.std.specs.Prelude.{◌≡◌, ◌<◌, IsTrue, IsFalse, length, All, IfOk, IfSome, Option};
 ghost use Rattle.eo_term.specs.Growth.{Grows, tree_in, trees_in};
-ghost use Rattle.eo_term.specs.Terms.{arity, HasArity, tree_of, PartsBelow, TextsBelow, IsPlain, IsProper};
+ghost use Rattle.eo_term.specs.Terms.{HasArity, tree_of, PartsBelow, TextsBelow, IsPlain, IsProper};
 ghost use Rattle.eo_term.specs.Tree.{Tree, Trees, NoTree, Op, is_value};
 ghost use Rattle.eo_term.specs.Arguments.{count_of};
-ghost use Rattle.eo_term.specs.declared.OpName.TheVariants as name;
 ghost use Rattle.eo_sig.specs.Reading.{signature, IsBelow};
 ghost use Rattle.eo_sig.specs.Growth.{GrowsUnder};
 ghost use Rattle.eo_lists.specs.Outcomes.{IsListOperator, GivesList, value_in};
 ghost use Rattle.eo_ops.specs.Operators as ops;
-ghost use Rattle.eo_type.specs.Known.{Fit, StillFit, type_at};
+ghost use Rattle.eo_type.specs.Known.{Fit, FitWith, Extends};
 ghost use Rattle.eo_type.specs.Outcomes.{Answers};
+ghost use Rattle.eo_type.specs.Parts.{AreArguments};
 ghost use Rattle.eo_type.specs.Types.{TypeOutcome, on_typed, typed_if, typed_answer, value_type};
-ghost use Rattle.eo_stack.specs.Evaluation.{Stuck, type_value, value_or, operator_value};
+ghost use Rattle.eo_stack.specs.Evaluation.{Stuck, typed_outcome, value_or, operator_value};
 ghost use Rattle.eo_stack.specs.Machine.{parts_of, low_value, low_outcome, made_of, other_value, variable_value, name_value};
-ghost use Rattle.eo_stack.specs.Reading.{outcome_in, OutcomeBelow};
+ghost use Rattle.eo_stack.specs.Reading.{IsOutcome};
 
 use crate::Outcome;
 use eo_lists::list_op;
@@ -25,7 +25,7 @@ use std::alloc::{AllocError, Global};
 
 /// What a node other than a program call is over the values of its parts. Types that are kept stay,
 /// also where memory runs out, and those that `eo::typeof` finds are kept with them.
-pub fn made(
+pub fn apply_node(
     alloc: Global,
     sig: &Signature,
     table: &mut Table,
@@ -37,37 +37,35 @@ pub fn made(
     requires values { All (λ i. i < length table.old.trees) values.now }
     requires count { length values.now ≡ count_of (parts_of (tree_in table.old id)) }
     requires fits { Fit sig.now table.old types.old }
-    ensures outcome { IfOk result (λ o. outcome_in table.new.trees o
-        ≡ made_of (signature table.old.trees sig.now) (tree_in table.old id) (trees_in table.old values.now)) }
-    ensures live { IfOk result (OutcomeBelow (length table.new.trees)) }
-    ensures fits { StillFit sig.now table.new types.old types.new }
-    ensures grows { GrowsUnder sig.now table.old table.new }
+    ensures outcome { IfOk result (IsOutcome table.new
+        (made_of (signature table.old.trees sig.now) (tree_in table.old id) (trees_in table.old values.now))) }
+    ensures extends { Extends sig.now table.old types.old table.new types.new }
 {
     sig.laws();
     types.laws();
     match table.node(id) {
-        Node::Var { name, .. } => interned(
+        Node::Var { name, .. } => intern_outcome(
             table,
             Node::Var {
                 name,
                 ty: values[0],
             },
         ),
-        Node::App { .. } => interned(
+        Node::App { .. } => intern_outcome(
             table,
             Node::App {
                 fun: values[0],
                 arg: values[1],
             },
         ),
-        Node::Arr { .. } => interned(
+        Node::Arr { .. } => intern_outcome(
             table,
             Node::Arr {
                 from: values[0],
                 to: values[1],
             },
         ),
-        Node::Op { code, .. } => made_op(alloc, sig, table, types, code, values),
+        Node::Op { code, .. } => apply_op(alloc, sig, table, types, code, values),
         Node::Par(_) => Ok(Outcome::Stuck),
         Node::Qar { .. } => Ok(Outcome::Stuck),
         Node::Con(_) => Ok(Outcome::Stuck),
@@ -78,7 +76,7 @@ pub fn made(
 }
 
 // What an operator makes of values. A program is called elsewhere.
-fn made_op(
+fn apply_op(
     alloc: Global,
     sig: &Signature,
     table: &mut Table,
@@ -89,11 +87,9 @@ fn made_op(
     requires args { All (λ i. i < length table.old.trees) args.now }
     requires count { HasArity code (length args.now) }
     requires fits { Fit sig.now table.old types.old }
-    ensures outcome { (ts : Trees) → IfOk result (λ o. outcome_in table.new.trees o
-        ≡ made_of (signature table.old.trees sig.now) (Op code ts) (trees_in table.old args.now)) }
-    ensures live { IfOk result (OutcomeBelow (length table.new.trees)) }
-    ensures fits { StillFit sig.now table.new types.old types.new }
-    ensures grows { GrowsUnder sig.now table.old table.new }
+    ensures outcome { (ts : Trees) → IfOk result (IsOutcome table.new
+        (made_of (signature table.old.trees sig.now) (Op code ts) (trees_in table.old args.now))) }
+    ensures extends { Extends sig.now table.old types.old table.new types.new }
 {
     sig.laws();
     types.laws();
@@ -112,14 +108,11 @@ fn operator(
     op: OpName,
     args: &[Id],
 ) -> Result<Outcome, AllocError>
-    requires args { All (λ i. i < length table.old.trees) args.now }
-    requires count { length args.now ≡ arity op }
+    requires arguments { AreArguments table.old op args.now }
     requires fits { Fit sig.now table.old types.old }
-    ensures outcome { IfOk result (λ o. outcome_in table.new.trees o
-        ≡ low_outcome (operator_value (signature table.old.trees sig.now) op (trees_in table.old args.now))) }
-    ensures live { IfOk result (OutcomeBelow (length table.new.trees)) }
-    ensures fits { StillFit sig.now table.new types.old types.new }
-    ensures grows { GrowsUnder sig.now table.old table.new }
+    ensures outcome { IfOk result (IsOutcome table.new
+        (low_outcome (operator_value (signature table.old.trees sig.now) op (trees_in table.old args.now)))) }
+    ensures extends { Extends sig.now table.old types.old table.new types.new }
 {
     sig.laws();
     types.laws();
@@ -139,12 +132,10 @@ fn other(
     op: OpName,
     args: &[Id],
 ) -> Result<Outcome, AllocError>
-    requires count { length args.now ≡ arity op }
-    requires args { All (λ i. i < length table.old.trees) args.now }
+    requires arguments { AreArguments table.old op args.now }
     requires below { IsBelow (length table.old.trees) sig.now }
-    ensures outcome { IfOk result (λ o. outcome_in table.new.trees o
-        ≡ low_outcome (other_value (signature table.old.trees sig.now) op (trees_in table.old args.now))) }
-    ensures live { IfOk result (OutcomeBelow (length table.new.trees)) }
+    ensures outcome { IfOk result (IsOutcome table.new
+        (low_outcome (other_value (signature table.old.trees sig.now) op (trees_in table.old args.now)))) }
     ensures grows { GrowsUnder sig.now table.old table.new }
 {
     sig.laws();
@@ -179,27 +170,25 @@ fn is_on_lists(op: OpName) -> bool
 fn variable(table: &mut Table, name: Id, ty: Id) -> Result<Outcome, AllocError>
     requires name { name < length table.old.trees }
     requires ty { ty < length table.old.trees }
-    ensures outcome { IfOk result (λ o. outcome_in table.new.trees o ≡ variable_value (tree_in table.old name) (tree_in table.old ty)) }
-    ensures live { IfOk result (OutcomeBelow (length table.new.trees)) }
+    ensures outcome { IfOk result (IsOutcome table.new (variable_value (tree_in table.old name) (tree_in table.old ty))) }
     ensures grows { Grows table.old table.new }
 {
     let Node::Str(text) = table.node(name) else {
         return Ok(Outcome::Stuck);
     };
-    interned(table, Node::Var { name: text, ty })
+    intern_outcome(table, Node::Var { name: text, ty })
 }
 
 // The name of a variable, as a string.
 fn name_of(table: &mut Table, id: Id) -> Result<Outcome, AllocError>
     requires { id < length table.old.trees }
-    ensures outcome { IfOk result (λ o. outcome_in table.new.trees o ≡ name_value (tree_in table.old id)) }
-    ensures live { IfOk result (OutcomeBelow (length table.new.trees)) }
+    ensures outcome { IfOk result (IsOutcome table.new (name_value (tree_in table.old id))) }
     ensures grows { Grows table.old table.new }
 {
     let Node::Var { name, .. } = table.node(id) else {
         return Ok(Outcome::Stuck);
     };
-    interned(table, Node::Str(name))
+    intern_outcome(table, Node::Str(name))
 }
 
 // The type of a value, if it is one that is a value.
@@ -209,16 +198,13 @@ fn type_of(
     types: &mut Types,
     id: Id,
 ) -> Result<Outcome, AllocError>
-    requires live { id < length table.old.trees }
-    requires fits { Fit sig.now table.old types.old }
-    ensures outcome { IfOk result (λ o. outcome_in table.new.trees o
-        ≡ low_outcome (type_value (value_type (signature table.old.trees sig.now) (tree_in table.old id)))) }
-    ensures live { IfOk result (OutcomeBelow (length table.new.trees)) }
-    ensures fits { StillFit sig.now table.new types.old types.new }
-    ensures grows { GrowsUnder sig.now table.old table.new }
+    requires { FitWith sig.now table.old types.old id }
+    ensures outcome { IfOk result (IsOutcome table.new
+        (low_outcome (typed_outcome (value_type (signature table.old.trees sig.now) (tree_in table.old id))))) }
+    ensures extends { Extends sig.now table.old types.old table.new types.new }
 {
     let found = types.type_of(sig, table, id);
-    value_typed(table, found)
+    value_type_outcome(table, found)
 }
 
 // The value of an operator on lists.
@@ -230,16 +216,13 @@ fn on_lists(
     args: &[Id],
 ) -> Result<Outcome, AllocError>
     requires list { IsListOperator op }
-    requires count { length args.now ≡ arity op }
-    requires args { All (λ i. i < length table.old.trees) args.now }
+    requires arguments { AreArguments table.old op args.now }
     requires below { IsBelow (length table.old.trees) sig.now }
-    ensures outcome { IfOk result (λ o. outcome_in table.new.trees o
-        ≡ low_outcome (value_or (value_in sig.now table.old op args.now) Stuck)) }
-    ensures live { IfOk result (OutcomeBelow (length table.new.trees)) }
+    ensures outcome { IfOk result (IsOutcome table.new (low_outcome (value_or (value_in sig.now table.old op args.now) Stuck))) }
     ensures grows { GrowsUnder sig.now table.old table.new }
 {
     let found = list_op(alloc, sig, table, op, args);
-    listed(table, found)
+    list_outcome(table, found)
 }
 
 // The value of an operator on literals.
@@ -249,25 +232,22 @@ fn on_literals(
     op: OpName,
     args: &[Id],
 ) -> Result<Outcome, AllocError>
-    requires count { length args.now ≡ arity op }
-    requires args { All (λ i. i < length table.old.trees) args.now }
-    ensures outcome { IfOk result (λ o. outcome_in table.new.trees o
-        ≡ low_outcome (type_value (typed_answer (ops.tree_op_value op (trees_in table.old args.now))))) }
-    ensures live { IfOk result (OutcomeBelow (length table.new.trees)) }
+    requires arguments { AreArguments table.old op args.now }
+    ensures outcome { IfOk result (IsOutcome table.new
+        (low_outcome (typed_outcome (typed_answer (ops.tree_op_value op (trees_in table.old args.now)))))) }
     ensures grows { Grows table.old table.new }
 {
     let found = operator_value(alloc, table, op, args);
-    typed(table, found)
+    type_outcome(table, found)
 }
 
 // The outcome that is a term with this root, unless it is too tall.
-fn interned(table: &mut Table, node: Node) -> Result<Outcome, AllocError>
+fn intern_outcome(table: &mut Table, node: Node) -> Result<Outcome, AllocError>
     requires plain { IsPlain node }
     requires parts { PartsBelow (length table.old.trees) node }
     requires texts { TextsBelow (length table.old.texts) node }
     requires proper { IsProper node }
-    ensures outcome { IfOk result (λ o. outcome_in table.new.trees o ≡ low_value (tree_of table.old.trees table.old.texts node NoTree)) }
-    ensures live { IfOk result (OutcomeBelow (length table.new.trees)) }
+    ensures outcome { IfOk result (IsOutcome table.new (low_value (tree_of table.old.trees table.old.texts node NoTree))) }
     ensures grows { Grows table.old table.new }
 {
     match table.intern(node) {
@@ -278,10 +258,11 @@ fn interned(table: &mut Table, node: Node) -> Result<Outcome, AllocError>
 }
 
 // What was found for a type or for an operator on literals, as an outcome.
-fn typed(table: &Table, found: Result<Option<Id>, TypeRefused>) -> Result<Outcome, AllocError>
-    ensures outcome { (o : TypeOutcome Tree) → Answers table.now found o → IfOk result (λ x. outcome_in table.now.trees x
-        ≡ low_outcome (type_value o)) }
-    ensures live { (o : TypeOutcome Tree) → Answers table.now found o → IfOk result (OutcomeBelow (length table.now.trees)) }
+fn type_outcome(
+    table: &Table,
+    found: Result<Option<Id>, TypeRefused>,
+) -> Result<Outcome, AllocError>
+    ensures { (o : TypeOutcome Tree) → Answers table.now found o → IfOk result (IsOutcome table.now (low_outcome (typed_outcome o))) }
 {
     table.laws();
     match found {
@@ -294,11 +275,13 @@ fn typed(table: &Table, found: Result<Option<Id>, TypeRefused>) -> Result<Outcom
 }
 
 // The same for a type that has to be a value.
-fn value_typed(table: &Table, found: Result<Option<Id>, TypeRefused>) -> Result<Outcome, AllocError>
+fn value_type_outcome(
+    table: &Table,
+    found: Result<Option<Id>, TypeRefused>,
+) -> Result<Outcome, AllocError>
     requires { IfOk found (λ o. IfSome o (λ i. i < length table.now.trees)) }
-    ensures outcome { (o : TypeOutcome Tree) → Answers table.now found o → IfOk result (λ x. outcome_in table.now.trees x
-        ≡ low_outcome (type_value (on_typed o (λ t. typed_if (is_value t) t)))) }
-    ensures live { (o : TypeOutcome Tree) → Answers table.now found o → IfOk result (OutcomeBelow (length table.now.trees)) }
+    ensures { (o : TypeOutcome Tree) → Answers table.now found o →
+        IfOk result (IsOutcome table.now (low_outcome (typed_outcome (on_typed o (λ t. typed_if (is_value t) t))))) }
 {
     match found {
         Ok(Some(id)) => Ok(if table.is_value(id) {
@@ -314,10 +297,11 @@ fn value_typed(table: &Table, found: Result<Option<Id>, TypeRefused>) -> Result<
 }
 
 // What was found for an operator on lists, as an outcome.
-fn listed(table: &Table, found: Result<Option<Id>, TermRefused>) -> Result<Outcome, AllocError>
-    ensures outcome { (o : Option Tree) → GivesList table.now found o → IfOk result (λ x. outcome_in table.now.trees x
-        ≡ low_outcome (value_or o Stuck)) }
-    ensures live { (o : Option Tree) → GivesList table.now found o → IfOk result (OutcomeBelow (length table.now.trees)) }
+fn list_outcome(
+    table: &Table,
+    found: Result<Option<Id>, TermRefused>,
+) -> Result<Outcome, AllocError>
+    ensures { (o : Option Tree) → GivesList table.now found o → IfOk result (IsOutcome table.now (low_outcome (value_or o Stuck))) }
 {
     table.laws();
     match found {

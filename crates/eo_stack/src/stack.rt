@@ -5,14 +5,14 @@ ghost use Rattle.eo_term.specs.Tree.{Tree};
 ghost use Rattle.eo_term.specs.Terms.{tree_at};
 ghost use Rattle.eo_stack.specs.Evaluation.{Value, Stuck};
 ghost use Rattle.eo_stack.specs.Reading.{node_of, awaits_body, deepest_of, values_before};
-ghost use Rattle.eo_stack.specs.Reading.{depth_of, result_of, given_in, deeper, known_of, NowBelow};
+ghost use Rattle.eo_stack.specs.Reading.{depth_of, result_of, given_in, deeper, memo_of, ControlBelow};
 
 use eo_term::Id;
 use std::alloc::{AllocError, Global};
 
 /// What was finished, with how many calls must be allowed to open for it.
 #[derive(Clone, Copy)]
-pub enum Known {
+pub enum CallMemo {
     /// It was begun, and is not finished.
     Open,
     /// A value.
@@ -43,44 +43,44 @@ pub enum Frame {
         id: Id,
     },
     /// A comparison waits for its first term.
-    Left {
+    EqLeft {
         id: Id,
         left: u32,
     },
     /// It waits for its second one, the first having this value.
-    Right {
+    EqRight {
         id: Id,
         first: Id,
         deepest: u32,
     },
     /// The same, the first being stuck.
-    Unequal {
+    EqStuck {
         id: Id,
         deepest: u32,
     },
     /// A requirement waits for its first term.
-    Require {
+    RequireLeft {
         id: Id,
         left: u32,
     },
     /// It waits for its second one, the first having this value.
-    Required {
+    RequireRight {
         id: Id,
         first: Id,
         deepest: u32,
         left: u32,
     },
     /// The same, the first being stuck.
-    Missed {
+    RequireStuck {
         id: Id,
         deepest: u32,
     },
     /// A node waits for another term, whose result is its own.
-    Handed {
+    Tail {
         id: Id,
         deepest: u32,
     },
-    /// A call waits for its body. Before it, what stood for parameters was that of the call before
+    /// A call waits for its body. Before it, the values of parameters were those of the call before
     /// `here`, from `base` on, and so many terms with parameters were remembered.
     Body {
         place: usize,
@@ -93,12 +93,12 @@ pub enum Frame {
 
 /// What is done next.
 #[derive(Clone, Copy)]
-pub enum Now {
+pub enum Control {
     /// A term is evaluated, where so many calls may open.
-    Enter { id: Id, left: u32 },
+    Eval { id: Id, left: u32 },
     /// A value is given to what waits for it.
     Value { id: Id, deepest: u32 },
-    /// What waits for a value is told that there is none.
+    /// There is no value for what waits for one.
     Stuck { deepest: u32 },
     /// Too many calls are open.
     Deep,
@@ -119,13 +119,13 @@ impl Frame {
             Frame::Parts { id, .. } => id,
             Frame::Choice { id, .. } => id,
             Frame::Tested { id } => id,
-            Frame::Left { id, .. } => id,
-            Frame::Right { id, .. } => id,
-            Frame::Unequal { id, .. } => id,
-            Frame::Require { id, .. } => id,
-            Frame::Required { id, .. } => id,
-            Frame::Missed { id, .. } => id,
-            Frame::Handed { id, .. } => id,
+            Frame::EqLeft { id, .. } => id,
+            Frame::EqRight { id, .. } => id,
+            Frame::EqStuck { id, .. } => id,
+            Frame::RequireLeft { id, .. } => id,
+            Frame::RequireRight { id, .. } => id,
+            Frame::RequireStuck { id, .. } => id,
+            Frame::Tail { id, .. } => id,
             Frame::Body { body, .. } => body,
         }
     }
@@ -146,47 +146,47 @@ impl Frame {
     {
         match *self {
             Frame::Parts { deepest, .. } => deepest,
-            Frame::Right { deepest, .. } => deepest,
-            Frame::Unequal { deepest, .. } => deepest,
-            Frame::Required { deepest, .. } => deepest,
-            Frame::Missed { deepest, .. } => deepest,
-            Frame::Handed { deepest, .. } => deepest,
+            Frame::EqRight { deepest, .. } => deepest,
+            Frame::EqStuck { deepest, .. } => deepest,
+            Frame::RequireRight { deepest, .. } => deepest,
+            Frame::RequireStuck { deepest, .. } => deepest,
+            Frame::Tail { deepest, .. } => deepest,
             _ => 0,
         }
     }
 }
 
-impl Now {
+impl Control {
     /// The value that is given, if one is.
     pub fn value(&self) -> Option<Id>
         ensures some { (ts : List Tree) → IfSome result (λ i. result_of ts self.now ≡ Value (tree_at ts i)) }
         ensures none { (ts : List Tree) → IfNone result (result_of ts self.now ≡ Stuck) }
         ensures given { (ts : List Tree) → option_map (tree_at ts) result ≡ given_in ts self.now }
-        ensures live { (n : ℕ) → NowBelow n self.now → IfSome result (λ i. i < n) }
+        ensures live { (n : ℕ) → ControlBelow n self.now → IfSome result (λ i. i < n) }
     {
         match *self {
-            Now::Value { id, .. } => Some(id),
+            Control::Value { id, .. } => Some(id),
             _ => None,
         }
     }
 
     /// What a call whose body gives this is known to give, where so many calls may open.
-    pub fn known(&self, deepest: u32) -> Known
-        ensures { result ≡ known_of self.now deepest }
+    pub fn memo(&self, deepest: u32) -> CallMemo
+        ensures { result ≡ memo_of self.now deepest }
     {
         match *self {
-            Now::Value { id, .. } => Known::Value { id, deepest },
-            _ => Known::Stuck { deepest },
+            Control::Value { id, .. } => CallMemo::Value { id, deepest },
+            _ => CallMemo::Stuck { deepest },
         }
     }
 
     /// The same result, given by a call whose body gives this.
-    pub fn deeper(&self, deepest: u32) -> Now
+    pub fn deeper(&self, deepest: u32) -> Control
         ensures { result ≡ deeper self.now deepest }
     {
         match *self {
-            Now::Value { id, .. } => Now::Value { id, deepest },
-            _ => Now::Stuck { deepest },
+            Control::Value { id, .. } => Control::Value { id, deepest },
+            _ => Control::Stuck { deepest },
         }
     }
 
@@ -194,7 +194,7 @@ impl Now {
     pub fn is_value(&self) -> bool
         ensures { (ts : List Tree) → result ≡ is_some (given_in ts self.now) }
     {
-        matches!(*self, Now::Value { .. })
+        matches!(*self, Control::Value { .. })
     }
 
     /// How many calls had to be allowed to open for what is given.
@@ -202,8 +202,8 @@ impl Now {
         ensures { result ≡ depth_of self.now }
     {
         match *self {
-            Now::Value { deepest, .. } => deepest,
-            Now::Stuck { deepest } => deepest,
+            Control::Value { deepest, .. } => deepest,
+            Control::Stuck { deepest } => deepest,
             _ => 0,
         }
     }

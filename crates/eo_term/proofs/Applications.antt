@@ -14,7 +14,7 @@ use Rattle.eo_term.specs.Held.{tree_of_root, IsOver, IsEntry, IsSound}
 use Rattle.eo_term.proofs.Numbers.{slice_get_at_map}
 use Rattle.eo_term.proofs.Sound.{shown}
 
--- what the parts of a term's root tell of it
+-- what the parts of a term's root say of it
 pub record TellParts (t : Terms) (i : ℕ) (o : Option (ℕ × ℕ)) : Type 0 where
   pub tree : IfSome o (λ p. App (tree_at t.trees p.0) (tree_at t.trees p.1) ≡ tree_at t.trees i)
   pub older : IfSome o (λ p. (p.0 < i) × (p.1 < i))

@@ -1,4 +1,4 @@
--- What calls answer that make terms, said in another way.
+-- What calls that make terms return, said in another way.
 use Rattle.std.proofs.Common.{◌≡◌, ℕ, Bool, List, true, sym, subst}
 use Rattle.std.specs.Prelude.{Result, Ok, Err, IfOk, ◌↔◌}
 use Rattle.std.specs.List.{list_any}

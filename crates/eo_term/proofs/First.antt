@@ -20,6 +20,7 @@ pub record IsConstant (n : ℕ) (k : Root) : Type 0 where
 -- what is known of a leaf without parameters
 pub record IsLeaf (s : Info) : Type 0 where
   pub height : s.height ≡ 1
+  pub arity : s.arity ≡ 0
   pub value : s.value ≡ true
   pub closed : s.closed ≡ true
   pub plain : s.plain ≡ true
@@ -42,7 +43,7 @@ entry_of_constant xs i n k leaf l p e = record {
   };
   tree = e ∙ sym (tree_of_constant first_trees xs n k p);
   tells = subst (λ t. Tells t leaf) (sym e)
-      (record { height = l.height; value = l.value; closed = l.closed; plain = l.plain; typable = l.typable; parameters = l.parameters; open_parameters = l.open_parameters });
+      (record { height = l.height; arity = l.arity; value = l.value; closed = l.closed; plain = l.plain; typable = l.typable; parameters = l.parameters; open_parameters = l.open_parameters });
   low = omega (arith, l.height);
 }
 

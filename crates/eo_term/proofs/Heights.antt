@@ -4,7 +4,7 @@ use Rattle.std.proofs.lemmas.Bool.{le-ltb}
 use Rattle.eo_base.specs.Limits.{height_limit}
 use Rattle.eo_base.proofs.Tests.{still_above}
 use Rattle.eo_term.specs.declared.OpCode.{OpCode}
-use Rattle.eo_term.specs.Tree.{Tree, Trees, Op, NoTree, More, height, height_all, is_tall}
+use Rattle.eo_term.specs.Tree.{Tree, Trees, Con, Num, Bits, Str, Par, Var, App, Arr, Qar, Op, NoTree, More, height, height_all, arity, is_tall}
 use Rattle.eo_term.specs.Arguments.{count_of, argument_at}
 
 -- what is as tall as one that is too tall
@@ -23,3 +23,16 @@ argument_height (More t ts) (suc i) l = let h = argument_height ts i (omega arit
 
 pub tall_argument : (c : OpCode) (ts : Trees) (i : ℕ) → i < count_of ts → is_tall (argument_at ts i) ≡ true → is_tall (Op c ts) ≡ true
 tall_argument c ts i l e = let h = argument_height ts i l in higher (argument_at ts i) (Op c ts) (omega (arith, h)) e
+
+-- a function type takes fewer arguments than it is high
+pub arity_height : (t : Tree) → arity t ≤ height t
+arity_height (Con k) = omega arith
+arity_height (Num z) = omega arith
+arity_height (Bits w v) = omega arith
+arity_height (Str s) = omega arith
+arity_height (Par i) = omega arith
+arity_height (Var s t) = omega arith
+arity_height (App f x) = omega arith
+arity_height (Arr a b) = let h = arity_height b in omega (arith, h)
+arity_height (Qar i t b) = let h = arity_height b in omega (arith, h)
+arity_height (Op c ts) = omega arith

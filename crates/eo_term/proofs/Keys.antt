@@ -76,7 +76,7 @@ more_lists m n terms k keys literals count more = record {
   wide = subst (λ ls. All IsWide (keys_of ls.entries)) (sym literals) k.wide;
 }
 
--- a key stands for the same root where its literal and its arguments are the same
+-- a key represents the same root where its literal and its arguments are the same
 pub root_same : (ls ms : List Literal) (as' bs : List (List ℕ)) (k : Key) → UsesOnly (λ l. literal_at ms l ≡ literal_at ls l) (λ l. list_at bs l ≡ list_at as' l) k → root_of ms bs k ≡ root_of ls as' k
 root_same ls ms as' bs (key.Con k) h = refl
 root_same ls ms as' bs (key.Num z) h = refl
@@ -186,7 +186,7 @@ module _ (ls : List Literal) (as' : List (List ℕ)) (la : AreApart ls) (aa : Ar
   same_key (key.Prog n o b) (key.Literal a) p q e f = other a (node.Op (OpCode.Prog o) n) (sym e) (λ x. x)
   same_key k l p q e f = absurd cc
 
-  -- keys that stand for one root are one key
+  -- keys that represent one root are one key
   pub one_key : (k l : Key) → Live k → Live l → root_of ls as' k ≡ root_of ls as' l → k ≡ l
   one_key k l p q e = same_key k l p q (ap (λ (r : Root). r.node) e) (ap (λ (r : Root). r.args) e)
 

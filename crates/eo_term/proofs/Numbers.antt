@@ -1,4 +1,4 @@
--- Things that stand once each, with numbers and with how many terms there were when each came.
+-- Different things, with numbers and with how many terms there were when each came.
 use Rattle.eo_base.proofs.Elements.{slice_get_left, slice_get_seam}
 use Rattle.std.proofs.Common.{◌≡◌, ◌≢◌, ℕ, zero, suc, ◌-◌, ◌<◌, ◌≤◌, inl, inr, Bool, true, false, cond, List, [], ◌∷◌, ◌++◌, length, map, get_or, take, slice_get, position, Option, Some, None, IfSome, IfNone, Result, Ok, Err, OnErr, refl, sym, ap, ◌∙◌, subst, arith, length-append, is_some, true≢false}
 use Rattle.std.specs.Map.{keys_of, lookup}

@@ -17,7 +17,7 @@ pub has_bit : (set i : ℕ) → nat_eq (bit_and (set / 2 ^ i) 1) 1 ≡ has set i
 unfolding has
 has_bit set i = ap (λ (b : ℕ). nat_eq b 1) (shr_and_one set i)
 
--- what is in a set stands below as many places as its leading zeros leave
+-- what is in a set is below as many places as its leading zeros leave
 pub has_below : (set i : ℕ) → set < 2 ^ 64 → has set i ≡ true → i < 64 - count_leading_zeros 64 set
 unfolding has
 has_below set i h e = at (leading_length 64 set h)

@@ -29,7 +29,7 @@ pop_stacked : (P Q : ℕ → Type 0) (id : ℕ) (xs : List ℕ) (next top : ℕ)
 pop_stacked P Q id [] next top f h = (h.0, f next h.1.1.0 h.1.0)
 pop_stacked P Q id (x ∷ xs) next top f h = (h.0, (f x (top_upon P x (xs ++ next ∷ []) top h.1.1).0 h.1.0, pop_upon P Q x xs next top f h.1.1))
 
--- what is told of other terms than the one that was found
+-- what is found for other terms than the one that was found
 other_told : (m new : List (ℕ × ℕ)) (i j k : ℕ) → told new k ≡ (if nat_eq i k then Some j else told m k) → (i ≡ k → ⊥) → told new k ≡ told m k
 other_told m new i j k e n = by_test (nat_eq i k) refl e
   where

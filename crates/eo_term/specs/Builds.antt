@@ -1,4 +1,4 @@
--- What calls answer that make terms, where a term may be too tall.
+-- What calls that make terms return, where a term may be too tall.
 use Rattle.std.specs.Prelude.{◌≡◌, ℕ, ◌<◌, Bool, true, List, length, Result, Ok, Err, All}
 use Rattle.std.specs.List.{list_any}
 use Rattle.eo_term.specs.declared.table.TermRefused.{TermRefused}
@@ -12,7 +12,7 @@ abbrev pub TallWhere : TermRefused → Bool → Type 0
 TallWhere term.Tall b = b ≡ true
 TallWhere (term.Memory e) b = Unit {0}
 
--- a call answers what is so, or refuses it where the test holds
+-- a call returns something for which this holds, or refuses where the test holds
 abbrev pub OrTall : {A : Type 0} → (A → Type 0) → Bool → Result A TermRefused → Type 0
 OrTall So b (Ok a) = So a
 OrTall So b (Err e) = TallWhere e b

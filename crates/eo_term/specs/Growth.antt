@@ -1,4 +1,4 @@
--- What calls say of a table that they take and of the term that they answer.
+-- What calls say of a table that they take and of the term that they return.
 use Rattle.std.specs.Prelude.{◌≡◌, ℕ, ◌<◌, nat_eq, List, length, map, take, Result, Ok, Err}
 use Rattle.eo_term.specs.Tree.{Tree, tree_eq}
 use Rattle.eo_term.specs.Ranges.{AreInRange}
@@ -41,7 +41,7 @@ pub record IsTerm (t : Terms) (u : Tree) (i : ℕ) : Type 0 where
   pub live : i < length t.trees
   pub tree : tree_at t.trees i ≡ u
 
--- a call answers the id of this tree, or refuses
+-- a call returns the id of this tree, or refuses
 abbrev pub Makes : {E : Type 0} → Terms → Result ℕ E → Tree → Type 0
 Makes t (Ok i) u = IsTerm t u i
 Makes t (Err e) u = Unit {0}

@@ -4,7 +4,7 @@ use Rattle.eo_term.specs.declared.node.Info.{Info}
 use Rattle.eo_term.specs.declared.node.Node.{Node}
 use Rattle.eo_term.specs.declared.table.TheConstants.{HEIGHT_LIMIT}
 use Rattle.eo_term.specs.ParamSet.{has}
-use Rattle.eo_term.specs.Tree.{Tree, height, is_tall, is_value, is_closed, is_plain, may_be_type, occurs, occurs_openly}
+use Rattle.eo_term.specs.Tree.{Tree, height, arity, is_tall, is_value, is_closed, is_plain, may_be_type, occurs, occurs_openly}
 use Rattle.eo_base.specs.Characters.{AreCharacters}
 use Rattle.eo_term.specs.Terms.{Terms, tree_at, tree_of, trees_at, PartsBelow, TextsBelow, HasArguments, IsProper, AreApart, Interned, first_trees}
 use Rattle.eo_term.specs.Ranges.{HasRange}
@@ -22,9 +22,10 @@ trees_after xs ts (e ∷ es) = trees_after xs (ts ++ tree_of_root ts xs e.0 ∷ 
 abbrev pub trees_of : List (List ℕ) → List (Root × Info) → List Tree
 trees_of xs es = trees_after xs [] es
 
--- what is known tells of the tree
+-- what is known agrees with the tree
 pub record Tells (t : Tree) (s : Info) : Type 0 where
   pub height : s.height ≡ height t
+  pub arity : s.arity ≡ arity t
   pub value : s.value ≡ is_value t
   pub closed : s.closed ≡ is_closed t
   pub plain : s.plain ≡ is_plain t

@@ -38,7 +38,7 @@ literal_at ls l = slice_index_or ls l (literal.Num (pos 0))
 abbrev pub list_at : List (List ℕ) → ℕ → List ℕ
 list_at as' l = slice_index_or as' l []
 
--- the root that a key stands for, among those literals and lists of arguments
+-- the root that a key represents, among those literals and lists of arguments
 abbrev pub root_of : List Literal → List (List ℕ) → Key → Root
 root_of ls as' (key.Con k) = plain (node.Con k)
 root_of ls as' (key.Num z) = plain (node.Num z)
@@ -85,7 +85,7 @@ ages_of es = map (λ e. e.1) es
 abbrev pub IsOld : List ℕ → ℕ → ℕ → Type 0
 IsOld ages n l = (l < length ages) × (slice_index_or ages l 0 ≤ n)
 
--- things that stand once each, and how many terms there were when each came, of now n terms
+-- different things, and how many terms there were when each came, of now n terms
 pub record IsNumbered {X : Type 0} (n : ℕ) (xs : List X) (ages : List ℕ) : Type 0 where
   pub long : length ages ≡ length xs
   pub apart : AreApart xs
@@ -146,7 +146,7 @@ HasRootAt es i d is = (s : Info) × (slice_get es i ≡ Some (record { node = d;
 abbrev pub HasPartsAt : Nodes → ℕ → Option (ℕ × ℕ) → Type 0
 HasPartsAt n i o = (e : Key × Info) × (slice_get n.keys.entries i ≡ Some e) × (o ≡ parts_of e.0)
 
--- the root is new, and stands at the end
+-- the root is new, and is added at the end
 pub record IsAdded (es : List (Root × Info)) (r : Root) (s : Info) (i : ℕ) (fs : List (Root × Info)) : Type 0 where
   pub new : IsNew es r.node r.args
   pub last : i ≡ length es
@@ -156,7 +156,7 @@ pub record IsAdded (es : List (Root × Info)) (r : Root) (s : Info) (i : ℕ) (f
 abbrev pub IsPut : List (Root × Info) → Node → List ℕ → Info → ℕ → List (Root × Info) → Type 0
 IsPut es d is s i fs = (HasRootAt es i d is × (fs ≡ es)) ⊎ IsAdded es (record { node = d; args = is }) s i fs
 
--- the key's numbers are used, and it stands for that root
+-- the key's numbers are used, and it represents that root
 pub record IsKeyOf (n : Nodes) (d : Node) (is : List ℕ) (k : Key) : Type 0 where
   pub live : UsesOnly (λ l. l < length (literals_of n)) (λ l. l < length (lists_of n)) k
   pub root : root_of (literals_of n) (lists_of n) k ≡ record { node = d; args = is }

@@ -148,7 +148,7 @@ HasPartsAmong ts (Arr a b) = Contains ts a × Contains ts b
 HasPartsAmong ts (Qar i t b) = Contains ts t × Contains ts b
 HasPartsAmong ts (Op c us) = AreAmong ts us
 
--- the parts of each tree stand before it
+-- the parts of each tree are before it
 abbrev pub HaveOlderParts : List Tree → Type 0
 HaveOlderParts ts = (i : ℕ) → i < length ts → HasPartsAmong (take i ts) (tree_at ts i)
 

@@ -19,7 +19,7 @@ pub record Finishes (old : Visits) (found : ℕ) (new : Visits) : Type 0 where
   pub memo : (k : ℕ) → told new.memo k ≡ (if nat_eq old.top k then Some found else told old.memo k)
   pub waiting : old.waiting ≡ new.waiting ++ new.top ∷ []
 
--- a term below n, of which the memo does not tell, and of which R holds
+-- a term below n, for which the memo has nothing, and of which R holds
 pub record IsBegun (n : ℕ) (memo : List (ℕ × ℕ)) (R : ℕ → Type 0) (x : ℕ) : Type 0 where
   pub live : x < n
   pub untold : told memo x ≡ None
@@ -39,7 +39,7 @@ Stacked P id (x ∷ xs) top = (x ≡ id) × (P x × Upon P x xs top)
 pub record AreBegun (n : ℕ) (R : ℕ → Type 0) (id : ℕ) (w : Visits) : Type 0 where
   pub stacked : Stacked (IsBegun n w.memo R) id w.waiting w.top
 
--- The measure of a walk over terms below n. Each of them of which the memo does not tell weighs w.
+-- The measure of a walk over terms below n. Each of them for which the memo has nothing weighs w.
 
 abbrev pub weight : ℕ → Option ℕ → ℕ
 weight w None = w
@@ -52,7 +52,7 @@ weights w (suc n) memo = weight w (told memo n) + weights w n memo
 abbrev pub left : ℕ → Visits → ℕ
 left n w = weights n n w.memo + w.top
 
--- a walk that was asked for the term id, over terms below n: each term that was begun is older than the one before it, and the memo tells of none
+-- a walk that was asked for the term id, over terms below n: each term that was begun is older than the one before it, and the memo has nothing for any of them
 abbrev pub IsUnderWay : (n id : ℕ) → Visits → Type 0
 IsUnderWay n id w = AreBegun n (λ (x : ℕ). Unit {0}) id w
 

@@ -1,4 +1,4 @@
-//! Laws of trees and tables. A call costs nothing: it tells a proof what its clauses say.
+//! Laws of trees and tables. A call costs nothing: it gives a proof what its clauses say.
 ghost use Rattle.std.specs.Prelude.{◌≡◌, ◌<◌, ◌≤◌, ◌+◌, ◌↔◌, ℕ, Bool, List, Result, length, true, Decides, IfOk};
 ghost use Rattle.std.specs.Cmp.Lexicographic.{pointwise};
 ghost use Rattle.std.specs.List.{list_any};
@@ -13,13 +13,13 @@ ghost use Rattle.eo_term.specs.Refused.{IsTall};
 ghost use Rattle.eo_term.specs.Terms.{Terms, Interned, trees_at};
 ghost use Rattle.eo_term.specs.Tree.{Tree, Trees, Op, More, NoTree, is_tall, tree_eq};
 
-/// A law: two trees are equal where `tree_eq` tells so, and so are two lists of trees.
+/// A law: two trees are equal where `tree_eq` says so, and so are two lists of trees.
 pub fn equality_law()
     ensures trees { (t u : Tree) → Decides (tree_eq t u) (t ≡ u) }
     ensures lists { (ts us : List Tree) → Decides (pointwise tree_eq ts us) (ts ≡ us) }
 {}
 
-/// A law: two operators, by their codes, are equal where `==` tells so.
+/// A law: two operators, by their codes, are equal where `==` says so.
 pub fn codes_law()
     ensures { (c d : OpCode) → Decides (code_eq.ghosts.eq c d) (c ≡ d) }
 {}
@@ -30,8 +30,8 @@ pub fn table_law()
     ensures later { (a b c : Terms) → Grows a b → Grows b c → Grows a c }
 {}
 
-/// A law: the arguments of an operator from a place on are the one there and those behind it, and
-/// behind the last there are none. There are as many trees as ids.
+/// A law: the arguments of an operator from a place on are the one there and those after it, and
+/// after the last there are none. There are as many trees as ids.
 pub fn arguments_law()
     ensures next { (ts : Trees) (i : ℕ) → i < count_of ts → from i ts ≡ More (argument_at ts i) (from (i + 1) ts) }
     ensures past { (ts : Trees) (i : ℕ) → count_of ts ≤ i → from i ts ≡ NoTree }
@@ -44,7 +44,7 @@ pub fn height_law()
         is_tall (Op c ts) ≡ true }
 {}
 
-/// A law: a call that builds a term, or several, may answer the refusal of a call that it makes where
+/// A law: a call that builds a term, or several, may return the refusal of a call that it makes where
 /// what that one refuses as too tall makes too tall what is built.
 pub fn builds_law()
     ensures term { (t : Terms) (r : Result ℕ TermRefused) (u : Tree) (e : TermRefused) (b : Bool) → IsErrAnd r (λ x. x ≡ e) →

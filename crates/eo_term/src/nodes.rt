@@ -20,10 +20,10 @@ use std::hash::{BuildHasher, BuildHasherDefault, DefaultHasher, Hash};
 /// Literals with their numbers. A file chooses them freely, so they are hashed by SipHash.
 type Literals = IndexMap<Literal, usize, BuildHasherDefault<DefaultHasher>>;
 
-/// The roots of terms and what is known of them, by their places. No root stands twice.
+/// The roots of terms and what is known of them, by their places. No root is there twice.
 ///
-/// A small number stands in the key of its term, and so do two arguments of an operator of the
-/// language. Any other literal and list of arguments stand once each, under numbers of their own, with
+/// A small number is in the key of its term, and so are two arguments of an operator of the
+/// language. Any other literal or list of arguments is there once, under a number of its own, with
 /// how many terms there were when it came. So they are dropped from the end with the terms that use
 /// them.
 #[derive(Drop)]
@@ -63,7 +63,7 @@ impl Nodes {
         *info
     }
 
-    // The two parts of the application at a place, and none where another root stands there.
+    // The two parts of the application at a place, or none where another root is there.
     #[inline(always)]
     pub(crate) fn application(&self, at: usize) -> Option<(Id, Id)>
         requires { at < length (entries_of self.now) }
@@ -148,7 +148,7 @@ impl Nodes {
         }
     }
 
-    // The key of that root, as `make_key` answers it. The arguments are copied where they are not
+    // The key of that root, as `make_key` returns it. The arguments are copied where they are not
     // there.
     fn key_of(&mut self, alloc: Global, node: &Node, args: &[Id]) -> Result<Key, AllocError>
         requires kept { IsKept self.old }
@@ -165,7 +165,7 @@ impl Nodes {
             }
             Shape::Applied { code, count } => {
                 let number = number_copy(&mut self.lists, alloc, args, terms)?;
-                Ok(applied(code, count, number))
+                Ok(operator_key(code, count, number))
             }
         }
     }
@@ -202,7 +202,7 @@ impl Nodes {
             }
             Shape::Applied { code, count } => {
                 let number = number_list(&mut self.lists, args, terms)?;
-                Ok(applied(code, count, number))
+                Ok(operator_key(code, count, number))
             }
         }
     }
@@ -220,7 +220,7 @@ impl Nodes {
     }
 
     // Drops the terms from a place on, and the literals and the arguments that only they have. It costs
-    // nothing where no term stands there.
+    // nothing where there is no such term.
     #[tactic(auto, using(crate::proofs::Keys::nothing_cut))]
     pub(crate) fn cut(&mut self, terms: usize)
         requires kept { IsKept self.old }
@@ -235,7 +235,7 @@ impl Nodes {
         self.cut_newer(terms);
     }
 
-    // The same where terms stand there.
+    // The same where there are such terms.
     fn cut_newer(&mut self, terms: usize)
         requires kept { IsKept self.old }
         requires within { terms ≤ length (entries_of self.old) }
@@ -250,7 +250,7 @@ impl Nodes {
         self.lists.truncate(lists);
     }
 
-    // The root that a key stands for.
+    // The root that a key represents.
     #[inline(always)]
     fn root<'a>(&'a self, key: &'a Key) -> (Node, &'a [Id])
         requires { UsesOnly (λ l. l < length (literals_of self.now)) (λ l. l < length (lists_of self.now)) key.now }
@@ -371,7 +371,7 @@ fn shape_of_number(z: i128) -> Shape
 }
 
 // The key of an operator whose arguments have that number.
-fn applied(code: OpCode, count: u8, args: usize) -> Key
+fn operator_key(code: OpCode, count: u8, args: usize) -> Key
     ensures { result ≡ applied code count args }
 {
     match code {

@@ -51,7 +51,7 @@ const ALL: [OpName; 40] = [
 impl OpName {
     /// The operator of this name; `None`, where there is none.
     #[tactic(auto, unfolding(crate::specs::Operators::operator_named))]
-    pub fn named(word: &[u8]) -> Option<OpName>
+    pub fn from_word(word: &[u8]) -> Option<OpName>
         ensures { result ≡ operator_named word.now }
     {
         if !word.starts_with(b"eo::") {

@@ -46,7 +46,7 @@ impl ParamSet {
     }
 
     /// A number above each of its parameters.
-    pub fn bound(&self) -> usize
+    pub fn upper_bound(&self) -> usize
         ensures { (i : ℕ) → has self.now i ≡ true → i < result }
     {
         64 - self.bits.leading_zeros() as usize

@@ -3,9 +3,9 @@ ghost use Rattle.std.specs.Prelude.{◌≡◌, ℕ, ◌+◌, ◌<◌, ◌≤◌,
 ghost use Rattle.std.specs.Prelude.{length, take, true, false, IsTrue, All, None, IfSome, IfNone, IfOk, OnOk, OnErr, slice_index_or};
 ghost use Rattle.eo_base.specs.Characters.{AreCharacters};
 ghost use Rattle.eo_term.specs.ParamSet.{has};
-ghost use Rattle.eo_term.specs.Tree.{height, height_all, is_tall, is_value, is_closed, all_closed, is_plain};
+ghost use Rattle.eo_term.specs.Tree.{height, arity, height_all, is_tall, is_value, is_closed, all_closed, is_plain};
 ghost use Rattle.eo_term.specs.Tree.{may_type_use, may_be_type, all_may_be_type, occurs, occurs_in_all, occurs_openly};
-ghost use Rattle.eo_term.specs.Tree.{uses_only, tree_eq, NoTree, Con, Op, App};
+ghost use Rattle.eo_term.specs.Tree.{uses_only, tree_eq, NoTree, Con, Op, App, Arr};
 ghost use Rattle.eo_term.specs.Arguments.{count_of, arguments_of, argument_at, application_of};
 ghost use Rattle.eo_term.specs.Growth.{IsTable, Grows};
 ghost use Rattle.eo_term.specs.Terms.{Terms, tree_at, text_at, trees_at, tree_of, PartsBelow, TextsBelow, IsPlain};
@@ -56,8 +56,8 @@ impl From<AllocError> for TermRefused {
 /// texts; an [`Id`] or a [`TextId`] is a place in them.
 ///
 /// No two terms have the same tree, so two live ids are equal exactly where their trees are. The
-/// parts of a term stand before it. A term's height, which parameters occur in it and what operators
-/// it holds are stored with it, so that to ask for them does not depend on its size.
+/// parts of a term are before it. A term's height, which parameters occur in it and what operators
+/// it holds are stored with it, so that the cost of a look-up does not depend on its size.
 #[derive(Drop)]
 pub struct Table {
     alloc: Global,
@@ -118,7 +118,7 @@ impl Table {
         self.nodes.len()
     }
 
-    /// What holds of every table. A call costs nothing: it tells a proof these facts.
+    /// What holds of every table. A call costs nothing: it gives a proof these facts.
     pub fn laws(&self)
         ensures { IsTable self.now }
     {
@@ -136,7 +136,7 @@ impl Table {
         }
     }
 
-    /// The root of a term. Its parts are older terms; the arguments of an operator are told by
+    /// The root of a term. Its parts are older terms; the arguments of an operator are returned by
     /// [`Table::arg`].
     #[inline(always)]
     pub fn node(&self, id: Id) -> Node
@@ -216,6 +216,14 @@ impl Table {
         ensures low { result ≤ HEIGHT_LIMIT }
     {
         self.info(id).height
+    }
+
+    /// How many arguments a function type takes one after another. No other term takes any.
+    pub fn arity(&self, id: Id) -> usize
+        requires { id < length self.now.trees }
+        ensures { result ≡ arity (tree_at self.now.trees id) }
+    {
+        self.info(id).arity as usize
     }
 
     /// Whether a term is a value: it has no parameter, no operator and no function type that binds
@@ -438,6 +446,7 @@ impl Table {
         requires { id < length self.now.trees }
         ensures tells { Tells (tree_at self.now.trees id) result }
         ensures small { result.height ≤ HEIGHT_LIMIT }
+        ensures few { result.arity ≤ HEIGHT_LIMIT }
         ensures low { AreLow self.now.trees }
     {
         self.nodes.info(id.place())
@@ -458,13 +467,14 @@ impl Table {
                 let t = self.info(ty);
                 Info {
                     height: 1 + t.height,
+                    arity: 0,
                     ..t
                 }
             }
             Node::App { fun, arg } => self.info_of_pair(fun, arg),
-            Node::Arr { from, to } => self.info_of_pair(from, to),
+            Node::Arr { from, to } => self.info_of_arrow(from, to),
             Node::Qar { ty, to, .. } => {
-                let both = self.info_of_pair(ty, to);
+                let both = self.info_of_arrow(ty, to);
                 Info {
                     value: false,
                     ..both
@@ -472,6 +482,18 @@ impl Table {
             }
             Node::Op { .. } => Info::leaf(),
         }
+    }
+
+    // What is known of a function type.
+    fn info_of_arrow(&self, from: Id, to: Id) -> Info
+        requires from { from < length self.now.trees }
+        requires to { to < length self.now.trees }
+        ensures tells { Tells (Arr (tree_at self.now.trees from) (tree_at self.now.trees to)) result }
+        ensures small { result.height ≤ HEIGHT_LIMIT + 1 }
+    {
+        let both = self.info_of_pair(from, to);
+        let arity = 1 + self.info(to).arity;
+        Info { arity, ..both }
     }
 
     // What is known of an application of one term to another.
@@ -485,6 +507,7 @@ impl Table {
         let b = self.info(second);
         Info {
             height: 1 + a.height.max(b.height),
+            arity: 0,
             value: a.value && b.value,
             closed: a.closed && b.closed,
             plain: a.plain && b.plain,
@@ -513,6 +536,7 @@ impl Table {
         }
         Info {
             height: 1 + tallest,
+            arity: 0,
             value: false,
             closed,
             plain: false,

@@ -87,7 +87,7 @@ impl Walk {
     }
 }
 
-/// A law: a walk over the parts of a term ends. A call costs nothing: it tells a proof this.
+/// A law: a walk over the parts of a term ends. A call costs nothing: it gives a proof this fact.
 pub fn walk_law()
     ensures { (n id : ℕ) → WalksOn n id }
 {}

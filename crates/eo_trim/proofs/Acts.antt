@@ -8,12 +8,12 @@ use Rattle.eo_sexp.specs.Sexp.{Sexp}
 use Rattle.eo_term.specs.Tree.{Tree}
 use Rattle.eo_proof.specs.Scopes.{innermost_hypothesis}
 use Rattle.eo_shape.specs.Shapes.{Command, ParameterShape, StepShape, DeclareConst, DeclareFun, DeclareSort, DeclareParameterized, DeclareLiterals, Define, DefineProgram, DeclareRule, Assume, AssumePush, Step, StepPop, Include, Refer, DefineFun, DefineSort, Assert, Exit, Skip, command_of}
-use Rattle.eo_sig.specs.Signature.{Constant, Macro, SignatureEntry, IsConstant, IsProgram, IsRule, IsLiteralType}
+use Rattle.eo_sig.specs.Signature.{Constant, Macro, SignatureEntry, IsConstant, IsProgram, IsRule, IsLiteralType, counts_of}
 use Rattle.eo_session.specs.State.{State, is_in_scope, with_command}
 use Rattle.eo_session.specs.Step.{is_in_reference, is_free_fact, formula, Concluded, concluded}
 use Rattle.eo_session.specs.Using.{asserted_formula}
 use Rattle.eo_session.specs.Commands.{may_be_in_scope, next_by, placed_command, uncounted, step}
-use Rattle.eo_session.specs.Decisions.{constant_effect, typed_effect, macro_effect, entry_effect, define_effect, assumed_fact, assume_effect, push_effect, step_effect, pop_effect, decided, scoped_decision, placed_decision, done_next}
+use Rattle.eo_session.specs.Decisions.{apart_effect, constant_effect, checked_effect, typed_effect, macro_effect, entry_effect, define_effect, assumed_fact, assume_effect, push_effect, step_effect, pop_effect, decided, scoped_decision, placed_decision, done_next}
 use Rattle.eo_session.specs.Effects.{Effect, Declares, Defines, Opens, Adds, Nothing, after}
 use Rattle.eo_session.specs.Notes.{act_of}
 use Rattle.eo_session.specs.Origin.{Origin}
@@ -69,8 +69,14 @@ plain-one : (e : Effect) → IsPlain e → ArePlain (Ok e)
 plain-one e h = gives-one IsPlain e h
 
 module _ (st : State) where
+  apart-plain : (d : Constant) → ArePlain (apart_effect st d)
+  apart-plain d = plain-bind _ _ (λ _. plain-one (Declares (IsConstant d (counts_of d))) tt)
+
   constant-plain : (d : Constant) → ArePlain (constant_effect st d)
-  constant-plain d = gives-if IsPlain _ _ _ (plain-bind _ _ (λ _. plain-one Nothing tt)) (plain-one _ tt)
+  constant-plain d = gives-if IsPlain _ _ _ (plain-one Nothing tt) (apart-plain d)
+
+  checked-plain : (d : Constant) → ArePlain (checked_effect st d)
+  checked-plain d = plain-bind _ _ (λ _. apart-plain d)
 
   typed-plain : (d : Constant) → ArePlain (typed_effect st d)
   typed-plain d = plain-bind _ _ (λ v. constant-plain (record d { type = v }))
@@ -91,7 +97,7 @@ module _ (st : State) where
   plain_effect from (DeclareConst name type shape) other = plain-bind _ _ typed-plain
   plain_effect from (DeclareFun name inputs output) other = plain-bind _ _ typed-plain
   plain_effect from (DeclareSort name arity) other = plain-bind _ _ typed-plain
-  plain_effect from (DeclareParameterized name shapes type shape) other = plain-bind _ _ (λ d. entry-plain (IsConstant d))
+  plain_effect from (DeclareParameterized name shapes type shape) other = plain-bind _ _ checked-plain
   plain_effect from (DeclareLiterals class type) other = plain-bind _ _ (λ t. entry-plain (IsLiteralType class t))
   plain_effect from (Define name shapes body) other = plain-bind _ _ macro-plain
   plain_effect from (DefineProgram shape) other = plain-bind _ _ (λ _. plain-bind _ _ (λ p. entry-plain (IsProgram p)))

@@ -40,7 +40,7 @@ use Rattle.eo_trim.proofs.Running.{alone-with, ran_bind, ran_injective, ran_not,
 
 -- ---- facts by the numbers of their commands
 
--- each is of a command before b that stands in no closed scope
+-- each is of a command before b that is in no closed scope
 abbrev EachFact : List (ℕ × ℕ) → ℕ → List Fact → Type 0
 EachFact closed b [] = Unit {0}
 EachFact closed b (f ∷ fs) = ((f.number < b) × Clear closed f.number) × EachFact closed b fs

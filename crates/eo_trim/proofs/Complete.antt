@@ -68,7 +68,7 @@ each-more : (P Q : OpenScope → Type 0) → ((s : OpenScope) → P s → Q s) �
 each-more P Q f [] h = tt
 each-more P Q f (s ∷ ss) h = (f s h.0, each-more P Q f ss h.1)
 
--- a command that stands in none of the closed scopes, which are given by their first and their last command
+-- a command that is in none of the closed scopes, which are given by their first and their last command
 abbrev pub Clear : List (ℕ × ℕ) → ℕ → Type 0
 Clear [] m = Unit {0}
 Clear (c ∷ cs) m = (c.0 ≤ m → c.1 ≤ m) × Clear cs m
@@ -97,7 +97,7 @@ abbrev pub IsElsewhere : OpenScope → Type 0
 IsElsewhere s = s.elsewhere ≡ true
 
 module _ (proof : List ℕ) (last : List ℕ) where
-  -- What is known of the commands of a run: they are numbered, premises come before and stand in no scope that is closed, and what stands in a scope is of the proof where the scope is.
+  -- What is known of the commands of a run: they are numbered, premises come before and are in no scope that is closed, and what is in a scope is of the proof where the scope is.
   abbrev pub IsRun : List OpenScope → List (ℕ × ℕ) → ℕ → List Seen → Type 0
   IsRun ss closed p [] = (ss ≡ []) × Every (Clear closed) last
   IsRun ss closed p (c ∷ cs) =
@@ -179,7 +179,7 @@ module _ (proof : List ℕ) (last : List ℕ) where
     is-here : is_needed proof ss c (needs proof (opens_after proof ss c c.act) last cs) ≡ true → needs proof ss last (c ∷ cs) ≡ c.number ∷ innermost ss ++ (premises_of c.act ++ needs proof (opens_after proof ss c c.act) last cs)
     is-here e = needs-is ∙ ap (λ b. if b then c.number ∷ innermost ss ++ (premises_of c.act ++ needs proof (opens_after proof ss c c.act) last cs) else needs proof (opens_after proof ss c c.act) last cs) e
 
-    -- a needed command stands in no scope of which nothing is needed
+    -- a needed command is in no scope of which nothing is needed
     reasons : (w : List ℕ) (s : OpenScope) → s.number < p → (is_elsewhere proof c ≡ true → s.elsewhere ≡ true) → (is_needed_in ss c.act w ≡ true → Dead (suc p) w s → ⊥) → is_needed proof ss c w ≡ true → Dead (suc p) w s → ⊥
     reasons w s lt else_ inside e dead =
         or-true _ (is_needed_in ss c.act w) ⊥

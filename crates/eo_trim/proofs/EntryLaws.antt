@@ -12,7 +12,7 @@ use Rattle.eo_trim.specs.Entries.{Entry, kind_of, innermost_scope, without_inner
 use Rattle.eo_trim.specs.Marking.{scope_number, is_kind_needed, needs_with, entry_needs, line_of, text_of}
 use Rattle.eo_trim.specs.Needed.{premises_of, trimmed}
 use Rattle.eo_trim.specs.Needing as needing
-use Rattle.eo_trim.specs.Needing.{is_elsewhere, opens_after, innermost, contains, is_needed_in, is_needed, needs}
+use Rattle.eo_trim.specs.Needing.{opens_after, innermost, contains, is_needed_in, is_needed, needs}
 use Rattle.eo_trim.specs.declared.entries.OpenScope.{OpenScope}
 
 -- ---- one more command
@@ -80,7 +80,7 @@ needed-out (Derives t) later = refl
 needed-out (Closes t) later = refl
 needed-out Other later = refl
 
--- ---- the open scopes behind a command
+-- ---- the open scopes after a command
 
 abbrev pub opened : List OpenScope → (number : ℕ) → (there : Bool) → Act → List OpenScope
 opened ss number there (Opens t) = record { number = number; elsewhere = not there } ∷ ss

@@ -1,4 +1,4 @@
--- The run of the needed commands stands in the state without the innermost scopes that are not needed.
+-- The run of the needed commands is in the state without the innermost scopes that are not needed.
 use Rattle.std.specs.Prelude.{◌≡◌, ℕ, suc, Bool, true, false, ◌||◌, if◌then◌else◌, List, [], ◌∷◌, ◌++◌, length, drop, Some, refl, slice_get, nat_eq}
 use Rattle.std.proofs.Common.{sym, ap, subst, ◌∙◌, true≢false, arith}
 use Rattle.std.proofs.lemmas.List.{take-append-le}

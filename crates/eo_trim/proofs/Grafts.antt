@@ -5,7 +5,7 @@ use Rattle.eo_term.specs.Tree.{Tree}
 use Rattle.eo_proof.specs.Scopes.{Scopes}
 use Rattle.eo_shape.specs.Shapes.{Command, Assume, AssumePush, Step, StepPop, Refer}
 use Rattle.eo_session.specs.State.{State, is_asserted, with_assertion}
-use Rattle.eo_session.specs.Step.{with_labels, evaluated, formula_of, type_value}
+use Rattle.eo_session.specs.Step.{with_named_terms, evaluated, formula_of, type_value}
 use Rattle.eo_session.specs.Commands.{next_by, reference_path}
 use Rattle.eo_session.specs.Decisions.{decided}
 use Rattle.eo_session.specs.Effects.{Effect, Declares, Defines, Asserts, Opens, Adds, Nothing, after}
@@ -33,7 +33,7 @@ module _ (scopes : Scopes) (sorry : Bool) (commands : ℕ) where
       go false = refl
 
   pub plain_after : (st : State) (e : Effect) → IsPlain e → after (graft st) e ≡ graft (after st e)
-  plain_after st (Asserts t names) h = ap (λ x. with_labels x names) (asserted-graft st t)
+  plain_after st (Asserts t names) h = ap (λ x. with_named_terms x names) (asserted-graft st t)
   plain_after st (Declares entry) h = refl
   plain_after st (Defines m) h = refl
   plain_after st (Opens name t) h = absurd h

@@ -42,7 +42,7 @@ reads-pushed ps qs bs cs is i h e f g k =
     ∙ ap₂ (λ (xs : List Entry) (x : Entry). xs ++ x ∷ []) (reads-more ps qs bs cs is h)
     (ap₂ (λ (x y : List ℕ). record { head = i.head; premises = x; bytes = y }) (part-last ps qs i.premises e f) (part-last bs cs i.bytes g k))
 
--- the same in words of the buffers behind it
+-- the same in words of the buffers after it
 pub push-is : (ps qs more : List ℕ) (bs cs bytes : List ℕ) (is items : List Item) (i : Item) → All (IsItem (length ps) (length bs)) is
     → more ≡ ps ++ qs → bytes ≡ bs ++ cs → items ≡ is ++ i ∷ []
     → i.premises.start ≡ length ps → i.premises.end ≡ length more → i.bytes.start ≡ length bs → i.bytes.end ≡ length bytes

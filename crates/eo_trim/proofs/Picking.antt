@@ -7,7 +7,6 @@ use Rattle.eo_io.specs.Library.{Files}
 use Rattle.eo_sexp.specs.Texts.{Placed, Reads, Then, Ends, Fails}
 use Rattle.eo_session.specs.State.{State}
 use Rattle.eo_session.specs.Commands.{step}
-use Rattle.eo_session.specs.Origin.{Origin}
 use Rattle.eo_session.specs.Origin as origin
 use Rattle.eo_session.specs.declared.Next.{Next}
 use Rattle.eo_session.specs.declared.Next.TheVariants as next
@@ -30,7 +29,7 @@ abbrev pub EachPlaced : (Placed → Type 0) → List Placed → Type 0
 EachPlaced Q [] = Unit {0}
 EachPlaced Q (c ∷ cs) = Q c × Accepted c × EachPlaced Q cs
 
--- a file that has just these commands, wherever they stand
+-- a file that has just these commands, wherever they are
 abbrev pub Lists : Reads → List Placed → Type 0
 Lists (Ends at) [] = Unit {0}
 Lists (Then c others) (d ∷ ds) = (c.sexp ≡ d.sexp) × Lists others ds

@@ -47,7 +47,7 @@ text-marked marks numbers entries same below h =
     (All-weaker (λ (e : Entry). IsBelow (length entries) e.head) (λ (e : Entry). is_marked marks e.head.number ≡ contains numbers e.head.number)
     (λ e b. h.are e.head.number (omega (arith, b.number, same))) entries below)
 
--- ---- what is returned whether files are told or not
+-- ---- what is returned whether files are known or not
 
 pub trims-cause : {F : Type 0} (entries : List Entry) (r : Refutation) (e : TrimEnd) (told : Option F) (before now : ℕ) → TrimsEntries entries r e → TrimHasCause e told before now
 trims-cause entries r (end.Trimmed bytes) told before now h = tt

@@ -11,7 +11,7 @@ use Rattle.eo_sig.specs.Signature.{Macro}
 use Rattle.eo_proof.specs.Scopes.{Scope, hypotheses, innermost_hypothesis, outside, with_scope}
 use Rattle.eo_shape.specs.Shapes.{Command, Define, Assume, AssumePush, Step, StepPop, command_of}
 use Rattle.eo_session.specs.State as state
-use Rattle.eo_session.specs.State.{State, without_scope, macros_before, is_in_scope, with_command}
+use Rattle.eo_session.specs.State.{State, without_scope, is_in_scope, with_command}
 use Rattle.eo_session.specs.Step.{Concluded, with_conclusion, is_in_reference}
 use Rattle.eo_session.specs.Commands.{may_be_in_scope, step, next_by}
 use Rattle.eo_session.specs.Decisions.{decided}
@@ -84,7 +84,7 @@ module _ (N : ℕ → Bool) where
         go true e = no_need (entry.closes note k refl refl e)
         go false e = conclusion-shut N ks (without_scope st) also name c not_needed (outside-fits (k ∷ ks) st fits) (subst (λ (x : State). Like N x also) (shut-false N (N k) st (shut N ks (without_scope st)) e) l)
 
-    -- what may stand in no scope is needed
+    -- what may be in no scope is needed
     plain_stays : {A : Type 0} (stack : List ℕ) (command : Command) (e : Effect) → IsPlain e → may_be_in_scope command ≡ false → Entry N stack st.commands (act_of st command e) → Fits stack st → (not (is_in_scope st) || may_be_in_scope command) ≡ true → A
     plain_stays [] command e plain outer entry fits may = no_need (entry.declared refl (plain_level st command e plain [] st.commands).1)
     plain_stays (k ∷ ks) command e plain outer entry fits may =

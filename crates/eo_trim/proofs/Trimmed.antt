@@ -11,7 +11,7 @@ use Rattle.eo_io.specs.Library.{Files}
 use Rattle.eo_io.specs.Paths.{fold_path}
 use Rattle.eo_sexp.specs.AtomKind as kind
 use Rattle.eo_sexp.specs.Sexp as sexps
-use Rattle.eo_sexp.specs.Sexp.{Sexp, Sexps, NoSexp, Atom, Listed}
+use Rattle.eo_sexp.specs.Sexp.{Sexp, Atom, Listed}
 use Rattle.eo_sexp.specs.Texts.{Placed, Reads, Then, Ends, Fails, Start, reads_all, reads_file, reads_from, first_spot}
 use Rattle.eo_trim.proofs.Again.{IsWorded, AllReread, in_rows, HasJust, rows-read}
 use Rattle.eo_trim.proofs.Original.{IsRead, AllOf, all_read, rereads}

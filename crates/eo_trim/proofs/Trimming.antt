@@ -14,7 +14,6 @@ use Rattle.eo_sexp.specs.Texts.{Placed, first_spot}
 use Rattle.eo_term.specs.Tree.{tree_eq, truth}
 use Rattle.eo_proof.specs.Scopes.{Fact, Scope, has_false}
 use Rattle.eo_session.specs.State.{State, first_state, begin_reference, end_fault, is_in_scope}
-use Rattle.eo_session.specs.Origin.{Origin}
 use Rattle.eo_session.specs.Origin as origin
 use Rattle.eo_run.specs.Verdict.{Correct, Incomplete}
 use Rattle.eo_run.specs.declared.CheckJob.{CheckJob}

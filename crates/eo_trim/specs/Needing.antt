@@ -7,7 +7,7 @@ use Rattle.eo_run.specs.Seen.{Seen}
 use Rattle.eo_proof.specs.Scopes.{first_false}
 use Rattle.eo_trim.specs.Needed.{premises_of, is_proof_step}
 
--- An open scope: the number of the command that opened it, and whether that stands in another file.
+-- An open scope: the number of the command that opened it, and whether that is in another file.
 pub record OpenScope : Type 0 where
   pub number : ℕ
   pub elsewhere : Bool

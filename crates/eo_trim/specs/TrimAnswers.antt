@@ -20,12 +20,12 @@ use Rattle.eo_trim.specs.Trim.{trimmed_proof}
 use Rattle.eo_trim.specs.declared.TrimEnd.{TrimEnd}
 use Rattle.eo_trim.specs.declared.TrimEnd.TheVariants as end
 
--- It is what is said of the job, but for a fault of reading and for being out of memory.
+-- It is what is said of the job, but for a read fault and for being out of memory.
 abbrev pub Trims : List (List ℕ) → TrimEnd → trim.TrimEnd → Type 0
 Trims paths (end.Trimmed bytes) said = said ≡ trim.Trimmed bytes
 Trims paths (end.Other v) said = IfRun v ((of : Verdict) × (said ≡ trim.Other of) × Answers paths v of)
 
--- where files are told
+-- where files are known
 abbrev pub AnswersTrim : Option Files → CheckJob → List (List ℕ) → TrimEnd → Type 0
 AnswersTrim told job paths r = IfSome told (λ files. Trims paths r (trim.trim files job))
 
@@ -37,7 +37,7 @@ pub record IsShorter (files : Files) (job : CheckJob) (bytes : List ℕ) : Type 
   pub is : bytes ≡ trimmed_proof (shown job.proof) final
   pub stays : length bytes ≤ limits.file → verdict ((shown job.proof, bytes) ∷ files) job ≡ Correct
 
--- so it is, where files are told
+-- the same, where files are known
 abbrev pub TrimmedStays : Option Files → CheckJob → TrimEnd → Type 0
 TrimmedStays told job (end.Trimmed bytes) = IfSome told (λ files. IsShorter files job bytes)
 TrimmedStays told job (end.Other v) = ⊤

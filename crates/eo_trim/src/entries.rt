@@ -23,7 +23,7 @@ pub(crate) enum Kind {
 pub(crate) struct OpenScope {
     /// The number of the command that opened it.
     pub(crate) number: u64,
-    /// Whether that stands in another file than the proof.
+    /// Whether that command is in another file than the proof.
     pub(crate) elsewhere: bool,
 }
 
@@ -32,7 +32,7 @@ pub(crate) struct OpenScope {
 pub(crate) struct Head {
     /// How many commands were accepted before it.
     pub(crate) number: u64,
-    /// Whether it stands in the proof.
+    /// Whether it is in the proof.
     pub(crate) in_proof: bool,
     /// What it does.
     pub(crate) kind: Kind,
@@ -56,7 +56,7 @@ pub(crate) struct Item {
 }
 
 /// The commands of a run in order. The numbers of their premises and the bytes of those of the
-/// proof stand in one buffer each.
+/// proof are in one buffer each.
 #[derive(Drop)]
 pub(crate) struct Entries {
     items: Vec<Item>,
@@ -132,7 +132,7 @@ impl Entries {
         &self.premises[span.start..span.end]
     }
 
-    /// The bytes of a command, and none where it stands in another file.
+    /// The bytes of a command, or none where it is in another file.
     pub(crate) fn bytes(&self, i: usize) -> &[u8]
         requires there { i < length self.now }
         ensures bytes { (e : Entry) → slice_get self.now i ≡ Some e → e.bytes ≡ result.now }

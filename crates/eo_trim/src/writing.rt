@@ -22,7 +22,7 @@ pub(crate) fn trimmed_text(
     Ok(text)
 }
 
-/// Adds a command and a line feed to the text, if it stands in the proof and is marked.
+/// Adds a command and a line feed to the text, if it is in the proof and is marked.
 fn push_line(
     text: &mut Vec<u8>,
     entries: &Entries,

@@ -34,7 +34,7 @@ settle_plain (Arr a b) h = let p = settle_plain a (both h).0 in let q = settle_p
 settle_plain (Qar i t b) h = let p = settle_plain t (both h).0 in let q = settle_plain b (both h).1 in λ j. on_typed (p j) (λ c. on_typed (q j) (λ d. Typed (Qar i c d)))
 settle_plain (Op c ts) h = clash h
 
--- what a memo tells stays
+-- what a memo has stays
 pub settles_grown : (old new : Terms) (m : List (ℕ × ℕ)) → Since old new → TellsOnly (IsSettled old) m → TellsOnly (IsSettled new) m
 settles_grown old new m g t k v e =
     let p = t k v e in
@@ -44,7 +44,7 @@ settles_grown old new m g t k v e =
       typed = ap settle (g.tree k p.term) ∙ p.typed ∙ ap Typed (sym (g.tree v p.made));
     }
 
--- what a memo tells of a term
+-- what a memo has for a term
 pub told_settled : (t : Terms) (m : List (ℕ × ℕ)) (k : ℕ) (o : Option ℕ) → o ≡ told m k → TellsOnly (IsSettled t) m → Knows t m k o
 told_settled t m k None e h = sym e
 told_settled t m k (Some v) e h = let p = h k v (sym e) in record { live = p.made; typed = p.typed }

@@ -48,7 +48,7 @@ is_found k old new first known now id x ty u none e keeps older low live fit typ
       found = subst (λ kn. kept_type kn x ≡ Some ty) (sym e) (kept_new known x ty none);
     }
 
--- a type that is kept is what is told of its term, and of any other term the same is told as before
+-- a type that is kept is what is found for its term, and for any other term the same is found as before
 pub finished : (known now : List (ℕ × ℕ)) (x ty : ℕ) → kept_type known x ≡ None → now ≡ known ++ (x, ty) ∷ [] → (j : ℕ) → told now j ≡ (if nat_eq x j then Some ty else told known j)
 finished known now x ty none e j = ap (λ kn. told kn j) e ∙ by (nat_eq x j) refl
   where

@@ -1,8 +1,9 @@
 -- The types that are kept.
-use Rattle.std.specs.Prelude.{◌≡◌, ℕ, ◌<◌, ◌≤◌, Bool, ◌&&◌, nat_eq, nat_lt, List, ◌++◌, length, take, All, Option, Some, Result, IfOk, IfSome}
+use Rattle.std.specs.Prelude.{◌≡◌, ℕ, ◌+◌, ◌<◌, ◌≤◌, Bool, ◌&&◌, nat_eq, nat_lt, List, ◌++◌, length, take, All, Option, Some, None, Result, IfOk, IfSome}
 use Rattle.std.specs.Map.{lookup}
 use Rattle.eo_term.specs.Tree.{Tree}
 use Rattle.eo_term.specs.Terms.{Terms, Since, tree_at}
+use Rattle.eo_sig.specs.Growth.{GrowsUnder}
 use Rattle.eo_sig.specs.Reading.{Kept, IsBelow, signature}
 use Rattle.eo_sig.specs.Signature.{Signature, literal_type}
 use Rattle.eo_lit.specs.declared.LiteralClass.{LiteralClass}
@@ -38,24 +39,42 @@ kept_type known i = lookup (nat_eq i) known
 abbrev pub Keeps : List (ℕ × ℕ) → List (ℕ × ℕ) → Type 0
 Keeps old new = (i u : ℕ) → kept_type old i ≡ Some u → kept_type new i ≡ Some u
 
--- What each call that takes a signature, a table and types leaves of them, answered or refused: each type that was kept, and types that fit.
+-- What each call that takes a signature, a table and types leaves of them, also where it refuses: each type that was kept, and types that fit.
 pub record StillFit (k : Kept) (t : Terms) (old new : List (ℕ × ℕ)) : Type 0 where
   pub fit : Fit k t new
   pub kept : Keeps old new
+
+-- What each call that takes a signature, a table and types leaves of both, also where it refuses: types that are still kept and fit, and a table that has grown.
+pub record Extends (k : Kept) (t : Terms) (old : List (ℕ × ℕ)) (u : Terms) (new : List (ℕ × ℕ)) : Type 0 where
+  pub fits : StillFit k u old new
+  pub grows : GrowsUnder k t u
+
+-- types that fit, and a term that is there
+pub record FitWith (k : Kept) (t : Terms) (known : List (ℕ × ℕ)) (i : ℕ) : Type 0 where
+  pub live : i < length t.trees
+  pub fits : Fit k t known
+
+-- types that fit, and a term that is there of which none is kept
+pub record IsUntyped (k : Kept) (t : Terms) (known : List (ℕ × ℕ)) (i : ℕ) : Type 0 where
+  pub live : i < length t.trees
+  pub fits : Fit k t known
+  pub none : kept_type known i ≡ None
 
 -- more types are kept than before of terms below n alone
 abbrev pub FindsBelow : ℕ → List (ℕ × ℕ) → List (ℕ × ℕ) → Type 0
 FindsBelow n old new = (i : ℕ) → n ≤ i → kept_type new i ≡ kept_type old i
 
--- What is kept where a walk goes over a term: what was kept, and the type that it finds.
-pub record Finds (old : List (ℕ × ℕ)) (i : ℕ) (result : Result ℕ Stop) (new : List (ℕ × ℕ)) : Type 0 where
+-- What a walk over a term leaves: what was kept and the type that it finds, of no term after it, types that fit, and a table that has grown.
+pub record Finds (k : Kept) (t : Terms) (old : List (ℕ × ℕ)) (i : ℕ) (result : Result ℕ Stop) (u : Terms) (new : List (ℕ × ℕ)) : Type 0 where
   pub keeps : Keeps old new
-  pub found : IfOk result (λ u. kept_type new i ≡ Some u)
+  pub found : IfOk result (λ v. kept_type new i ≡ Some v)
+  pub older : FindsBelow (i + 1) old new
+  pub fits : Fit k u new
+  pub grows : GrowsUnder k t u
 
--- What is kept where the type of a term is asked for: what was kept, and a type that is answered.
-pub record Remembers (old : List (ℕ × ℕ)) (i : ℕ) (result : Result (Option ℕ) TypeRefused) (new : List (ℕ × ℕ)) : Type 0 where
-  pub keeps : Keeps old new
-  pub answer : IfOk result (λ o. IfSome o (λ u. kept_type new i ≡ Some u))
+-- a type that is returned is kept
+abbrev pub KeepsAnswer : List (ℕ × ℕ) → ℕ → Result (Option ℕ) TypeRefused → Type 0
+KeepsAnswer known i result = IfOk result (λ o. IfSome o (λ u. kept_type known i ≡ Some u))
 
 -- a term and its type are both among the first n terms
 abbrev pub is_before : ℕ → ℕ × ℕ → Bool

@@ -1,8 +1,9 @@
--- What the program answers, against the outcome of typing.
+-- What the program returns, by the outcome of typing.
 use Rattle.std.specs.Prelude.{◌≡◌, ℕ, ◌<◌, length, Option, Some, None, Result, Ok, Err}
 use Rattle.eo_term.specs.declared.table.TermRefused.{TermRefused}
 use Rattle.eo_term.specs.declared.table.TermRefused.TheVariants as term
 use Rattle.eo_term.specs.Tree.{Tree}
+use Rattle.eo_term.specs.Growth.{Grows}
 use Rattle.eo_term.specs.Terms.{Terms, tree_at}
 use Rattle.eo_type.specs.declared.refused.TypeRefused.{TypeRefused}
 use Rattle.eo_type.specs.declared.refused.TypeRefused.TheVariants as refused
@@ -27,12 +28,17 @@ abbrev pub Gives : Terms → Result ℕ Stop → TypeOutcome Tree → Type 0
 Gives t (Ok i) o = IsTyped t o i
 Gives t (Err e) o = Stops e o
 
+-- the same, over a table that has grown
+pub record Yields (old new : Terms) (result : Result ℕ Stop) (o : TypeOutcome Tree) : Type 0 where
+  pub gives : Gives new result o
+  pub grows : Grows old new
+
 -- two walks, the first one first
 abbrev pub GivesBoth : Terms → Result (ℕ × ℕ) Stop → TypeOutcome Tree → TypeOutcome Tree → Type 0
 GivesBoth t (Ok r) o p = IsTyped t o r.0 × IsTyped t p r.1
 GivesBoth t (Err e) o p = Stops e (on_typed o (λ _. p))
 
--- the answer to a caller is this outcome
+-- the result for a caller is this outcome
 abbrev pub Answers : Terms → Result (Option ℕ) TypeRefused → TypeOutcome Tree → Type 0
 Answers t (Ok (Some i)) o = IsTyped t o i
 Answers t (Ok None) o = o ≡ Untyped
@@ -45,7 +51,7 @@ abbrev pub of_term : TermRefused → Stop
 of_term term.Tall = stop.Tall
 of_term (term.Memory e) = stop.Memory e
 
--- the answer is that a type is too tall
+-- the result is that a type is too tall
 abbrev pub IsTall : {X : Type 0} → Result X TypeRefused → Type 0
 IsTall (Ok x) = ⊥
 IsTall (Err refused.NumberRange) = ⊥

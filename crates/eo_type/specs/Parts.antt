@@ -1,14 +1,19 @@
 -- Parts of the definition of typing that functions have to themselves.
-use Rattle.std.specs.Prelude.{ℕ, List, [], ◌∷◌, Option, if◌then◌else◌}
+use Rattle.std.specs.Prelude.{◌≡◌, ℕ, ◌<◌, All, List, [], ◌∷◌, length, Option, if◌then◌else◌}
 use Rattle.std.specs.List.{list_all}
 use Rattle.eo_term.specs.declared.OpName.{OpName}
 use Rattle.eo_term.specs.Growth.{tree_in}
-use Rattle.eo_term.specs.Terms.{Terms}
+use Rattle.eo_term.specs.Terms.{Terms, arity}
 use Rattle.eo_term.specs.Tree.{Tree, type_tree, is_value, tree_eq}
 use Rattle.eo_pattern.specs.Matching.{Assignment, empty, matching}
 use Rattle.eo_sig.specs.Signature.{Signature}
 use Rattle.eo_ops.specs.Operators.{Literal, literal_tree, answer_map, kind_value, op_value, tree_op_value}
 use Rattle.eo_type.specs.Types.{TypeOutcome, Untyped, on_typed, typed_if, typed_answer, type_of}
+
+-- as many arguments as the operator takes, which are all there
+pub record AreArguments (t : Terms) (op : OpName) (is : List ℕ) : Type 0 where
+  pub count : length is ≡ arity op
+  pub args : All (λ i. i < length t.trees) is
 
 -- an operator on values
 abbrev pub on_values : OpName → List Tree → TypeOutcome Tree

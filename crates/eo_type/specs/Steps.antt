@@ -26,12 +26,12 @@ pub record IsOperator (t : Terms) (k : ℕ) (code : OpCode) (n : ℕ) : Type 0 w
   pub small : n ≤ 64
   pub low : is_tall (tree_in t k) ≡ false
 
--- what the term k settles to, if that is known; the memo does not tell of a term of which it is not
+-- what the term k settles to, if that is known; the memo has nothing for a term of which it is not
 abbrev pub Knows : Terms → List (ℕ × ℕ) → ℕ → Option ℕ → Type 0
 Knows t memo k (Some v) = IsTyped t (settle (tree_in t k)) v
 Knows t memo k None = told memo k ≡ None
 
--- the term p is older than the term k, the memo does not tell of it, and what stops it stops k
+-- the term p is older than the term k, the memo has nothing for it, and what stops it stops k
 pub record IsNext (t : Terms) (memo : List (ℕ × ℕ)) (k p : ℕ) : Type 0 where
   pub older : p < k
   pub untold : told memo p ≡ None

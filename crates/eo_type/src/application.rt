@@ -1,11 +1,11 @@
-//! Types of applications: an argument's type is matched, and what is found is put in.
+//! Types of applications: an argument's type is matched, and what is found is substituted.
 ghost use Rattle.std.specs.Prelude.{◌≡◌, ◌<◌, length, None, Some, IsTrue, IsFalse, IfOk, IfSome, OnOk};
-ghost use Rattle.eo_term.specs.Growth.{tree_in, Grows};
+ghost use Rattle.eo_term.specs.Growth.{tree_in};
 ghost use Rattle.eo_term.specs.Tree.{Tree};
 ghost use Rattle.eo_pattern.specs.Matching.{assign, put};
 ghost use Rattle.eo_pattern.specs.Slots.{held, AreBelow, AreEmpty};
 ghost use Rattle.eo_type.specs.Types.{settled, application_type};
-ghost use Rattle.eo_type.specs.Outcomes.{Gives};
+ghost use Rattle.eo_type.specs.Outcomes.{Yields, Gives};
 ghost use Rattle.eo_type.specs.Parts.{matched_in};
 
 use crate::refused::Stop;
@@ -27,8 +27,8 @@ pub(crate) fn application_type(
     requires fun { fun < length table.old.trees }
     requires ty { ty < length table.old.trees }
     requires arg { arg < length table.old.trees }
-    ensures gives { Gives table.new result (application_type (tree_in table.old fun) (tree_in table.old ty) (tree_in table.old arg)) }
-    ensures grows { Grows table.old table.new }
+    ensures { Yields table.old table.new result
+        (application_type (tree_in table.old fun) (tree_in table.old ty) (tree_in table.old arg)) }
 {
     if let Some(answer) = plain_application(table, fun, ty) {
         return answer;
@@ -69,22 +69,22 @@ fn application_with(
     requires fun { fun < length table.old.trees }
     requires ty { ty < length table.old.trees }
     requires arg { arg < length table.old.trees }
-    ensures gives { Gives table.new result (application_type (tree_in table.old fun) (tree_in table.old ty) (tree_in table.old arg)) }
-    ensures grows { Grows table.old table.new }
+    ensures { Yields table.old table.new result
+        (application_type (tree_in table.old fun) (tree_in table.old ty) (tree_in table.old arg)) }
 {
     match table.node(fun) {
         Node::Arr { from, to } => {
             if !meets(table, subst, from, ty)? {
                 return Err(Stop::Untyped);
             }
-            settled(alloc, table, subst, to)
+            settle_under(alloc, table, subst, to)
         }
         Node::Qar { par, ty: from, to } => {
             if !meets(table, subst, from, ty)? {
                 return Err(Stop::Untyped);
             }
             assign(table, subst, par, arg)?;
-            settled(alloc, table, subst, to)
+            settle_under(alloc, table, subst, to)
         }
         Node::Con(_) => Err(Stop::Untyped),
         Node::Num(_) => Err(Stop::Untyped),
@@ -97,18 +97,22 @@ fn application_with(
     }
 }
 
-/// A type with what is held put in, settled.
-pub(crate) fn settled(alloc: Global, table: &mut Table, subst: &Subst, ty: Id) -> Result<Id, Stop>
+/// A type with what is held substituted, settled.
+pub(crate) fn settle_under(
+    alloc: Global,
+    table: &mut Table,
+    subst: &Subst,
+    ty: Id,
+) -> Result<Id, Stop>
     requires live { ty < length table.old.trees }
     requires below { AreBelow (length table.old.trees) subst.now }
-    ensures gives { Gives table.new result (settled (put (held table.old.trees subst.now) (tree_in table.old ty))) }
-    ensures grows { Grows table.old table.new }
+    ensures { Yields table.old table.new result (settled (put (held table.old.trees subst.now) (tree_in table.old ty))) }
 {
     let made = substitute(table, subst, ty)?;
     settle_term(alloc, table, made)
 }
 
-/// Lets a term stand for the parameter.
+/// Gives the parameter a term as its value.
 pub(crate) fn assign(table: &Table, subst: &mut Subst, par: u8, id: Id) -> Result<(), AllocError>
     requires live { id < length table.now.trees }
     requires below { AreBelow (length table.now.trees) subst.old }
@@ -121,7 +125,7 @@ pub(crate) fn assign(table: &Table, subst: &mut Subst, par: u8, id: Id) -> Resul
     Ok(())
 }
 
-// Whether a type matches the pattern. What stands for the pattern's parameters is then held.
+// Whether a type matches the pattern. The values of the pattern's parameters are then held.
 fn meets(table: &Table, subst: &mut Subst, pattern: Id, ty: Id) -> Result<bool, AllocError>
     requires empty { AreEmpty subst.old }
     requires pattern { pattern < length table.now.trees }

@@ -12,14 +12,14 @@ use std::marker::Model;
 /// Types with their terms, in the order in which they were found. Contracts see them as a list of
 /// pairs.
 #[derive(Drop)]
-pub(crate) struct Known {
+pub(crate) struct TypeCache {
     types: IndexMap<Id, Id>,
     // Beside each entry a number that no term of it and of the entries before it exceeds: so the first
     // entry that a mark may cut off is found from the end.
     greatest: Vec<usize>,
 }
 
-impl Model for Known {
+impl Model for TypeCache {
     ghost use Rattle.std.specs.Prelude.{List, ℕ};
     ghost use Rattle.eo_type.specs.Greatest.{AreGreatest};
 
@@ -30,12 +30,12 @@ impl Model for Known {
     ghost invariant = { λ a. AreGreatest a.greatest.items a.types.entries };
 }
 
-impl Known {
+impl TypeCache {
     /// No types.
-    pub(crate) fn new(alloc: Global) -> Known
+    pub(crate) fn new(alloc: Global) -> TypeCache
         ensures { result ≡ [] }
     {
-        Known {
+        TypeCache {
             types: IndexMap::new(alloc),
             greatest: Vec::new(alloc),
         }
@@ -73,7 +73,7 @@ impl Known {
         self.forget_newer(terms);
     }
 
-    // The same, where what stands beside the last entry does not tell that all are kept.
+    // The same, where the number beside the last entry does not show that all are kept.
     #[tactic(auto, using(crate::proofs::Greatest::nothing_forgotten))]
     #[inline(never)]
     fn forget_newer(&mut self, terms: usize)
@@ -105,7 +105,7 @@ impl Known {
         last.max(id.place()).max(ty.place())
     }
 
-    // Whether all entries name no others than the first so many terms, by what stands beside the last.
+    // Whether all entries name only the first so many terms, by the number beside the last.
     #[inline]
     fn are_older(&self, terms: usize) -> bool
         ensures { result ≡ true → self.now ≡ filter (is_before terms) self.now }
@@ -116,7 +116,7 @@ impl Known {
         }
     }
 
-    // How many entries at the front name no others than the first so many terms, by what stands beside
+    // How many entries at the front name only the first so many terms, by the numbers beside
     // them.
     fn older(&self, terms: usize) -> usize
         ensures within { result ≤ length self.now }
@@ -134,7 +134,7 @@ impl Known {
 }
 
 // Moves the entries whose terms are both among the first so many to the front, in their order, and
-// answers how many they are. Those before `start` stand there.
+// returns how many they are. Those before `start` are there.
 fn gather(types: &mut IndexMap<Id, Id>, start: usize, terms: usize) -> usize
     requires within { start ≤ length types.old.entries }
     requires before { All (λ e. is_before terms e ≡ true) (take start types.old.entries) }

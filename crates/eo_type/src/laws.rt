@@ -1,4 +1,4 @@
-//! What holds of types. A call costs nothing: it tells a proof what its clause says.
+//! What holds of types. A call costs nothing: it gives a proof what its clause says.
 ghost use Rattle.std.specs.Prelude.{◌≡◌, false};
 ghost use Rattle.eo_term.specs.Tree.{Tree, is_tall};
 ghost use Rattle.eo_type.specs.Types.{Typed, settle, settled};

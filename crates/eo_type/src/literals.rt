@@ -1,13 +1,12 @@
 //! Operators on terms that are values, most of all on literals.
-ghost use Rattle.std.specs.Prelude.{◌≡◌, ◌<◌, length, map, All, IfOk, IfErr, OnErr, IfSome, option_map};
+ghost use Rattle.std.specs.Prelude.{◌≡◌, ◌<◌, length, map, All, IfOk, OnErr, IfSome, option_map};
 ghost use Rattle.eo_term.specs.Tree.{Con};
-ghost use Rattle.eo_term.specs.Terms.{arity};
 ghost use Rattle.eo_term.specs.Growth.{tree_in, trees_in, Grows, Makes};
 ghost use Rattle.eo_ops.specs.Operators as ops;
 ghost use Rattle.eo_ops.specs.Lit.{lit, IsWellFormed};
 ghost use Rattle.eo_type.specs.Types.{typed_answer};
-ghost use Rattle.eo_type.specs.Outcomes.{Answers, Gives};
-ghost use Rattle.eo_type.specs.Parts.{on_literals, on_others};
+ghost use Rattle.eo_type.specs.Outcomes.{Yields, Answers, Gives};
+ghost use Rattle.eo_type.specs.Parts.{AreArguments, on_literals, on_others};
 
 use crate::TypeRefused;
 use crate::leaves::truth_value;
@@ -29,8 +28,7 @@ pub fn operator_value(
     op: OpName,
     args: &[Id],
 ) -> Result<Option<Id>, TypeRefused>
-    requires count { length args.now ≡ arity op }
-    requires args { All (λ i. i < length table.old.trees) args.now }
+    requires arguments { AreArguments table.old op args.now }
     ensures answers { Answers table.new result (typed_answer (ops.tree_op_value op (trees_in table.old args.now))) }
     ensures refused { OnErr result (table.new ≡ table.old) }
     ensures grows { Grows table.old table.new }
@@ -52,10 +50,8 @@ pub(crate) fn value_of(
     op: OpName,
     args: &[Id],
 ) -> Result<Id, Stop>
-    requires count { length args.now ≡ arity op }
-    requires args { All (λ i. i < length table.old.trees) args.now }
-    ensures gives { Gives table.new result (typed_answer (ops.tree_op_value op (trees_in table.old args.now))) }
-    ensures grows { Grows table.old table.new }
+    requires arguments { AreArguments table.old op args.now }
+    ensures { Yields table.old table.new result (typed_answer (ops.tree_op_value op (trees_in table.old args.now))) }
 {
     match literals(alloc, table, args)? {
         Some(literals) => value_of_literals(alloc, table, op, literals.as_slice()),
@@ -66,8 +62,7 @@ pub(crate) fn value_of(
 // The value of an operator on literals.
 fn value_of_literals(alloc: Global, table: &mut Table, op: OpName, args: &[Lit]) -> Result<Id, Stop>
     requires { All IsWellFormed args.now }
-    ensures gives { Gives table.new result (on_literals op (map lit args.now)) }
-    ensures grows { Grows table.old table.new }
+    ensures { Yields table.old table.new result (on_literals op (map lit args.now)) }
 {
     match apply(alloc, op, args) {
         OpResult::Value(value) => Ok(literal_term(table, &value)?),
@@ -79,8 +74,7 @@ fn value_of_literals(alloc: Global, table: &mut Table, op: OpName, args: &[Lit])
 
 // The value of an operator on values of which some is no literal: only the tests of kinds have one.
 fn value_of_others(table: &Table, op: OpName, args: &[Id]) -> Result<Id, Stop>
-    requires count { length args.now ≡ arity op }
-    requires args { All (λ i. i < length table.now.trees) args.now }
+    requires arguments { AreArguments table.now op args.now }
     ensures gives { Gives table.now result (on_others op (trees_in table.now args.now)) }
 {
     match op {

@@ -1,12 +1,12 @@
 //! Values of operators in types, whose arguments are settled and closed.
-ghost use Rattle.std.specs.Prelude.{◌≡◌, ◌<◌, [], ◌∷◌, length, map, All, IfOk, IfErr};
+ghost use Rattle.std.specs.Prelude.{◌≡◌, ◌<◌, [], ◌∷◌, length, All};
 ghost use Rattle.eo_term.specs.declared.OpCode.TheVariants as code;
 ghost use Rattle.eo_term.specs.declared.OpName.TheVariants as name;
-ghost use Rattle.eo_term.specs.Terms.{HasArity, arity};
-ghost use Rattle.eo_term.specs.Growth.{trees_in, Grows};
+ghost use Rattle.eo_term.specs.Terms.{HasArity};
+ghost use Rattle.eo_term.specs.Growth.{trees_in};
 ghost use Rattle.eo_type.specs.Types.{op_in_type};
-ghost use Rattle.eo_type.specs.Outcomes.{Gives, IsTyped};
-ghost use Rattle.eo_type.specs.Parts.{on_values};
+ghost use Rattle.eo_type.specs.Outcomes.{Yields, Gives, IsTyped};
+ghost use Rattle.eo_type.specs.Parts.{AreArguments, on_values};
 
 use crate::leaves::{are_values, if_value, is_constant, is_equal, truth_value};
 use crate::literals::value_of;
@@ -23,8 +23,7 @@ pub(crate) fn op_value(
 ) -> Result<Id, Stop>
     requires count { HasArity code (length args.now) }
     requires args { All (λ i. i < length table.old.trees) args.now }
-    ensures gives { Gives table.new result (op_in_type code (trees_in table.old args.now)) }
-    ensures grows { Grows table.old table.new }
+    ensures { Yields table.old table.new result (op_in_type code (trees_in table.old args.now)) }
 {
     match code {
         OpCode::Builtin(op) => builtin_value(alloc, table, op, args),
@@ -34,14 +33,12 @@ pub(crate) fn op_value(
 
 // The value of an operator of the language.
 fn builtin_value(alloc: Global, table: &mut Table, op: OpName, args: &[Id]) -> Result<Id, Stop>
-    requires count { length args.now ≡ arity op }
-    requires args { All (λ i. i < length table.old.trees) args.now }
-    ensures gives { Gives table.new result (op_in_type (code.Builtin op) (trees_in table.old args.now)) }
-    ensures grows { Grows table.old table.new }
+    requires arguments { AreArguments table.old op args.now }
+    ensures { Yields table.old table.new result (op_in_type (code.Builtin op) (trees_in table.old args.now)) }
 {
     match op {
         OpName::Ite => choice(table, args[0], args[1], args[2]),
-        OpName::Requires => required(table, args[0], args[1], args[2]),
+        OpName::Requires => require_equal(table, args[0], args[1], args[2]),
         OpName::IsEq => Ok(equality(table, args[0], args[1])),
         _ => value_on_values(alloc, table, op, args),
     }
@@ -64,7 +61,7 @@ fn choice(table: &Table, condition: Id, yes: Id, no: Id) -> Result<Id, Stop>
 }
 
 // The third term, if the first two are one value, and if it is a value.
-fn required(table: &Table, a: Id, b: Id, then: Id) -> Result<Id, Stop>
+fn require_equal(table: &Table, a: Id, b: Id, then: Id) -> Result<Id, Stop>
     requires a { a < length table.now.trees }
     requires b { b < length table.now.trees }
     requires then { then < length table.now.trees }
@@ -88,10 +85,8 @@ fn equality(table: &Table, a: Id, b: Id) -> Id
 
 // The value of any other operator, if its arguments are values.
 fn value_on_values(alloc: Global, table: &mut Table, op: OpName, args: &[Id]) -> Result<Id, Stop>
-    requires count { length args.now ≡ arity op }
-    requires args { All (λ i. i < length table.old.trees) args.now }
-    ensures gives { Gives table.new result (on_values op (trees_in table.old args.now)) }
-    ensures grows { Grows table.old table.new }
+    requires arguments { AreArguments table.old op args.now }
+    ensures { Yields table.old table.new result (on_values op (trees_in table.old args.now)) }
 {
     if !are_values(table, args) {
         return Err(Stop::Untyped);

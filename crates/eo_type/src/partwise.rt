@@ -5,13 +5,13 @@ ghost use Rattle.eo_term.specs.Terms.{Terms};
 ghost use Rattle.eo_term.specs.Growth.{tree_in, Grows};
 ghost use Rattle.eo_sig.specs.Reading.{Kept, signature};
 ghost use Rattle.eo_type.specs.Types.{TypeOutcome};
-ghost use Rattle.eo_type.specs.Outcomes.{Gives, IsTyped};
+ghost use Rattle.eo_type.specs.Outcomes.{Yields, Gives, IsTyped};
 ghost use Rattle.eo_type.specs.Parts.{variable_type};
 ghost use Rattle.eo_type.specs.Known.{Fit, kept_type, type_at, type_in};
 ghost use Rattle.eo_type.specs.TypeSteps.{AreKept, GivesTypeStep};
 
 use crate::application::{application_type, plain_application};
-use crate::known::Known;
+use crate::known::TypeCache;
 use crate::leaves::is_constant;
 use crate::refused::Stop;
 use eo_pattern::Subst;
@@ -20,7 +20,7 @@ use eo_term::{Id, Node, Step, Table};
 use std::alloc::Global;
 
 // A type that is found ends a term's part of a walk.
-pub(crate) fn made(found: Result<Id, Stop>) -> Result<Step, Stop>
+pub(crate) fn type_step(found: Result<Id, Stop>) -> Result<Step, Stop>
     ensures { (k : Kept) (old new : Terms) (known : List (ℕ × ℕ)) (below : ℕ) (o : TypeOutcome Tree) →
         Gives new found o → GivesTypeStep k old known below o new result }
 {
@@ -31,7 +31,7 @@ pub(crate) fn made(found: Result<Id, Stop>) -> Result<Step, Stop>
 }
 
 // The type that is kept of a term.
-pub(crate) fn kept(sig: &Signature, table: &Table, known: &Known, id: Id) -> Option<Id>
+pub(crate) fn kept_type(sig: &Signature, table: &Table, known: &TypeCache, id: Id) -> Option<Id>
     requires { Fit sig.now table.now known.now }
     ensures some { IfSome result (λ u. IsTyped table.now (type_at sig.now table.now id) u) }
     ensures none { IfNone result (kept_type known.now id ≡ None) }
@@ -40,20 +40,20 @@ pub(crate) fn kept(sig: &Signature, table: &Table, known: &Known, id: Id) -> Opt
 }
 
 // The types that are kept of two terms, or the first of them of which none is.
-pub(crate) fn kept_two(
+pub(crate) fn kept_types(
     sig: &Signature,
     table: &Table,
-    known: &Known,
+    known: &TypeCache,
     a: Id,
     b: Id,
 ) -> Result<(Id, Id), Id>
     requires { Fit sig.now table.now known.now }
     ensures { AreKept sig.now table.now known.now a b result }
 {
-    let Some(first) = kept(sig, table, known, a) else {
+    let Some(first) = kept_type(sig, table, known, a) else {
         return Err(a);
     };
-    let Some(second) = kept(sig, table, known, b) else {
+    let Some(second) = kept_type(sig, table, known, b) else {
         return Err(b);
     };
     Ok((first, second))
@@ -86,8 +86,8 @@ pub(crate) fn application(
     requires arg { arg < length table.old.trees }
     requires first { IsTyped table.old (type_at sig.now table.old fun) ty }
     requires second { IsTyped table.old (type_at sig.now table.old arg) kind }
-    ensures gives { Gives table.new result (type_in sig.now table.old (App (tree_in table.old fun) (tree_in table.old arg))) }
-    ensures grows { Grows table.old table.new }
+    ensures { Yields table.old table.new result
+        (type_in sig.now table.old (App (tree_in table.old fun) (tree_in table.old arg))) }
 {
     let _sig = sig;
     if !table.is_value(kind) {
@@ -120,7 +120,7 @@ pub(crate) fn function(
 pub(crate) fn variable_step(
     sig: &Signature,
     table: &Table,
-    known: &Known,
+    known: &TypeCache,
     ty: Id,
 ) -> Result<Step, Stop>
     requires live { ty < length table.now.trees }
@@ -128,7 +128,7 @@ pub(crate) fn variable_step(
     ensures { GivesTypeStep sig.now table.now known.now (ty + 1)
         (variable_type (signature table.now.trees sig.now) (tree_in table.now ty)) table.now result }
 {
-    let Some(kind) = kept(sig, table, known, ty) else {
+    let Some(kind) = kept_type(sig, table, known, ty) else {
         return Ok(Step::Part(ty));
     };
     let found = variable(sig, table, ty, kind)?;
@@ -141,7 +141,7 @@ pub(crate) fn application_step(
     sig: &Signature,
     table: &mut Table,
     subst: &mut Subst,
-    known: &Known,
+    known: &TypeCache,
     fun: Id,
     arg: Id,
 ) -> Result<Step, Stop>
@@ -153,19 +153,19 @@ pub(crate) fn application_step(
     ensures grows { Grows table.old table.new }
 {
     match head_step(sig, &*table, known, fun)? {
-        Step::Made(ty) => applied(alloc, sig, table, subst, known, fun, arg, ty),
+        Step::Made(ty) => applied_step(alloc, sig, table, subst, known, fun, arg, ty),
         Step::Part(part) => Ok(Step::Part(part)),
     }
 }
 
 // The type of what is applied: that which is kept, or that of a plain application of which those of
 // both parts are kept. The latter is found anew each time, at a constant cost.
-fn head_step(sig: &Signature, table: &Table, known: &Known, id: Id) -> Result<Step, Stop>
+fn head_step(sig: &Signature, table: &Table, known: &TypeCache, id: Id) -> Result<Step, Stop>
     requires live { id < length table.now.trees }
     requires fits { Fit sig.now table.now known.now }
     ensures { GivesTypeStep sig.now table.now known.now (id + 1) (type_at sig.now table.now id) table.now result }
 {
-    let Some(ty) = kept(sig, table, known, id) else {
+    let Some(ty) = kept_type(sig, table, known, id) else {
         return match table.node(id) {
             Node::App { fun, arg } => plain_step(sig, table, known, id, fun, arg),
             _ => Ok(Step::Part(id)),
@@ -179,7 +179,7 @@ fn head_step(sig: &Signature, table: &Table, known: &Known, id: Id) -> Result<St
 fn plain_step(
     sig: &Signature,
     table: &Table,
-    known: &Known,
+    known: &TypeCache,
     id: Id,
     fun: Id,
     arg: Id,
@@ -192,10 +192,10 @@ fn plain_step(
     requires new { kept_type known.now id ≡ None }
     ensures { GivesTypeStep sig.now table.now known.now (id + 1) (type_at sig.now table.now id) table.now result }
 {
-    match kept_two(sig, table, known, fun, arg) {
+    match kept_types(sig, table, known, fun, arg) {
         Err(part) => Ok(Step::Part(part)),
         Ok((ty, kind)) => match plain(sig, table, fun, arg, ty, kind) {
-            Some(found) => made(found),
+            Some(found) => type_step(found),
             None => Ok(Step::Part(id)),
         },
     }
@@ -223,12 +223,12 @@ fn plain(
 }
 
 // The type of an application of what has this type, or its argument first.
-fn applied(
+fn applied_step(
     alloc: Global,
     sig: &Signature,
     table: &mut Table,
     subst: &mut Subst,
-    known: &Known,
+    known: &TypeCache,
     fun: Id,
     arg: Id,
     ty: Id,
@@ -240,7 +240,7 @@ fn applied(
         (type_in sig.now table.old (App (tree_in table.old fun) (tree_in table.old arg))) table.new result }
     ensures grows { Grows table.old table.new }
 {
-    let Some(kind) = kept(sig, &*table, known, arg) else {
+    let Some(kind) = kept_type(sig, &*table, known, arg) else {
         return Ok(Step::Part(arg));
     };
     let found = application(alloc, sig, table, subst, fun, arg, ty, kind)?;
@@ -251,7 +251,7 @@ fn applied(
 pub(crate) fn function_step(
     sig: &Signature,
     table: &Table,
-    known: &Known,
+    known: &TypeCache,
     from: Id,
     to: Id,
 ) -> Result<Step, Stop>
@@ -259,7 +259,7 @@ pub(crate) fn function_step(
     ensures { GivesTypeStep sig.now table.now known.now (max from to + 1)
         (type_in sig.now table.now (Arr (tree_in table.now from) (tree_in table.now to))) table.now result }
 {
-    match kept_two(sig, table, known, from, to) {
+    match kept_types(sig, table, known, from, to) {
         Err(part) => Ok(Step::Part(part)),
         Ok((first, second)) => {
             let found = function(sig, table, from, to, first, second)?;

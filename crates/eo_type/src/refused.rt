@@ -16,7 +16,7 @@ pub enum TypeRefused {
     NumberRange,
     /// A type is taller than the limit.
     Tall,
-    /// Want of memory.
+    /// Out of memory.
     Memory(AllocError),
 }
 
@@ -29,7 +29,7 @@ pub(crate) enum Stop {
     NumberRange,
     /// A type is taller than the limit.
     Tall,
-    /// Want of memory.
+    /// Out of memory.
     Memory(AllocError),
 }
 

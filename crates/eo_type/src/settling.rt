@@ -5,7 +5,7 @@ ghost use Rattle.eo_term.specs.Memo.{told, TellsOnly};
 ghost use Rattle.eo_term.specs.Terms.{HasArity};
 ghost use Rattle.eo_term.specs.Growth.{tree_in, trees_in, Grows};
 ghost use Rattle.eo_type.specs.Types.{settle, settled_op};
-ghost use Rattle.eo_type.specs.Outcomes.{Answers, IsTall, Gives};
+ghost use Rattle.eo_type.specs.Outcomes.{Yields, Answers, IsTall};
 ghost use Rattle.eo_type.specs.Steps.{IsSettled, IsOperator, Knows, GivesStep};
 
 use crate::TypeRefused;
@@ -21,8 +21,8 @@ use std::alloc::Global;
 /// leftmost first; `None`, where one of them has none.
 ///
 /// Operators have the values of the Ethos manual's table, but for those that no declared type may
-/// hold, and for programs: they have none here, so that the signature is not asked. A part with
-/// no operator is taken as it is, and its own parts are not looked at. A part that stands at several
+/// hold, and for programs: they have none here, so that no signature is needed. A part with
+/// no operator is taken as it is, and its own parts are not looked at. A part that occurs at several
 /// places is looked at once.
 ///
 /// `NumberRange`: a value is out of range. `Tall` never comes, since no term becomes taller.
@@ -52,8 +52,7 @@ pub fn settle(
 /// The same, as a walk.
 pub(crate) fn settle_term(alloc: Global, table: &mut Table, id: Id) -> Result<Id, Stop>
     requires { id < length table.old.trees }
-    ensures gives { Gives table.new result (settle (tree_in table.old id)) }
-    ensures grows { Grows table.old table.new }
+    ensures { Yields table.old table.new result (settle (tree_in table.old id)) }
 {
     if table.is_plain(id) {
         return Ok(id);
@@ -67,8 +66,7 @@ fn settle_walk(alloc: Global, table: &mut Table, walk: &mut Walk) -> Result<Id, 
     requires live { walk.old.top < length table.old.trees }
     requires told { (k : ℕ) → told walk.old.memo k ≡ None }
     requires waiting { walk.old.waiting ≡ [] }
-    ensures gives { Gives table.new result (settle (tree_in table.old walk.old.top)) }
-    ensures grows { Grows table.old table.new }
+    ensures { Yields table.old table.new result (settle (tree_in table.old walk.old.top)) }
 {
     walk_law();
     loop {
@@ -93,17 +91,17 @@ fn settle_node(alloc: Global, table: &mut Table, memo: &Memo, id: Id) -> Result<
     table.laws();
     match table.node(id) {
         Node::Var { name, ty } => {
-            let Some(settled) = known(table, memo, ty) else {
+            let Some(settled) = part_settled(table, memo, ty) else {
                 return Ok(Step::Part(ty));
             };
             let made = table.intern_low(Node::Var { name, ty: settled })?;
             Ok(Step::Made(made))
         }
         Node::App { fun, arg } => {
-            let Some(first) = known(table, memo, fun) else {
+            let Some(first) = part_settled(table, memo, fun) else {
                 return Ok(Step::Part(fun));
             };
-            let Some(second) = known(table, memo, arg) else {
+            let Some(second) = part_settled(table, memo, arg) else {
                 return Ok(Step::Part(arg));
             };
             let made = table.intern_low(Node::App {
@@ -113,10 +111,10 @@ fn settle_node(alloc: Global, table: &mut Table, memo: &Memo, id: Id) -> Result<
             Ok(Step::Made(made))
         }
         Node::Arr { from, to } => {
-            let Some(first) = known(table, memo, from) else {
+            let Some(first) = part_settled(table, memo, from) else {
                 return Ok(Step::Part(from));
             };
-            let Some(second) = known(table, memo, to) else {
+            let Some(second) = part_settled(table, memo, to) else {
                 return Ok(Step::Part(to));
             };
             let made = table.intern_low(Node::Arr {
@@ -126,10 +124,10 @@ fn settle_node(alloc: Global, table: &mut Table, memo: &Memo, id: Id) -> Result<
             Ok(Step::Made(made))
         }
         Node::Qar { par, ty, to } => {
-            let Some(first) = known(table, memo, ty) else {
+            let Some(first) = part_settled(table, memo, ty) else {
                 return Ok(Step::Part(ty));
             };
-            let Some(second) = known(table, memo, to) else {
+            let Some(second) = part_settled(table, memo, to) else {
                 return Ok(Step::Part(to));
             };
             let made = table.intern_low(Node::Qar {
@@ -166,7 +164,7 @@ fn settle_op(
     let mut args = [TYPE; PARAMETERS];
     for i in 0..count {
         let arg = table.arg(id, i);
-        let Some(settled) = known(table, memo, arg) else {
+        let Some(settled) = part_settled(table, memo, arg) else {
             return Ok(Step::Part(arg));
         };
         args[i] = settled;
@@ -176,7 +174,7 @@ fn settle_op(
 }
 
 // What the part of a term settles to, where that is known without its own parts.
-fn known(table: &Table, memo: &Memo, id: Id) -> Option<Id>
+fn part_settled(table: &Table, memo: &Memo, id: Id) -> Option<Id>
     requires live { id < length table.now.trees }
     requires memo { TellsOnly (IsSettled table.now) memo.now }
     ensures { Knows table.now memo.now id result }
@@ -192,8 +190,7 @@ fn settled_op(alloc: Global, table: &mut Table, code: OpCode, args: &[Id]) -> Re
     requires count { HasArity code (length args.now) }
     requires args { All (λ i. i < length table.old.trees) args.now }
     requires low { is_tall (Op code (to_trees (trees_in table.old args.now))) ≡ false }
-    ensures gives { Gives table.new result (settled_op code (trees_in table.old args.now)) }
-    ensures grows { Grows table.old table.new }
+    ensures { Yields table.old table.new result (settled_op code (trees_in table.old args.now)) }
 {
     if are_closed(table, args) {
         return op_value(alloc, table, code, args);

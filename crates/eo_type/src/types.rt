@@ -1,23 +1,21 @@
 //! Types of terms, and the types that are kept.
-ghost use Rattle.std.specs.Prelude.{◌≡◌, ℕ, ◌+◌, ◌<◌, List, [], ◌∷◌, ◌++◌, length, filter, Ok, Some, None, IfSome, IfNone, OnOk, OnErr};
+ghost use Rattle.std.specs.Prelude.{◌≡◌, ℕ, ◌<◌, List, [], ◌∷◌, ◌++◌, length, filter, Ok, Some, IfSome, IfNone, OnOk, OnErr};
 ghost use Rattle.eo_term.specs.Tree.{Tree};
-ghost use Rattle.eo_term.specs.Terms.{Terms};
 ghost use Rattle.eo_term.specs.Growth.{tree_in, Grows};
 ghost use Rattle.eo_pattern.specs.Slots.{AreBelow, AreEmpty};
 ghost use Rattle.eo_sig.specs.Signature as spec;
-ghost use Rattle.eo_sig.specs.Reading.{Kept, signature, IsBelow};
-ghost use Rattle.eo_type.specs.Types.{TypeOutcome, declared, literal_type_at};
-ghost use Rattle.eo_type.specs.Outcomes.{Answers, Gives};
+ghost use Rattle.eo_sig.specs.Reading.{signature, IsBelow};
+ghost use Rattle.eo_type.specs.Types.{declared, literal_type_at};
+ghost use Rattle.eo_type.specs.Outcomes.{Yields, Answers, Gives};
 ghost use Rattle.eo_type.specs.TypeSteps.{GivesTypeStep};
-ghost use Rattle.eo_sig.specs.Growth.{GrowsUnder};
-ghost use Rattle.eo_type.specs.Known.{Fits, Fit, Lasts, Finds, Remembers, FindsBelow, FitsCut, kept_type, is_before};
+ghost use Rattle.eo_type.specs.Known.{Fits, FitWith, Lasts, Extends, IsUntyped, Finds, KeepsAnswer, FitsCut, kept_type, is_before};
 ghost use Rattle.eo_type.specs.Known.{class_type, type_at};
 
 use crate::TypeRefused;
-use crate::application::{assign, settled};
-use crate::known::Known;
+use crate::application::{assign, settle_under};
+use crate::known::TypeCache;
 use crate::leaves::if_value;
-use crate::partwise::{application_step, function_step, made, variable_step};
+use crate::partwise::{application_step, function_step, type_step, variable_step};
 use crate::refused::{Stop, answer};
 use eo_pattern::Subst;
 use eo_sig::{LiteralClass, Signature, growth_law, longer_law};
@@ -35,8 +33,8 @@ use std::marker::Model;
 #[derive(Drop)]
 pub struct Types {
     alloc: Global,
-    known: Known,
-    // Room for what parameters of types stand for. What it holds counts for nothing.
+    known: TypeCache,
+    // Room for the values of parameters of types. What it holds between two calls does not matter.
     subst: Subst,
     // Room for the terms that wait for the types of their parts. What it holds counts for nothing.
     waiting: Vec<Id>,
@@ -58,13 +56,13 @@ impl Types {
     {
         Types {
             alloc,
-            known: Known::new(alloc),
+            known: TypeCache::new(alloc),
             subst: Subst::new(alloc),
             waiting: Vec::new(alloc),
         }
     }
 
-    /// What holds of all types that fit. A call costs nothing: it tells a proof these facts.
+    /// What holds of all types that fit. A call costs nothing: it gives a proof these facts.
     pub fn laws(&self)
         ensures { Lasts self.now }
     {
@@ -76,27 +74,25 @@ impl Types {
     /// The type of a term, by the typing rules of the Ethos manual; `None` exactly where it has
     /// none. The parts of a term are typed from left to right, and only then compared.
     ///
-    /// A constant has its declared type, a literal that of its class with the literal put in,
+    /// A constant has its declared type, a literal that of its class with the literal substituted,
     /// a variable its own. `NumberRange`: a number, a bit string or a string in a type is out of
     /// range. `Tall`: a type is too tall. `Memory`: out of memory. After any of these the table is
     /// as it was. A part that is shared is typed once.
     ///
-    /// Types that are found are kept. One that is kept is answered at once, without memory.
+    /// Types that are found are kept. One that is kept is returned at once, without memory.
     pub fn type_of(
         &mut self,
         sig: &Signature,
         table: &mut Table,
         id: Id,
     ) -> Result<Option<Id>, TypeRefused>
-        requires live { id < length table.old.trees }
-        requires fits { Fit sig.now table.old self.old }
+        requires { FitWith sig.now table.old self.old id }
         ensures answers { Answers table.new result (type_at sig.now table.old id) }
         ensures known { (u : ℕ) → kept_type self.old id ≡ Some u →
             (result ≡ Ok (Some u)) × (table.new ≡ table.old) × (self.new ≡ self.old) }
-        ensures kept { Remembers self.old id result self.new }
+        ensures kept { KeepsAnswer self.new id result }
         ensures refused { OnErr result (table.new ≡ table.old) }
-        ensures fits { Fit sig.now table.new self.new }
-        ensures grows { GrowsUnder sig.now table.old table.new }
+        ensures extends { Extends sig.now table.old self.old table.new self.new }
     {
         match self.known.get(id) {
             Some(ty) => Ok(Some(ty)),
@@ -122,14 +118,11 @@ impl Types {
         table: &mut Table,
         id: Id,
     ) -> Result<Option<Id>, TypeRefused>
-        requires live { id < length table.old.trees }
-        requires fits { Fit sig.now table.old self.old }
-        requires new { kept_type self.old id ≡ None }
+        requires { IsUntyped sig.now table.old self.old id }
         ensures answers { Answers table.new result (type_at sig.now table.old id) }
-        ensures kept { Remembers self.old id result self.new }
+        ensures kept { KeepsAnswer self.new id result }
         ensures refused { OnErr result (table.new ≡ table.old) }
-        ensures fits { Fit sig.now table.new self.new }
-        ensures grows { GrowsUnder sig.now table.old table.new }
+        ensures extends { Extends sig.now table.old self.old table.new self.new }
     {
         let mark = table.mark();
         match answer(self.find_new(sig, table, id)) {
@@ -145,14 +138,9 @@ impl Types {
     // The type of a term of which none is kept. What is found is kept before it is answered, and the
     // first failure ends the walk, so no term is derived twice in a call.
     fn find_new(&mut self, sig: &Signature, table: &mut Table, id: Id) -> Result<Id, Stop>
-        requires live { id < length table.old.trees }
-        requires fits { Fit sig.now table.old self.old }
-        requires new { kept_type self.old id ≡ None }
+        requires { IsUntyped sig.now table.old self.old id }
         ensures gives { Gives table.new result (type_at sig.now table.old id) }
-        ensures kept { Finds self.old id result self.new }
-        ensures older { FindsBelow (id + 1) self.old self.new }
-        ensures fits { Fit sig.now table.new self.new }
-        ensures grows { GrowsUnder sig.now table.old table.new }
+        ensures finds { Finds sig.now table.old self.old id result table.new self.new }
     {
         let alloc = self.alloc;
         self.waiting.clear();
@@ -174,19 +162,14 @@ fn find_walk(
     sig: &Signature,
     table: &mut Table,
     subst: &mut Subst,
-    known: &mut Known,
+    known: &mut TypeCache,
     waiting: &mut Vec<Id>,
     id: Id,
 ) -> Result<Id, Stop>
-    requires live { id < length table.old.trees }
-    requires fits { Fit sig.now table.old known.old }
-    requires new { kept_type known.old id ≡ None }
+    requires untyped { IsUntyped sig.now table.old known.old id }
     requires waiting { waiting.old.items ≡ [] }
     ensures gives { Gives table.new result (type_at sig.now table.old id) }
-    ensures kept { Finds known.old id result known.new }
-    ensures older { FindsBelow (id + 1) known.old known.new }
-    ensures fits { Fit sig.now table.new known.new }
-    ensures grows { GrowsUnder sig.now table.old table.new }
+    ensures finds { Finds sig.now table.old known.old id result table.new known.new }
 {
     walk_law();
     sig.laws();
@@ -232,19 +215,18 @@ fn derive(
     sig: &Signature,
     table: &mut Table,
     subst: &mut Subst,
-    known: &Known,
+    known: &TypeCache,
     id: Id,
 ) -> Result<Step, Stop>
-    requires live { id < length table.old.trees }
-    requires fits { Fit sig.now table.old known.now }
+    requires { FitWith sig.now table.old known.now id }
     ensures gives { GivesTypeStep sig.now table.old known.now id (type_at sig.now table.old id) table.new result }
     ensures grows { Grows table.old table.new }
 {
     match table.node(id) {
-        Node::Con(k) => made(declared(sig, &*table, k)),
-        Node::Num(_) => made(literal(alloc, sig, table, LiteralClass::Numeral, id)),
-        Node::Bits { .. } => made(literal(alloc, sig, table, LiteralClass::Binary, id)),
-        Node::Str(_) => made(literal(alloc, sig, table, LiteralClass::String, id)),
+        Node::Con(k) => type_step(declared_type(sig, &*table, k)),
+        Node::Num(_) => type_step(literal(alloc, sig, table, LiteralClass::Numeral, id)),
+        Node::Bits { .. } => type_step(literal(alloc, sig, table, LiteralClass::Binary, id)),
+        Node::Str(_) => type_step(literal(alloc, sig, table, LiteralClass::String, id)),
         Node::Var { ty, .. } => variable_step(sig, &*table, known, ty),
         Node::App { fun, arg } => application_step(alloc, sig, table, subst, known, fun, arg),
         Node::Arr { from, to } => function_step(sig, &*table, known, from, to),
@@ -264,8 +246,8 @@ fn literal(
 ) -> Result<Id, Stop>
     requires live { id < length table.old.trees }
     requires below { IsBelow (length table.old.trees) sig.now }
-    ensures gives { Gives table.new result (literal_type_at (class_type sig.now table.old class) (tree_in table.old id)) }
-    ensures grows { Grows table.old table.new }
+    ensures { Yields table.old table.new result
+        (literal_type_at (class_type sig.now table.old class) (tree_in table.old id)) }
 {
     match sig.literal_type(class) {
         None => Err(Stop::Untyped),
@@ -274,7 +256,7 @@ fn literal(
 }
 
 // The declared type of a constant.
-fn declared(sig: &Signature, table: &Table, k: usize) -> Result<Id, Stop>
+fn declared_type(sig: &Signature, table: &Table, k: usize) -> Result<Id, Stop>
     requires { IsBelow (length table.now.trees) sig.now }
     ensures gives { Gives table.now result (declared (spec.constant_at (signature table.now.trees sig.now) k)) }
 {
@@ -285,12 +267,11 @@ fn declared(sig: &Signature, table: &Table, k: usize) -> Result<Id, Stop>
     Ok(sig.constant(k).ty)
 }
 
-// The type of a class with a literal put in.
+// The type of a class with a literal substituted.
 fn literal_in(alloc: Global, table: &mut Table, ty: Id, id: Id) -> Result<Id, Stop>
     requires ty { ty < length table.old.trees }
     requires live { id < length table.old.trees }
-    ensures gives { Gives table.new result (literal_type_at (Some (tree_in table.old ty)) (tree_in table.old id)) }
-    ensures grows { Grows table.old table.new }
+    ensures { Yields table.old table.new result (literal_type_at (Some (tree_in table.old ty)) (tree_in table.old id)) }
 {
     let mut subst = Subst::new(alloc);
     literal_with(alloc, table, &mut subst, ty, id)
@@ -308,10 +289,9 @@ fn literal_with(
     requires below { AreBelow (length table.old.trees) subst.old }
     requires ty { ty < length table.old.trees }
     requires live { id < length table.old.trees }
-    ensures gives { Gives table.new result (literal_type_at (Some (tree_in table.old ty)) (tree_in table.old id)) }
-    ensures grows { Grows table.old table.new }
+    ensures { Yields table.old table.new result (literal_type_at (Some (tree_in table.old ty)) (tree_in table.old id)) }
 {
     assign(table, subst, 0, id)?;
-    let found = settled(alloc, table, subst, ty)?;
+    let found = settle_under(alloc, table, subst, ty)?;
     if_value(table, found)
 }

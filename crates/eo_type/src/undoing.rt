@@ -1,4 +1,4 @@
-//! Giving back what a refused call made.
+//! Freeing what a refused call made.
 ghost use Rattle.std.specs.Prelude.{◌≡◌, filter};
 ghost use Rattle.eo_term.specs.Terms.{IsMark};
 ghost use Rattle.eo_type.specs.Known.{is_before};

@@ -21,7 +21,7 @@ fn main(rt: HostRuntime) -> ExitCode {
     ExitCode::from(status.code())
 }
 
-/// Says that there is no memory for the words, the library or the sink, and answers the status of
+/// Says that there is no memory for the words, the library or the sink, and returns the status of
 /// that. Where there is none to reach the output either, it writes nothing.
 fn without_memory(rt: &HostRuntime) -> Status {
     match rt.clone() {

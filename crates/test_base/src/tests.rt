@@ -1,7 +1,7 @@
 //! Names and lists hold what they were given.
 //!
 //! What owns a list, a name or a map lets go of it by a call, in a function of its own: each way out
-//! of a function that lets go of one by itself is dear to prove.
+//! of a function that lets go of one by itself is expensive to prove.
 use eo_base::{Chars, List, Name, NameRef, Text};
 use indexmap::IndexMap;
 use std::alloc::{AllocError, Global};
@@ -89,7 +89,7 @@ fn insert_and_find(alloc: Global, names: &mut Names) -> Result<bool, AllocError>
     )
 }
 
-// Whether the name of these bytes stands for this number, or for none.
+// Whether the name of these bytes is the key of this number, or of none.
 fn stand_for(names: &Names, name: &[u8], number: Option<u64>) -> bool {
     names.get(NameRef(name)).copied() == number
 }

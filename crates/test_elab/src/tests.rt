@@ -11,8 +11,8 @@ use std::process::Abort;
 use std::test::Fail;
 use world::World;
 
-// What a function tells of a new world. It alone owns one: each way out of a function that does is
-// dear to prove.
+// What a function returns for a new world. It alone owns one: each exit of a function that does is
+// expensive to prove.
 fn tell<T, F: FnOnce(&mut World) -> Result<T, Fail>>(alloc: Global, f: F) -> Result<T, Fail>
     requires { F.IsAlwaysCallable f }
 {
@@ -34,7 +34,7 @@ fn all_right<F: FnOnce(&mut World) -> Result<Option<usize>, Fail>>(
     Ok(())
 }
 
-// What a function tells of a new world holds.
+// What a function returns for a new world holds.
 fn holds<F: FnOnce(&mut World) -> Result<bool, Fail>>(
     rt: &impl Abort,
     alloc: Global,

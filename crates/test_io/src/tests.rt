@@ -7,7 +7,7 @@ use std::path::{Path, PathBuf};
 use std::test::Fail;
 use std::{env, fs, io, process};
 
-/// Reads a piece of the one open file through a small buffer, and answers whether that was its end,
+/// Reads a piece of the one open file through a small buffer, and returns whether that was its end,
 /// where nothing more is to be read.
 fn read_piece<L: Library>(library: &mut L, bytes: &mut Vec<u8>) -> Result<Option<bool>, AllocError>
     requires { (rest : Rest) × (L.open_files library.old ≡ rest ∷ []) }
@@ -24,7 +24,7 @@ fn read_piece<L: Library>(library: &mut L, bytes: &mut Vec<u8>) -> Result<Option
     }
 }
 
-/// Reads what is left of the one open file, and answers whether it came to the end.
+/// Reads what is left of the one open file, and returns whether it came to the end.
 fn read_rest<L: Library>(library: &mut L, bytes: &mut Vec<u8>) -> Result<bool, AllocError>
     requires { (rest : Rest) × (L.open_files library.old ≡ rest ∷ []) }
     ensures { (rest : Rest) × (L.open_files library.new ≡ rest ∷ []) }
@@ -37,7 +37,7 @@ fn read_rest<L: Library>(library: &mut L, bytes: &mut Vec<u8>) -> Result<bool, A
     Ok(false)
 }
 
-/// Opens a file, reads it and closes it: what opening answered, and whether reading came to the end.
+/// Opens a file, reads it and closes it: what opening returned, and whether reading came to the end.
 fn read_file<L: Library>(
     library: &mut L,
     path: &[u8],
@@ -57,10 +57,10 @@ fn read_file<L: Library>(
     }
 }
 
-/// A file: what opening it answers, whether reading it comes to the end, and what bytes it gives.
+/// A file: what opening it returns, whether reading it comes to the end, and what bytes it gives.
 type Reading<'a> = (&'a [u8], Opened, bool, &'a [u8]);
 
-// The first of these files that is not read so, one behind the other.
+// The first of these files that is not read so, one after the other.
 fn wrong_reading<L: Library>(
     alloc: Global,
     library: &mut L,
@@ -77,7 +77,7 @@ fn wrong_reading<L: Library>(
     Ok(None)
 }
 
-// Whether opening the file answers this, and reading it comes to the end or not, with these bytes.
+// Whether opening the file returns this, and reading it comes to the end or not, with these bytes.
 fn is_read_so<L: Library>(
     alloc: Global,
     library: &mut L,
@@ -225,7 +225,7 @@ fn paths(rt: HostRuntime) -> Result<(), Fail> {
     Ok(())
 }
 
-/// What folds a path: the file that it stands in, its name there, and its folding, if it has one.
+/// What folds a path: the file that it is in, its name there, and its folding, if it has one.
 type Folding<'a> = (&'a [u8], &'a [u8], Option<&'a str>);
 
 /// Whether the path in a file is folded so.
@@ -312,7 +312,7 @@ fn is_longest(alloc: Global, name: &str, longest: &str) -> Result<bool, AllocErr
     Ok(folded & refused & below)
 }
 
-// Whether slashes behind a name of 4,096 bytes play no part.
+// Whether slashes after a name of 4,096 bytes play no part.
 fn padding_is_free(alloc: Global) -> Result<bool, AllocError> {
     let longest = "a".repeat(alloc, 4_096)?;
     let free = is_padded_so(alloc, &longest);
@@ -320,7 +320,7 @@ fn padding_is_free(alloc: Global) -> Result<bool, AllocError> {
     free
 }
 
-// Whether as many slashes behind a name as it has bytes play no part.
+// Whether as many slashes after a name as it has bytes play no part.
 fn is_padded_so(alloc: Global, name: &str) -> Result<bool, AllocError> {
     let slashes = "/".repeat(alloc, name.len())?;
     let padded = format!(in alloc; "./{name}{slashes}");
@@ -405,7 +405,7 @@ fn make_folder(rt: &HostRuntime, folder: Path<'_>) -> io::Result<()> {
     fs::write(rt, file.as_path(), WRITTEN)
 }
 
-// What is told of a folder that is there for that time.
+// What is said of a folder that is there for that time.
 fn told_meanwhile(rt: &HostRuntime, folder: Path<'_>) -> io::Result<[bool; 2]> {
     make_folder(rt, folder)?;
     let told = told_of_folder(rt, folder);

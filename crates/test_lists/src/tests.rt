@@ -7,7 +7,7 @@ use world::Sample::{Con, Front, Number, Or, Own, Stuck};
 use world::{Sample, World, tell};
 
 // The first row that is wrong, if one is: the list operator of these arguments after `fun` does not
-// give what stands last.
+// give what comes last in it.
 fn wrong_of_none(w: &mut World, rows: &[(Sample, Sample)]) -> Result<Option<usize>, Fail> {
     for i in 0..rows.len() {
         let (fun, want) = rows[i];
@@ -52,8 +52,8 @@ fn wrong_of_two(
     Ok(None)
 }
 
-// The terminator alone stands for the empty list, and only a constant of the signature with a
-// terminator behind its items has one.
+// The terminator alone represents the empty list, and only a constant of the signature with a
+// terminator after its items has one.
 const TERMINATORS: &[(Sample, Sample)] = &[
     (Con(b'o'), Con(b'f')),
     (Con(b's'), Own("pq")),
@@ -86,7 +86,7 @@ fn without_terminator(w: &mut World) -> Result<Option<usize>, Fail> {
     wrong_of_one(w, b'l', WITHOUT_TERMINATOR)
 }
 
-// What stands after the constant is one list.
+// What is after the constant is one list.
 const OF_ONE_LIST: &[(OpName, Sample, Sample)] = &[
     (OpName::ListLen, Con(b'f'), Number(0)),
     (OpName::ListLen, Or("pqpf"), Number(3)),
@@ -115,7 +115,7 @@ fn one_list_has_a_value(rt: HostRuntime) -> Result<(), Fail> {
     Ok(())
 }
 
-// What stands after the constant is a list and an item or a place, in the operator's order.
+// What is after the constant is a list and an item or a place, in the operator's order.
 const OF_LIST_AND_ITEM: &[(OpName, Sample, Sample, Sample)] = &[
     (OpName::Cons, Con(b'p'), Con(b'f'), Or("pf")),
     (OpName::Cons, Con(b'p'), Or("qpf"), Or("pqpf")),
@@ -151,7 +151,7 @@ fn a_list_with_an_item_has_a_value(rt: HostRuntime) -> Result<(), Fail> {
     Ok(())
 }
 
-// Two lists stand after the constant.
+// Two lists are after the constant.
 const OF_TWO_LISTS: &[(OpName, Sample, Sample, Sample)] = &[
     (OpName::ListConcat, Con(b'f'), Con(b'f'), Con(b'f')),
     (OpName::ListConcat, Con(b'f'), Or("pf"), Or("pf")),

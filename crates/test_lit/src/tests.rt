@@ -17,7 +17,7 @@ const WIDEST: &str =
 /// A word and what it is read as.
 type LiteralRow<'a> = (&'a str, &'a LitRead);
 
-// The first word that is read as something else than what stands beside it.
+// The first word that is read as something else than what is written beside it.
 fn misread<'a>(rows: &[LiteralRow<'a>]) -> Option<&'a str> {
     for row in rows {
         if read_literal(row.0.as_bytes()) != Ok(*row.1) {
@@ -112,7 +112,7 @@ fn is_written_back(alloc: Global, word: &str, want: LitRead) -> Result<bool, All
     Ok(literal == want && text.as_str() == word)
 }
 
-// The first word that is read as something else than what stands beside it, or not written so.
+// The first word that is read as something else than what is written beside it, or not written so.
 fn not_written_back<'a>(
     alloc: Global,
     rows: &[LiteralRow<'a>],
@@ -147,7 +147,7 @@ fn literals_are_written_and_read_back(rt: HostRuntime) -> Result<(), Fail> {
     Ok(())
 }
 
-/// What stands between the quotes, how many characters that is and which is the last, and how they
+/// What is between the quotes, how many characters that is and which is the last, and how they
 /// are written.
 type StringRow<'a> = (&'a str, usize, u32, &'a str);
 

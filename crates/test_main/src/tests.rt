@@ -28,7 +28,7 @@ const ASSERTS_FALSE: File<'static> = (b"r.smt2", b"(assert false)\n");
 
 const ASSUMES_FALSE: File<'static> = (b"p.eo", b"(assume @p1 false)\n");
 
-/// Asserts that none is wrong, and else tells the first.
+/// Asserts that none is wrong, and else names the first.
 fn assert_none(rt: &impl Abort, wrong: Option<usize>) {
     assert_eq!(rt; wrong, None);
 }

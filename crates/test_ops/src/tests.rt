@@ -108,7 +108,7 @@ fn is_right_part(alloc: Global, row: Part) -> Result<bool, AllocError> {
     Ok(is_same(&apply(alloc, OpName::Extract, &arguments), want))
 }
 
-// The number of the first row that is not answered as it wants, if there is one.
+// The number of the first row with another result than it says, if there is one.
 fn wrong<Row: Copy, F: Fn(Global, Row) -> Result<bool, AllocError>>(
     alloc: Global,
     rows: &[Row],

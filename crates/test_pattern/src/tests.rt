@@ -6,8 +6,8 @@ use std::process::Abort;
 use std::test::Fail;
 use world::World;
 
-// What a function tells of a new table. It alone owns one: each way out of a function that does is
-// dear to prove.
+// What a function returns for a new table. It alone owns one: each exit of a function that does is
+// expensive to prove.
 fn tell<T, F: FnOnce(&mut World) -> Result<T, Fail>>(alloc: Global, f: F) -> Result<T, Fail>
     requires { F.IsAlwaysCallable f }
 {
@@ -29,14 +29,14 @@ fn holds<F: FnOnce(&mut World) -> Result<bool, Fail>>(
     Ok(())
 }
 
-// Whether the parameter 0, as two patterns, matches equal terms, and then stands for them.
+// Whether the parameter 0, as two patterns, matches equal terms, and then has them as its value.
 fn equal(world: &mut World) -> Result<bool, Fail> {
     let par = world.par(0)?;
     let (matches, value) = world.match_twice(par, TRUE, TRUE)?;
     Ok(matches & (value == Some(TRUE)))
 }
 
-// Whether it matches no terms that differ, and then stands for nothing.
+// Whether it matches no terms that differ, and then has no value.
 fn different(world: &mut World) -> Result<bool, Fail> {
     let par = world.par(0)?;
     let (matches, value) = world.match_twice(par, TRUE, FALSE)?;
@@ -138,7 +138,7 @@ fn parts_that_are_shared_far_apart_are_looked_at_once(rt: HostRuntime) -> Result
     holds(&rt, rt.alloc(), ladders)
 }
 
-// Whether it matches no term that differs from that one at one leaf, and then stands for nothing.
+// Whether it matches no term that differs from that one at one leaf, and then has no value.
 fn ladders_differ(world: &mut World) -> Result<bool, Fail> {
     let par = world.par(0)?;
     let pattern = ladder(world, par, 1500)?;

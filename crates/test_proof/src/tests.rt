@@ -6,24 +6,24 @@ use std::test::Fail;
 
 #[test]
 fn scopes_open_and_close(rt: HostRuntime) -> Result<(), Fail> {
-    assert_eq!(rt; lent(rt.alloc(), first_wrong)?, None);
+    assert_eq!(rt; with_facts(rt.alloc(), first_wrong)?, None);
     Ok(())
 }
 
 #[test]
 fn a_thousand_scopes_may_be_open(rt: HostRuntime) -> Result<(), Fail> {
-    assert_eq!(rt; lent(rt.alloc(), scopes_until_refused)?, Some(1_000));
+    assert_eq!(rt; with_facts(rt.alloc(), scopes_until_refused)?, Some(1_000));
     Ok(())
 }
 
 #[test]
 fn the_first_false_outside_counts(rt: HostRuntime) -> Result<(), Fail> {
-    assert_eq!(rt; lent(rt.alloc(), first_wrong_refutation)?, None);
+    assert_eq!(rt; with_facts(rt.alloc(), first_wrong_refutation)?, None);
     Ok(())
 }
 
-// What is told of facts of which there are none at first.
-fn lent<F: FnOnce(&mut Facts) -> Result<Option<usize>, FactRefused>>(
+// What is said of facts of which there are none at first.
+fn with_facts<F: FnOnce(&mut Facts) -> Result<Option<usize>, FactRefused>>(
     alloc: Global,
     tell: F,
 ) -> Result<Option<usize>, Fail>

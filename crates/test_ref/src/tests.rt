@@ -7,8 +7,8 @@ use std::process::Abort;
 use std::test::Fail;
 use world::{Row, Told, World};
 
-// What a function tells of a new world. It alone owns one: each way out of a function that does is
-// dear to prove.
+// What a function returns for a new world. It alone owns one: each exit of a function that does is
+// expensive to prove.
 fn tell<T, F: FnOnce(&mut World) -> Result<T, Fail>>(alloc: Global, f: F) -> Result<T, Fail>
     requires { F.IsAlwaysCallable f }
 {
@@ -30,7 +30,7 @@ fn all_right<F: FnOnce(&mut World) -> Result<Option<usize>, Fail>>(
     Ok(())
 }
 
-// What a function tells of a new world holds.
+// What a function returns for a new world holds.
 fn holds<F: FnOnce(&mut World) -> Result<bool, Fail>>(
     rt: &impl Abort,
     alloc: Global,
@@ -73,12 +73,12 @@ const BENCHMARK: &[Row<'static>] = &[
     ("(exit)", &Told::Exit),
 ];
 
-// The first command of a benchmark of which something else is told than what stands beside it.
+// The first command of a benchmark of which something else is said than what is written beside it.
 fn benchmark(world: &mut World) -> Result<Option<usize>, Fail> {
     world.other(BENCHMARK)
 }
 
-// Wrong commands, each with the fault that is told, and some that are right.
+// Wrong commands, each with its fault, and some that are right.
 const WRONG: &[Row<'static>] = &[
     ("(declare-const p Bool)", &Told::Constant),
     ("(declare-fun f (Bool) Bool)", &Told::Constant),
@@ -126,7 +126,7 @@ const WRONG: &[Row<'static>] = &[
     ("(assert e)", &Told::UnknownSymbol),
 ];
 
-// The first wrong command of which another fault is told than the one that stands beside it.
+// The first wrong command of which another fault is returned than the one that is beside it.
 fn wrong(world: &mut World) -> Result<Option<usize>, Fail> {
     world.other(WRONG)
 }

@@ -9,7 +9,7 @@ use eo_base::{Status, Text};
 use eo_io::{HonestLibrary, MemoryLibrary, MemorySink};
 use eo_main::{ethos_main, run_in_memory};
 use std::alloc::{AllocError, Global};
-pub use texts::{Long, joined, long_text};
+pub use texts::{Long, join_texts, long_text};
 
 /// Room for what is printed.
 pub const ROOM: usize = 8_192;
@@ -58,7 +58,7 @@ pub fn first_wrong<Row: Copy, F: Fn(Global, Row) -> Result<bool, AllocError>>(
     None
 }
 
-// The words of a line: what stands between two spaces is one, also where it is empty.
+// The words of a line: what is between two spaces is one, also where it is empty.
 fn words_of(alloc: Global, line: &str) -> Result<Vec<Text>, AllocError> {
     let mut words = Vec::new(alloc);
     for word in line.split(' ') {

@@ -46,7 +46,7 @@ fn push_later(text: &mut String, number: u32, more: u8) -> Result<(), AllocError
 }
 
 /// A text, and then another.
-pub fn joined(alloc: Global, first: &[u8], second: &[u8]) -> Result<Vec<u8>, AllocError> {
+pub fn join_texts(alloc: Global, first: &[u8], second: &[u8]) -> Result<Vec<u8>, AllocError> {
     let mut both = first.to_vec(alloc)?;
     both.extend_from_slice(second)?;
     Ok(both)

@@ -28,7 +28,7 @@ fn a_step_that_is_refused_ends_the_session(rt: HostRuntime) -> Result<(), Fail> 
     all_right(&rt, rt.alloc(), behind_a_refused_step)
 }
 
-// What is accepted before a refused step is refused behind it, and so is the step itself.
+// What is accepted before a refused step is refused after it, and so is the step itself.
 const REFUSED: &[Row<'static>] = &[
     (b"(define @t () true)", &Done(4)),
     (b"(step @a :rule nope)", &Fault(UnknownRule)),
@@ -149,7 +149,7 @@ fn steps_over_long_strings_leave_nothing_behind(rt: HostRuntime) -> Result<(), F
     all_right(&rt, rt.alloc(), with_long_strings)
 }
 
-// A program that doubles a string as often as it is told.
+// A program that doubles a string as often as its argument says.
 const DOUBLING: &[Row<'static>] = &[
     (b"(declare-const Int Type)", &Done(5)),
     (b"(declare-consts <numeral> Int)", &Done(5)),
@@ -230,7 +230,7 @@ fn with_shared_terms(run: &mut Run) -> Result<Option<usize>, Fail> {
         return Ok(first);
     }
     for k in 0..64_u16 {
-        if !run.is_right(&doubled(k, k + 1), Done(18 + 3 * k as usize))? {
+        if !run.is_right(&double_define(k, k + 1), Done(18 + 3 * k as usize))? {
             return Ok(Some(k as usize));
         }
     }
@@ -238,7 +238,7 @@ fn with_shared_terms(run: &mut Run) -> Result<Option<usize>, Fail> {
 }
 
 // The command that defines a conjunction by the one before, with names of two digits.
-fn doubled(before: u16, k: u16) -> [u8; 32] {
+fn double_define(before: u16, k: u16) -> [u8; 32] {
     let mut text = *b"(define @t00 () (and @t00 @t00))";
     text[10] = digit(k / 10);
     text[11] = digit(k);

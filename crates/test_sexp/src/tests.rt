@@ -33,8 +33,8 @@ fn check(rt: &impl Abort, alloc: Global, proof: bool, text: &[u8], want: &str) -
     Ok(())
 }
 
-// This and what else makes answers owns them alone, and lets go of them by a call: each way out of a
-// function that lets go of them by itself is dear to prove.
+// This and whatever else makes answers owns them alone, and drops them by a call: each exit of a
+// function that drops them itself is expensive to prove.
 fn in_pieces(
     rt: &impl Abort,
     alloc: Global,
@@ -97,8 +97,8 @@ fn answer_in_two(
     finish(rt, answers, want, "cut at", at)
 }
 
-// Tells that nothing more comes, and compares the answer with the one that is wanted. A difference
-// is told with how the text was fed.
+// Ends the text, and compares the answer with the expected one. A difference is reported with how
+// the text was fed.
 fn finish(
     rt: &impl Abort,
     answers: &mut Answers,
@@ -193,7 +193,7 @@ fn proofs(rt: HostRuntime) -> Result<(), Fail> {
     check_all(&rt, rt.alloc(), true, PROOFS)
 }
 
-// A command of each kind, with comments, strings and symbols behind words and before them.
+// A command of each kind, with comments, strings and symbols after words and before them.
 const COMMANDS: &[Row<'static>] = &[
     (
         b"(declare-const |p q| Bool) ;c\n",
@@ -265,7 +265,7 @@ fn check_byte(rt: &impl Abort, alloc: Global, x: u8) -> Result<(), Fail> {
     }
 }
 
-// The same of a byte that may stand there.
+// The same for a byte that is allowed there.
 fn check_string(rt: &impl Abort, alloc: Global, text: &[u8], x: u8) -> Result<(), Fail> {
     let end = if x == 10 { "2:5 " } else { "1:5 " };
     let want = format!(in alloc; "1:0 t{}\"\" end {end}", x as char)?;
@@ -284,8 +284,8 @@ fn every_byte_of_a_string(rt: HostRuntime) -> Result<(), Fail> {
     Ok(())
 }
 
-/// Whether it is a proof, and its text: bytes before a byte that stands there so many times, and
-/// bytes behind. At the end the answer.
+/// Whether it is a proof, and its text: bytes before a byte that is there so many times, and
+/// bytes after. At the end the answer.
 type LongRow<'a> = (bool, &'a [u8], u8, usize, &'a [u8], &'a str);
 
 const LIMITS: &[LongRow<'static>] = &[

@@ -26,7 +26,7 @@ fn write_two(out: &mut String, first: &[u8], second: &[u8]) -> Result<(), Fail> 
     write_bytes(out, second)
 }
 
-// An atom behind a word.
+// An atom after a word.
 fn write_marked(out: &mut String, word: &str, bytes: &[u8]) -> Result<(), Fail> {
     out.push_str(word)?;
     write_bytes(out, bytes)
@@ -198,10 +198,10 @@ fn write_text(alloc: Global, out: &mut String, text: &str, in_reference: bool) -
     written
 }
 
-/// A text, whether it stands in a reference file, and what is told of it.
+/// A text, whether it is in a reference file, and what is said of it.
 type Row<'a> = (&'a str, bool, &'a str);
 
-// Fails at the first text of which something else is told than what stands beside it.
+// Fails at the first text of which something else is said than what is written beside it.
 fn all_told(alloc: Global, rows: &[Row<'_>]) -> Result<(), Fail> {
     for (text, in_reference, want) in rows {
         if !is_told(alloc, text, *in_reference, want)? {

@@ -10,20 +10,20 @@ fn constant(w: &mut World) -> Result<bool, Fail> {
 }
 
 // A part that occurs once is written where it occurs.
-fn nested(w: &mut World) -> Result<bool, Fail> {
+fn shows_nested(w: &mut World) -> Result<bool, Fail> {
     let inner = w.arrow(BOOL, BOOL)?;
     let outer = w.arrow(BOOL, inner)?;
     w.shows(outer, b"(define @s1 () (-> Bool (-> Bool Bool)))\n")
 }
 
-fn shared(w: &mut World) -> Result<bool, Fail> {
+fn shows_shared(w: &mut World) -> Result<bool, Fail> {
     let inner = w.arrow(BOOL, BOOL)?;
     let outer = w.arrow(inner, inner)?;
     let lines = b"(define @s1 () (-> Bool Bool))\n(define @s2 () (-> @s1 @s1))\n";
     w.shows(outer, lines)
 }
 
-fn undeclared(w: &mut World) -> Result<bool, Fail> {
+fn shows_undeclared(w: &mut World) -> Result<bool, Fail> {
     let unknown = w.constant(9)?;
     let outer = w.arrow(BOOL, unknown)?;
     w.is_unprintable(outer)
@@ -32,8 +32,8 @@ fn undeclared(w: &mut World) -> Result<bool, Fail> {
 #[test]
 fn values_are_shown(rt: HostRuntime) -> Result<(), Fail> {
     assert!(rt; tell(rt.alloc(), constant)?);
-    assert!(rt; tell(rt.alloc(), nested)?);
-    assert!(rt; tell(rt.alloc(), shared)?);
-    assert!(rt; tell(rt.alloc(), undeclared)?);
+    assert!(rt; tell(rt.alloc(), shows_nested)?);
+    assert!(rt; tell(rt.alloc(), shows_shared)?);
+    assert!(rt; tell(rt.alloc(), shows_undeclared)?);
     Ok(())
 }

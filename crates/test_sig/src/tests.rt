@@ -1,2 +1,3 @@
 mod declarations;
+mod overloads;
 mod world;

@@ -5,8 +5,8 @@ use std::alloc::{AllocError, Global};
 use std::test::Fail;
 use world::World;
 
-// Whether the check holds in a new table. It alone owns one: each way out of a function that does is
-// dear to prove.
+// Whether the check holds in a new table. It alone owns one: each exit of a function that does is
+// expensive to prove.
 fn holds<F: FnOnce(&mut World) -> Result<bool, Fail>>(alloc: Global, check: F) -> Result<bool, Fail>
     requires { F.IsAlwaysCallable check }
 {
@@ -62,7 +62,7 @@ fn chain(world: &mut World) -> Result<Id, Fail> {
 // That term is as tall as it was made, and has a new term for each step.
 fn limit_is_reached(world: &mut World) -> Result<bool, Fail> {
     let id = chain(world)?;
-    Ok((world.told(id)? == (HEIGHT_LIMIT, true, true)) & (world.len() == 1_000_003))
+    Ok((world.facts_of(id)? == (HEIGHT_LIMIT, true, true)) & (world.len() == 1_000_003))
 }
 
 // An application of that term, and an operator over it, are too tall, and no terms.
@@ -80,14 +80,14 @@ fn a_chain_of_applications_ends_at_the_limit(rt: HostRuntime) -> Result<(), Fail
     Ok(())
 }
 
-// Whether a term has this root, and is told with this height, as a value or not, and as closed or
+// Whether a term has this root, and is read with this height, as a value or not, and as closed or
 // not.
 fn is(world: &World, id: Id, node: &Node, told: (u32, bool, bool)) -> Result<bool, Fail> {
     let root = world.node(id)?;
-    Ok((root == *node) & (world.told(id)? == told))
+    Ok((root == *node) & (world.facts_of(id)? == told))
 }
 
-// Whether the term that is made with this root is told so.
+// Whether the term that is made with this root is read so.
 fn reads_back(world: &mut World, node: Node, told: (u32, bool, bool)) -> Result<bool, Fail> {
     let id = world.make(node)?;
     is(world, id, &node, told)
@@ -181,8 +181,8 @@ fn an_operator_reads_back(rt: HostRuntime) -> Result<(), Fail> {
 
 // Of what was made for it, a carried term leaves its part alone.
 fn one_tree_is_kept(world: &mut World) -> Result<bool, Fail> {
-    let kept = world.carried()?;
-    let (height, _, _) = world.told(kept)?;
+    let kept = world.carry_back()?;
+    let (height, _, _) = world.facts_of(kept)?;
     Ok((world.node(kept)? == call()) & (height == 3) & (world.len() == 6))
 }
 
@@ -205,9 +205,9 @@ fn carry_keeps_the_texts_in_use(rt: HostRuntime) -> Result<(), Fail> {
     Ok(())
 }
 
-// A term is there before a release and no more behind it, and a number that is then made reads back.
+// A term is there before a release and not after it, and a number that is then made reads back.
 fn newer_terms_are_dropped(world: &mut World) -> Result<bool, Fail> {
-    let counts = world.released()?;
+    let counts = world.release_text()?;
     let number = world.make(Node::Num(-3))?;
     Ok((counts == (5, 4)) & (world.node(number)? == Node::Num(-3)))
 }
@@ -238,7 +238,7 @@ fn has(set: ParamSet, third: bool, fifth: bool) -> bool {
 fn parameters_are_told(world: &mut World) -> Result<bool, Fail> {
     let id = with_parameters(world)?;
     let known = world.parameters(id)?;
-    Ok(has(known, true, true) & (known.bound() == 6))
+    Ok(has(known, true, true) & (known.upper_bound() == 6))
 }
 
 // One of them occurs outside every operator.
@@ -261,7 +261,7 @@ fn what_is_kept_with_a_term_is_told(rt: HostRuntime) -> Result<(), Fail> {
     Ok(())
 }
 
-// A memo tells nothing at first, and then of a term for which another is kept, and not of that
+// A memo has nothing at first, and then what is kept for a term, and nothing for that
 // other.
 fn what_is_kept_is_told(memo: &mut Memo) -> Result<bool, AllocError> {
     let first = memo.get(TRUE);

@@ -238,7 +238,7 @@ fn other_verdicts_are_those_of_the_check(rt: HostRuntime) {
             text: b"",
             want: Want::Refused(FaultName::BadPath, 1, 0),
         },
-        // It stands in a file that is found after the proof's path.
+        // It is in a file that is found after the proof's path.
         Case {
             include: Some("i.eo"),
             reference: Some("r.smt2"),

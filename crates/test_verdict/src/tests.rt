@@ -1,6 +1,7 @@
 mod declarations;
 mod each_rule;
 mod evaluation;
+mod overloads;
 mod programs;
 mod rules;
 mod scopes;
@@ -65,7 +66,7 @@ fn wrong_refusal(alloc: Global, rows: &[Refusal<'_>]) -> Option<usize> {
     first_wrong(alloc, rows, is_refused)
 }
 
-/// Asserts that none is wrong, and else tells the first.
+/// Asserts that none is wrong, and else names the first.
 fn assert_none(rt: &impl Abort, wrong: Option<usize>) {
     assert_eq!(rt; wrong, None);
 }

@@ -4,10 +4,10 @@ ghost use Rattle.eo_sig.specs.Growth.{GrowsUnder};
 ghost use Rattle.eo_sig.specs.Reading.{IsBelow, signature};
 ghost use Rattle.eo_stack.specs.Bodies.{Finds, MakesBody, chosen_case};
 ghost use Rattle.eo_stack.specs.Evaluation.{body_of};
-ghost use Rattle.eo_eval.specs.Ready.{Ready, Calling, Recalls, called_at, told_in, told_call, told_run};
+ghost use Rattle.eo_eval.specs.Ready.{Goes, Ready, Calling, CallingAt, SameButHeld, Recalls, called_at, outcome_from, told_call, told_run};
 ghost use Rattle.eo_stack.specs.Machine.{calls};
 ghost use Rattle.eo_stack.specs.Reading.{read_call, call_at, begun, Remembers};
-ghost use Rattle.eo_stack.specs.declared.stack.Now.TheVariants as next;
+ghost use Rattle.eo_stack.specs.declared.stack.Control.TheVariants as next;
 ghost use Rattle.eo_sig.specs.Signature as spec;
 ghost use Rattle.eo_term.specs.Tree.{Tree, is_tall};
 ghost use Rattle.eo_pattern.specs.Steps.{put_in};
@@ -15,11 +15,11 @@ ghost use Rattle.eo_stack.specs.Scopes.{IsValueSlot};
 ghost use Rattle.eo_stack.specs.declared.stack.Frame.TheVariants as frame;
 
 use crate::machine::Machine;
-use crate::machine::memory::used;
+use crate::machine::memory::use_memo;
 use eo_base::limits::CALLS;
 use eo_pattern::substitute;
 use eo_sig::Signature;
-use eo_stack::{CallKey, Frame, Known, Now, find_body, is_light};
+use eo_stack::{CallKey, CallMemo, Control, Frame, find_body, fits_unsubstituted};
 use eo_term::{Id, Table, TermRefused};
 use eo_type::Types;
 use std::alloc::AllocError;
@@ -33,21 +33,20 @@ impl Machine {
         types: &Types,
         key: CallKey,
         left: u32,
-    ) -> Result<Now, AllocError>
+    ) -> Result<Control, AllocError>
         requires key { All (λ i. i < length table.old.trees) key.args }
         requires calling { Calling sig.now table.old types.now self.old (read_call table.old.trees key) }
-        ensures told { IfOk result (λ n. told_in sig.now table.new self.new n
-            ≡ told_call sig.now table.old self.old (read_call table.old.trees key) left) }
-        ensures ready { IfOk result (λ n. Ready sig.now table.new types.now self.new n) }
+        ensures goes { IfOk result (Goes sig.now table.new types.now self.new
+            (told_call sig.now table.old self.old (read_call table.old.trees key) left)) }
         ensures grows { GrowsUnder sig.now table.old table.new }
     {
         sig.laws();
         if left == 0 {
-            return Ok(Now::Deep);
+            return Ok(Control::Deep);
         }
         match self.begin_call(sig, table, types, key, left)? {
             Some(place) => self.call_begun(sig, table, types, place, left),
-            None => Ok(Now::Calls),
+            None => Ok(Control::Calls),
         }
     }
 
@@ -67,7 +66,7 @@ impl Machine {
         ensures calling { IfOk result (λ r. IfSome r (λ p. Calling sig.now table.now types.now self.new (called_at table.now self.new p))) }
         ensures told { IfOk result (λ r. IfSome r (λ p. told_call sig.now table.now self.new (called_at table.now self.new p) left
             ≡ told_call sig.now table.now self.old (read_call table.now.trees key) left)) }
-        ensures full { IfOk result (λ r. IfNone r (told_in sig.now table.now self.new next.Calls
+        ensures full { IfOk result (λ r. IfNone r (outcome_from sig.now table.now self.new next.Calls
             ≡ told_call sig.now table.now self.old (read_call table.now.trees key) left)) }
         ensures ready { IfOk result (λ r. IfNone r (Ready sig.now table.now types.now self.new next.Calls)) }
     {
@@ -79,7 +78,7 @@ impl Machine {
         if place >= CALLS {
             return Ok(None);
         }
-        self.calls.insert(key, Known::Open)?;
+        self.calls.insert(key, CallMemo::Open)?;
         Ok(Some(place))
     }
 
@@ -91,13 +90,11 @@ impl Machine {
         types: &Types,
         place: usize,
         left: u32,
-    ) -> Result<Now, AllocError>
+    ) -> Result<Control, AllocError>
         requires left { 0 < left }
-        requires place { place < length self.old.calls.entries }
-        requires calling { Calling sig.now table.old types.now self.old (called_at table.old self.old place) }
-        ensures told { IfOk result (λ n. told_in sig.now table.new self.new n
-            ≡ told_call sig.now table.old self.old (called_at table.old self.old place) left) }
-        ensures ready { IfOk result (λ n. Ready sig.now table.new types.now self.new n) }
+        requires called { CallingAt sig.now table.old types.now self.old place }
+        ensures goes { IfOk result (Goes sig.now table.new types.now self.new
+            (told_call sig.now table.old self.old (called_at table.old self.old place) left)) }
         ensures grows { GrowsUnder sig.now table.old table.new }
     {
         sig.laws();
@@ -108,7 +105,7 @@ impl Machine {
     }
 
     // What is known of a call that was begun, where so many calls may open.
-    fn known_call(&self, place: usize, left: u32) -> Option<Now>
+    fn known_call(&self, place: usize, left: u32) -> Option<Control>
         requires { place < length self.now.calls.entries }
         ensures { (S : spec.Signature) (most : ℕ) (ts : List Tree) →
             Remembers S most ts self.now.calls.entries self.now.terms.entries self.now.locals.entries →
@@ -116,7 +113,7 @@ impl Machine {
             self.now.calls.entries) place)) left n) }
     {
         let (_, known) = self.calls.get_index(place).unwrap();
-        used(*known, left)
+        use_memo(*known, left)
     }
 
     // A call that was begun goes on with its body, where so many calls may open.
@@ -127,25 +124,23 @@ impl Machine {
         types: &Types,
         place: usize,
         left: u32,
-    ) -> Result<Now, AllocError>
-        requires place { place < length self.old.calls.entries }
-        requires calling { Calling sig.now table.old types.now self.old (called_at table.old self.old place) }
-        ensures told { IfOk result (λ n. told_in sig.now table.new self.new n
-            ≡ told_run sig.now table.old self.old (called_at table.old self.old place) left) }
-        ensures ready { IfOk result (λ n. Ready sig.now table.new types.now self.new n) }
+    ) -> Result<Control, AllocError>
+        requires called { CallingAt sig.now table.old types.now self.old place }
+        ensures goes { IfOk result (Goes sig.now table.new types.now self.new
+            (told_run sig.now table.old self.old (called_at table.old self.old place) left)) }
         ensures grows { GrowsUnder sig.now table.old table.new }
     {
         sig.laws();
         match self.find(sig, table, place)? {
             Some(body) => self.enter_body(sig, table, types, place, left, body),
             None => {
-                self.finish_call(place, Known::Stuck { deepest: 1 });
-                Ok(Now::Stuck { deepest: 1 })
+                self.finish_call(place, CallMemo::Stuck { deepest: 1 });
+                Ok(Control::Stuck { deepest: 1 })
             }
         }
     }
 
-    // The body of a call that was begun. What stands for its parameters is then held.
+    // The body of a call that was begun. The values of its parameters are then held.
     fn find(
         &mut self,
         sig: &Signature,
@@ -157,11 +152,7 @@ impl Machine {
         requires below { IsBelow (length table.now.trees) sig.now }
         ensures found { IfOk result (λ o. Finds table.now self.new.subst o
             (chosen_case (signature table.now.trees sig.now) (called_at table.now self.old place))) }
-        ensures stack { self.new.stack ≡ self.old.stack }
-        ensures scope { self.new.scope ≡ self.old.scope }
-        ensures calls { self.new.calls ≡ self.old.calls }
-        ensures terms { self.new.terms ≡ self.old.terms }
-        ensures locals { self.new.locals ≡ self.old.locals }
+        ensures same { SameButHeld self.old self.new }
     {
         let (key, _) = self.calls.get_index(place).unwrap();
         find_body(
@@ -182,23 +173,21 @@ impl Machine {
         place: usize,
         left: u32,
         body: Id,
-    ) -> Result<Now, AllocError>
-        requires place { place < length self.old.calls.entries }
-        requires calling { Calling sig.now table.old types.now self.old (called_at table.old self.old place) }
+    ) -> Result<Control, AllocError>
+        requires called { CallingAt sig.now table.old types.now self.old place }
         requires found { Finds table.old self.old.subst (Some body)
             (chosen_case (signature table.old.trees sig.now) (called_at table.old self.old place)) }
-        ensures told { IfOk result (λ n. told_in sig.now table.new self.new n
-            ≡ told_run sig.now table.old self.old (called_at table.old self.old place) left) }
-        ensures ready { IfOk result (λ n. Ready sig.now table.new types.now self.new n) }
+        ensures goes { IfOk result (Goes sig.now table.new types.now self.new
+            (told_run sig.now table.old self.old (called_at table.old self.old place) left)) }
         ensures grows { GrowsUnder sig.now table.old table.new }
     {
-        if is_light(table, &self.subst, body) {
-            return self.enter_light(sig, table, types, place, left, body);
+        if fits_unsubstituted(table, &self.subst, body) {
+            return self.enter_in_env(sig, table, types, place, left, body);
         }
         self.make_body(sig, table, types, place, left, body)
     }
 
-    // A call goes on with a body in which what is held is put in first: with it, it may be too tall.
+    // A call goes on with a body in which what is held is substituted first: with it, it may be too tall.
     fn make_body(
         &mut self,
         sig: &Signature,
@@ -207,14 +196,12 @@ impl Machine {
         place: usize,
         left: u32,
         body: Id,
-    ) -> Result<Now, AllocError>
-        requires place { place < length self.old.calls.entries }
-        requires calling { Calling sig.now table.old types.now self.old (called_at table.old self.old place) }
+    ) -> Result<Control, AllocError>
+        requires called { CallingAt sig.now table.old types.now self.old place }
         requires found { Finds table.old self.old.subst (Some body)
             (chosen_case (signature table.old.trees sig.now) (called_at table.old self.old place)) }
-        ensures told { IfOk result (λ n. told_in sig.now table.new self.new n
-            ≡ told_run sig.now table.old self.old (called_at table.old self.old place) left) }
-        ensures ready { IfOk result (λ n. Ready sig.now table.new types.now self.new n) }
+        ensures goes { IfOk result (Goes sig.now table.new types.now self.new
+            (told_run sig.now table.old self.old (called_at table.old self.old place) left)) }
         ensures grows { GrowsUnder sig.now table.old table.new }
     {
         sig.laws();
@@ -224,7 +211,7 @@ impl Machine {
     }
 
     // A call goes on with a body whose parameters are held.
-    fn enter_light(
+    fn enter_in_env(
         &mut self,
         sig: &Signature,
         table: &Table,
@@ -232,16 +219,14 @@ impl Machine {
         place: usize,
         left: u32,
         body: Id,
-    ) -> Result<Now, AllocError>
-        requires place { place < length self.old.calls.entries }
-        requires calling { Calling sig.now table.now types.now self.old (called_at table.now self.old place) }
+    ) -> Result<Control, AllocError>
+        requires called { CallingAt sig.now table.now types.now self.old place }
         requires found { Finds table.now self.old.subst (Some body)
             (chosen_case (signature table.now.trees sig.now) (called_at table.now self.old place)) }
         requires low { is_tall (put_in table.now self.old.subst body) ≡ false }
         requires values { All (IsValueSlot table.now.trees) self.old.subst.values }
-        ensures told { IfOk result (λ n. told_in sig.now table.now self.new n
-            ≡ told_run sig.now table.now self.old (called_at table.now self.old place) left) }
-        ensures ready { IfOk result (λ n. Ready sig.now table.now types.now self.new n) }
+        ensures { IfOk result (Goes sig.now table.now types.now self.new
+            (told_run sig.now table.now self.old (called_at table.now self.old place) left)) }
     {
         // No list holds so many calls that this count ends.
         let Some(here) = place.checked_add(1) else {
@@ -249,10 +234,10 @@ impl Machine {
         };
         self.open(place, body)?;
         self.scope.open(here, self.subst.slots())?;
-        Ok(Now::Enter { id: body, left })
+        Ok(Control::Eval { id: body, left })
     }
 
-    // A call goes on with a body that was made, with its parameters put in.
+    // A call goes on with a body that was made, with its parameters substituted.
     fn enter_made(
         &mut self,
         sig: &Signature,
@@ -261,21 +246,19 @@ impl Machine {
         place: usize,
         left: u32,
         made: Result<Id, TermRefused>,
-    ) -> Result<Now, AllocError>
-        requires place { place < length self.old.calls.entries }
-        requires calling { Calling sig.now table.now types.now self.old (called_at table.now self.old place) }
+    ) -> Result<Control, AllocError>
+        requires called { CallingAt sig.now table.now types.now self.old place }
         requires body { MakesBody table.now made (body_of (signature table.now.trees sig.now) (called_at table.now self.old place)) }
-        ensures told { IfOk result (λ n. told_in sig.now table.now self.new n
-            ≡ told_run sig.now table.now self.old (called_at table.now self.old place) left) }
-        ensures ready { IfOk result (λ n. Ready sig.now table.now types.now self.new n) }
+        ensures { IfOk result (Goes sig.now table.now types.now self.new
+            (told_run sig.now table.now self.old (called_at table.now self.old place) left)) }
     {
         match made {
             Ok(body) => {
                 self.open(place, body)?;
                 self.scope.open(0, &[])?;
-                Ok(Now::Enter { id: body, left })
+                Ok(Control::Eval { id: body, left })
             }
-            Err(TermRefused::Tall) => Ok(Now::Tall),
+            Err(TermRefused::Tall) => Ok(Control::Tall),
             Err(TermRefused::Memory(e)) => Err(e),
         }
     }

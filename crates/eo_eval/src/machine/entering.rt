@@ -1,18 +1,17 @@
 //! Operators that begin to be evaluated.
-ghost use Rattle.std.specs.Prelude.{◌≡◌, ◌<◌, length, IfOk};
+ghost use Rattle.std.specs.Prelude.{◌≡◌, ◌<◌, IfOk};
 ghost use Rattle.eo_term.specs.Arguments.{arguments_of, count_of};
 ghost use Rattle.eo_term.specs.Growth.{tree_in};
 ghost use Rattle.eo_term.specs.Terms.{arity, HasArity};
 ghost use Rattle.eo_term.specs.Tree.{Op};
 ghost use Rattle.eo_term.specs.declared.OpCode.TheVariants as code;
-ghost use Rattle.eo_sig.specs.Growth.{GrowsUnder};
-ghost use Rattle.eo_type.specs.Known.{StillFit};
-ghost use Rattle.eo_eval.specs.Ready.{Ready, told_in};
-ghost use Rattle.eo_stack.specs.declared.stack.Now.TheVariants as next;
+ghost use Rattle.eo_type.specs.Known.{Extends};
+ghost use Rattle.eo_eval.specs.Ready.{Goes, Ready, outcome_from};
+ghost use Rattle.eo_stack.specs.declared.stack.Control.TheVariants as next;
 
 use crate::machine::Machine;
 use eo_sig::Signature;
-use eo_stack::{Frame, Now};
+use eo_stack::{Control, Frame};
 use eo_term::{Id, OpCode, OpName, Table};
 use eo_type::Types;
 use std::alloc::AllocError;
@@ -27,14 +26,13 @@ impl Machine {
         id: Id,
         code: OpCode,
         left: u32,
-    ) -> Result<Now, AllocError>
-        requires ready { Ready sig.now table.old types.old self.old (next.Enter id left) }
+    ) -> Result<Control, AllocError>
+        requires ready { Ready sig.now table.old types.old self.old (next.Eval id left) }
         requires operator { Op code (arguments_of (tree_in table.old id)) ≡ tree_in table.old id }
         requires arity { HasArity code (count_of (arguments_of (tree_in table.old id))) }
-        ensures told { IfOk result (λ n. told_in sig.now table.new self.new n ≡ told_in sig.now table.old self.old (next.Enter id left)) }
-        ensures ready { IfOk result (λ n. Ready sig.now table.new types.new self.new n) }
-        ensures fits { StillFit sig.now table.new types.old types.new }
-        ensures grows { GrowsUnder sig.now table.old table.new }
+        ensures goes { IfOk result (Goes sig.now table.new types.new self.new (outcome_from sig.now table.old self.old
+            (next.Eval id left))) }
+        ensures extends { Extends sig.now table.old types.old table.new types.new }
     {
         match code {
             OpCode::Builtin(op) => self.enter_builtin(sig, table, types, id, op, left),
@@ -51,14 +49,13 @@ impl Machine {
         id: Id,
         op: OpName,
         left: u32,
-    ) -> Result<Now, AllocError>
-        requires ready { Ready sig.now table.old types.old self.old (next.Enter id left) }
+    ) -> Result<Control, AllocError>
+        requires ready { Ready sig.now table.old types.old self.old (next.Eval id left) }
         requires operator { Op (code.Builtin op) (arguments_of (tree_in table.old id)) ≡ tree_in table.old id }
         requires count { count_of (arguments_of (tree_in table.old id)) ≡ arity op }
-        ensures told { IfOk result (λ n. told_in sig.now table.new self.new n ≡ told_in sig.now table.old self.old (next.Enter id left)) }
-        ensures ready { IfOk result (λ n. Ready sig.now table.new types.new self.new n) }
-        ensures fits { StillFit sig.now table.new types.old types.new }
-        ensures grows { GrowsUnder sig.now table.old table.new }
+        ensures goes { IfOk result (Goes sig.now table.new types.new self.new (outcome_from sig.now table.old self.old
+            (next.Eval id left))) }
+        ensures extends { Extends sig.now table.old types.old table.new types.new }
     {
         let part = table.arg(id, 0);
         match op {
@@ -76,11 +73,19 @@ impl Machine {
                 table,
                 types,
                 id,
-                Frame::Require { id, left },
+                Frame::RequireLeft { id, left },
                 part,
                 left,
             ),
-            OpName::IsEq => self.begin(sig, table, types, id, Frame::Left { id, left }, part, left),
+            OpName::IsEq => self.begin(
+                sig,
+                table,
+                types,
+                id,
+                Frame::EqLeft { id, left },
+                part,
+                left,
+            ),
             OpName::IsOk => self.begin(sig, table, types, id, Frame::Tested { id }, part, left),
             _ => self.enter_parts(sig, table, types, id, left),
         }

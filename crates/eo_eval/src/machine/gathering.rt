@@ -6,15 +6,15 @@ ghost use Rattle.eo_term.specs.Growth.{tree_in};
 ghost use Rattle.eo_term.specs.Arguments.{arguments_of, count_of};
 ghost use Rattle.eo_term.specs.declared.OpCode.TheVariants as code;
 ghost use Rattle.eo_sig.specs.Growth.{GrowsUnder};
-ghost use Rattle.eo_type.specs.Known.{StillFit};
+ghost use Rattle.eo_type.specs.Known.{Extends};
 ghost use Rattle.eo_stack.specs.Machine.{is_call, parts_of};
-ghost use Rattle.eo_eval.specs.Ready.{Ready, Gathering, IsNextPart, told_in, told_rest};
+ghost use Rattle.eo_eval.specs.Ready.{Goes, Gathering, IsNextPart, outcome_of_parts};
 ghost use Rattle.eo_stack.specs.Scopes.{entered, IsValueSlot};
 
 use crate::machine::Machine;
-use crate::machine::results::{ended, program_of};
+use crate::machine::results::{control_after, program_of};
 use eo_sig::Signature;
-use eo_stack::{Args, CallKey, Frame, Now, made};
+use eo_stack::{Args, CallKey, Control, Frame, apply_node};
 use eo_term::{Id, Node, Table, arguments_law};
 use eo_type::Types;
 use std::alloc::AllocError;
@@ -32,12 +32,10 @@ impl Machine {
         base: usize,
         deepest: u32,
         left: u32,
-    ) -> Result<Now, AllocError>
+    ) -> Result<Control, AllocError>
         requires gathering { Gathering sig.now table.old types.old self.old id base deepest }
-        ensures told { IfOk result (λ n. told_in sig.now table.new self.new n ≡ told_rest sig.now table.old self.old id base left) }
-        ensures ready { IfOk result (λ n. Ready sig.now table.new types.new self.new n) }
-        ensures fits { StillFit sig.now table.new types.old types.new }
-        ensures grows { GrowsUnder sig.now table.old table.new }
+        ensures goes { IfOk result (Goes sig.now table.new types.new self.new (outcome_of_parts sig.now table.old self.old id base left)) }
+        ensures extends { Extends sig.now table.old types.old table.new types.new }
     {
         match self.collect_ready(sig, table, types, id, base, deepest)? {
             Some(part) => {
@@ -47,7 +45,7 @@ impl Machine {
                     deepest,
                     left,
                 })?;
-                Ok(Now::Enter { id: part, left })
+                Ok(Control::Eval { id: part, left })
             }
             None => match program_of(table, id) {
                 Some(program) => {
@@ -71,8 +69,8 @@ impl Machine {
     ) -> Result<Option<Id>, AllocError>
         requires gathering { Gathering sig.now table.now types.now self.old id base deepest }
         ensures gathering { IfOk result (λ o. Gathering sig.now table.now types.now self.new id base deepest) }
-        ensures told { (left : ℕ) → IfOk result (λ o. told_rest sig.now table.now self.new id base left
-            ≡ told_rest sig.now table.now self.old id base left) }
+        ensures told { (left : ℕ) → IfOk result (λ o. outcome_of_parts sig.now table.now self.new id base left
+            ≡ outcome_of_parts sig.now table.now self.old id base left) }
         ensures next { IfOk result (IsNextPart table.now self.new id base) }
     {
         match table.node(id) {
@@ -111,8 +109,8 @@ impl Machine {
         requires parts { trees_at table.now.trees parts.now ≡ parts_of (tree_in table.now id) }
         requires live { All (λ i. i < length table.now.trees) parts.now }
         ensures gathering { IfOk result (λ o. Gathering sig.now table.now types.now self.new id base deepest) }
-        ensures told { (left : ℕ) → IfOk result (λ o. told_rest sig.now table.now self.new id base left
-            ≡ told_rest sig.now table.now self.old id base left) }
+        ensures told { (left : ℕ) → IfOk result (λ o. outcome_of_parts sig.now table.now self.new id base left
+            ≡ outcome_of_parts sig.now table.now self.old id base left) }
         ensures next { IfOk result (IsNextPart table.now self.new id base) }
     {
         arguments_law();
@@ -126,8 +124,8 @@ impl Machine {
         Ok(None)
     }
 
-    // The value of a term, if it is known at once: it is a value, or a parameter for which one
-    // stands.
+    // The value of a term, if it is known at once: it is a value, or a parameter that has
+    // one.
     fn ready(&self, table: &Table, id: Id) -> Option<Id>
         requires live { id < length table.now.trees }
         requires slots { All (IsValueSlot table.now.trees) self.now.scope.slots }
@@ -158,15 +156,14 @@ impl Machine {
         base: usize,
         deepest: u32,
         left: u32,
-    ) -> Result<Now, AllocError>
+    ) -> Result<Control, AllocError>
         requires program { Op (code.Prog program) (arguments_of (tree_in table.old id)) ≡ tree_in table.old id }
         requires all { length (drop base self.old.stack.values.items) ≡ count_of (parts_of (tree_in table.old id)) }
         requires gathering { Gathering sig.now table.old types.now self.old id base deepest }
-        ensures told { IfOk result (λ n. told_in sig.now table.new self.new n ≡ told_rest sig.now table.old self.old id base left) }
-        ensures ready { IfOk result (λ n. Ready sig.now table.new types.now self.new n) }
+        ensures goes { IfOk result (Goes sig.now table.new types.now self.new (outcome_of_parts sig.now table.old self.old id base left)) }
         ensures grows { GrowsUnder sig.now table.old table.new }
     {
-        self.stack.wait(Frame::Handed { id, deepest })?;
+        self.stack.wait(Frame::Tail { id, deepest })?;
         let args = Args::new(self.alloc, &self.stack.values.as_slice()[base..])?;
         self.stack.cut(base);
         self.call(sig, table, types, CallKey { program, args }, left)
@@ -182,16 +179,14 @@ impl Machine {
         base: usize,
         deepest: u32,
         left: u32,
-    ) -> Result<Now, AllocError>
+    ) -> Result<Control, AllocError>
         requires kind { is_call (tree_in table.old id) ≡ false }
         requires all { length (drop base self.old.stack.values.items) ≡ count_of (parts_of (tree_in table.old id)) }
         requires gathering { Gathering sig.now table.old types.old self.old id base deepest }
-        ensures told { IfOk result (λ n. told_in sig.now table.new self.new n ≡ told_rest sig.now table.old self.old id base left) }
-        ensures ready { IfOk result (λ n. Ready sig.now table.new types.new self.new n) }
-        ensures fits { StillFit sig.now table.new types.old types.new }
-        ensures grows { GrowsUnder sig.now table.old table.new }
+        ensures goes { IfOk result (Goes sig.now table.new types.new self.new (outcome_of_parts sig.now table.old self.old id base left)) }
+        ensures extends { Extends sig.now table.old types.old table.new types.new }
     {
-        let outcome = made(
+        let outcome = apply_node(
             self.alloc,
             sig,
             table,
@@ -201,6 +196,6 @@ impl Machine {
         )?;
         self.stack.cut(base);
         self.keep(table, id, &outcome, deepest)?;
-        Ok(ended(&outcome, deepest))
+        Ok(control_after(&outcome, deepest))
     }
 }

@@ -7,11 +7,11 @@ ghost use Rattle.indexmap.specs.Layout.{set_value_at};
 ghost use Rattle.eo_stack.specs.Evaluation.{Begun};
 ghost use Rattle.eo_stack.specs.Machine.{Family, evals};
 ghost use Rattle.eo_stack.specs.Reading.{Remembers, IsKnown, begun};
-ghost use Rattle.eo_eval.specs.Ready.{IsFresh, Keeps, Recalls};
+ghost use Rattle.eo_eval.specs.Ready.{IsFresh, Keeps, Recalls, SameWork};
 ghost use Rattle.eo_stack.specs.Scopes.{entered, outer, IsScope};
 
 use crate::machine::Machine;
-use eo_stack::{Known, LocalKey, Now, Outcome};
+use eo_stack::{CallMemo, Control, LocalKey, Outcome};
 use eo_term::{Id, Table};
 use indexmap::IndexMap;
 use std::alloc::{AllocError, Global};
@@ -36,7 +36,7 @@ impl Machine {
     }
 
     // What is remembered of a term, where so many calls may open.
-    pub(crate) fn recalled(&self, table: &Table, id: Id, left: u32) -> Option<Now>
+    pub(crate) fn recall(&self, table: &Table, id: Id, left: u32) -> Option<Control>
         requires { id < length table.now.trees }
         ensures { (S : spec.Signature) (most : ℕ) → let ts = table.now.trees in
             Remembers S most ts self.now.calls.entries self.now.terms.entries self.now.locals.entries →
@@ -46,14 +46,14 @@ impl Machine {
         if self.is_passed(table, id) {
             return None;
         }
-        match self.known(table, id) {
-            Some(known) => used(known, left),
+        match self.memo_of(table, id) {
+            Some(known) => use_memo(known, left),
             None => None,
         }
     }
 
     // What is remembered of a term.
-    fn known(&self, table: &Table, id: Id) -> Option<Known>
+    fn memo_of(&self, table: &Table, id: Id) -> Option<CallMemo>
         requires { id < length table.now.trees }
         ensures { (S : spec.Signature) (most : ℕ) → let ts = table.now.trees in
             Remembers S most ts self.now.calls.entries self.now.terms.entries self.now.locals.entries →
@@ -67,7 +67,7 @@ impl Machine {
         self.locals.get(&LocalKey { here, id }).copied()
     }
 
-    // Whether a term is evaluated as it is: it has no parameter, or nothing stands for any.
+    // Whether a term is evaluated as it is: it has no parameter, or none has a value.
     fn is_itself(&self, table: &Table, id: Id) -> bool
         requires { id < length table.now.trees }
         ensures { (S : spec.Signature) (b : Begun) → let ts = table.now.trees in
@@ -102,9 +102,7 @@ impl Machine {
         deepest: u32,
     ) -> Result<(), AllocError>
         requires { id < length table.now.trees }
-        ensures frames { self.new.stack.frames.items ≡ self.old.stack.frames.items }
-        ensures values { self.new.stack.values.items ≡ self.old.stack.values.items }
-        ensures scope { self.new.scope ≡ self.old.scope }
+        ensures work { SameWork self.old self.new }
         ensures calls { self.new.calls.entries ≡ self.old.calls.entries }
         ensures remembers { (S : spec.Signature) (most : ℕ) → let ts = table.now.trees in
             Remembers S most ts self.old.calls.entries self.old.terms.entries self.old.locals.entries →
@@ -116,31 +114,31 @@ impl Machine {
             return Ok(());
         }
         match *outcome {
-            Outcome::Value(value) => self.remember(table, id, Known::Value { id: value, deepest }),
-            Outcome::Stuck => self.remember(table, id, Known::Stuck { deepest }),
+            Outcome::Value(value) => self.remember(
+                table,
+                id,
+                CallMemo::Value { id: value, deepest },
+            ),
+            Outcome::Stuck => self.remember(table, id, CallMemo::Stuck { deepest }),
             _ => Ok(()),
         }
     }
 
     /// Keeps what is known of a call that was begun, by its place among those that were.
-    pub(crate) fn finish_call(&mut self, place: usize, known: Known)
+    pub(crate) fn finish_call(&mut self, place: usize, known: CallMemo)
         requires { place < length self.old.calls.entries }
         ensures calls { self.new.calls.entries ≡ set_value_at self.old.calls.entries place known }
         ensures terms { self.new.terms.entries ≡ self.old.terms.entries }
         ensures locals { self.new.locals.entries ≡ self.old.locals.entries }
-        ensures frames { self.new.stack.frames.items ≡ self.old.stack.frames.items }
-        ensures values { self.new.stack.values.items ≡ self.old.stack.values.items }
-        ensures scope { self.new.scope ≡ self.old.scope }
+        ensures work { SameWork self.old self.new }
     {
         *self.calls.get_index_mut(place).unwrap() = known;
     }
 
     // Keeps what is known of a term.
-    fn remember(&mut self, table: &Table, id: Id, known: Known) -> Result<(), AllocError>
+    fn remember(&mut self, table: &Table, id: Id, known: CallMemo) -> Result<(), AllocError>
         requires { id < length table.now.trees }
-        ensures frames { self.new.stack.frames.items ≡ self.old.stack.frames.items }
-        ensures values { self.new.stack.values.items ≡ self.old.stack.values.items }
-        ensures scope { self.new.scope ≡ self.old.scope }
+        ensures work { SameWork self.old self.new }
         ensures calls { self.new.calls.entries ≡ self.old.calls.entries }
         ensures remembers { (S : spec.Signature) (most : ℕ) → let ts = table.now.trees in
             Remembers S most ts self.old.calls.entries self.old.terms.entries self.old.locals.entries →
@@ -157,8 +155,8 @@ impl Machine {
         Ok(())
     }
 
-    /// A call that was taken off has ended: what stood for parameters before it stands again, and
-    /// what was remembered of terms with its parameters goes.
+    /// A call that was taken off has ended: the values that parameters had before it are restored, and
+    /// what was remembered of terms with its parameters is dropped.
     pub(crate) fn close(&mut self, base: usize, here: usize, kept: usize)
         ensures frames { self.new.stack.frames.items ≡ self.old.stack.frames.items }
         ensures values { self.new.stack.values.items ≡ self.old.stack.values.items }
@@ -173,23 +171,23 @@ impl Machine {
 }
 
 // What is remembered, where so many calls may open.
-pub(crate) fn used(known: Known, left: u32) -> Option<Now>
+pub(crate) fn use_memo(known: CallMemo, left: u32) -> Option<Control>
     ensures { (ts : List Tree) (b : Begun) (F : Family) → IsKnown ts b F known → IfSome result (λ n. Recalls ts b F left n) }
 {
     match known {
-        Known::Open => None,
-        Known::Value { id, deepest } => {
+        CallMemo::Open => None,
+        CallMemo::Value { id, deepest } => {
             if deepest <= left {
-                Some(Now::Value { id, deepest })
+                Some(Control::Value { id, deepest })
             } else {
-                Some(Now::Deep)
+                Some(Control::Deep)
             }
         }
-        Known::Stuck { deepest } => {
+        CallMemo::Stuck { deepest } => {
             if deepest <= left {
-                Some(Now::Stuck { deepest })
+                Some(Control::Stuck { deepest })
             } else {
-                Some(Now::Deep)
+                Some(Control::Deep)
             }
         }
     }

@@ -1,25 +1,24 @@
 //! Results that are given to what waits.
-ghost use Rattle.std.specs.Prelude.{◌≡◌, ◌<◌, ◌≤◌, ◌+◌, drop, false, length, IfOk, IfSome, IfNone, List, ℕ, Some};
+ghost use Rattle.std.specs.Prelude.{◌≡◌, ◌<◌, ◌≤◌, ◌+◌, false, length, IfOk, IfSome, IfNone, List, ℕ, Some};
 ghost use Rattle.eo_term.specs.Tree.{Tree, Op, truth};
 ghost use Rattle.eo_stack.specs.Evaluation.{Value, are_equal};
 ghost use Rattle.eo_term.specs.Terms.{tree_at};
 ghost use Rattle.eo_term.specs.Growth.{tree_in};
-ghost use Rattle.eo_term.specs.Arguments.{arguments_of, count_of};
+ghost use Rattle.eo_term.specs.Arguments.{arguments_of};
 ghost use Rattle.eo_term.specs.declared.OpCode.TheVariants as code;
-ghost use Rattle.eo_stack.specs.Machine.{is_call, parts_of};
+ghost use Rattle.eo_stack.specs.Machine.{is_call};
 ghost use Rattle.eo_sig.specs.Reading.{signature};
-ghost use Rattle.eo_sig.specs.Growth.{GrowsUnder};
-ghost use Rattle.eo_type.specs.Known.{StillFit};
+ghost use Rattle.eo_type.specs.Known.{Extends};
 ghost use Rattle.eo_base.specs.Limits.{calls_limit};
 ghost use Rattle.eo_stack.specs.Reading.{IsNode, IsResult, HasMore, IsNoTruth, given_in};
-ghost use Rattle.eo_stack.specs.Reading.{now_of, outcome_in, OutcomeBelow, result_of, NowBelow};
-ghost use Rattle.eo_eval.specs.Ready.{Ready, PoppedReady, Concludes, Proceeds, Begins, HasNoValues, told_in, told_popped};
-ghost use Rattle.eo_stack.specs.declared.stack.Now.TheVariants as next;
+ghost use Rattle.eo_stack.specs.Reading.{control_of, outcome_in, OutcomeBelow, result_of, ControlBelow};
+ghost use Rattle.eo_eval.specs.Ready.{Goes, Ready, Given, Concludes, Proceeds, Begins, HasNoValues, outcome_from, outcome_of_frame};
+ghost use Rattle.eo_stack.specs.declared.stack.Control.TheVariants as next;
 ghost use Rattle.eo_stack.specs.declared.stack.Frame.TheVariants as frame;
 
 use crate::machine::Machine;
 use eo_sig::Signature;
-use eo_stack::{Frame, Now, Outcome};
+use eo_stack::{Control, Frame, Outcome};
 use eo_term::{FALSE, Id, Node, OpCode, TRUE, Table};
 use eo_type::{Types, is_constant};
 use std::alloc::AllocError;
@@ -31,14 +30,12 @@ impl Machine {
         sig: &Signature,
         table: &mut Table,
         types: &mut Types,
-        now: &Now,
-    ) -> Result<Now, AllocError>
+        now: &Control,
+    ) -> Result<Control, AllocError>
         requires result { IsResult now.now }
         requires ready { Ready sig.now table.old types.old self.old now.now }
-        ensures told { IfOk result (λ n. told_in sig.now table.new self.new n ≡ told_in sig.now table.old self.old now.now) }
-        ensures ready { IfOk result (λ n. Ready sig.now table.new types.new self.new n) }
-        ensures fits { StillFit sig.now table.new types.old types.new }
-        ensures grows { GrowsUnder sig.now table.old table.new }
+        ensures goes { IfOk result (Goes sig.now table.new types.new self.new (outcome_from sig.now table.old self.old now.now)) }
+        ensures extends { Extends sig.now table.old types.old table.new types.new }
     {
         match self.stack.pop() {
             None => Ok(*now),
@@ -53,14 +50,12 @@ impl Machine {
         table: &mut Table,
         types: &mut Types,
         frame: &Frame,
-        now: &Now,
-    ) -> Result<Now, AllocError>
-        requires result { IsResult now.now }
-        requires ready { PoppedReady sig.now table.old types.old self.old frame.now now.now }
-        ensures told { IfOk result (λ n. told_in sig.now table.new self.new n ≡ told_popped sig.now table.old self.old frame.now now.now) }
-        ensures ready { IfOk result (λ n. Ready sig.now table.new types.new self.new n) }
-        ensures fits { StillFit sig.now table.new types.old types.new }
-        ensures grows { GrowsUnder sig.now table.old table.new }
+        now: &Control,
+    ) -> Result<Control, AllocError>
+        requires given { Given sig.now table.old types.old self.old frame.now now.now }
+        ensures goes { IfOk result (Goes sig.now table.new types.new self.new
+            (outcome_of_frame sig.now table.old self.old frame.now now.now)) }
+        ensures extends { Extends sig.now table.old types.old table.new types.new }
     {
         match *frame {
             Frame::Parts {
@@ -70,9 +65,9 @@ impl Machine {
                 left,
             } => self.give_parts(sig, table, types, id, base, deepest, left, now),
             Frame::Choice { id, left } => self.choose(sig, table, types, id, left, now),
-            Frame::Left { id, left } => self.compare(sig, table, types, id, left, now),
-            Frame::Require { id, left } => self.require(sig, table, types, id, left, now),
-            Frame::Required {
+            Frame::EqLeft { id, left } => self.compare(sig, table, types, id, left, now),
+            Frame::RequireLeft { id, left } => self.require(sig, table, types, id, left, now),
+            Frame::RequireRight {
                 id,
                 first,
                 deepest,
@@ -82,16 +77,23 @@ impl Machine {
                 let outcome = truth_of(table, now.is_value());
                 self.conclude(sig, table, types, frame, now, outcome)
             }
-            Frame::Right { first, .. } => {
+            Frame::EqRight { first, .. } => {
                 let outcome = truth_of(table, is_given(table, now, first));
                 self.conclude(sig, table, types, frame, now, outcome)
             }
-            Frame::Unequal { .. } => {
+            Frame::EqStuck { .. } => {
                 let outcome = truth_of(table, false);
                 self.conclude(sig, table, types, frame, now, outcome)
             }
-            Frame::Missed { .. } => self.conclude(sig, table, types, frame, now, Outcome::Stuck),
-            Frame::Handed { .. } => self.conclude(sig, table, types, frame, now, given(now)),
+            Frame::RequireStuck { .. } => self.conclude(
+                sig,
+                table,
+                types,
+                frame,
+                now,
+                Outcome::Stuck,
+            ),
+            Frame::Tail { .. } => self.conclude(sig, table, types, frame, now, given_outcome(now)),
             Frame::Body {
                 place,
                 body,
@@ -112,18 +114,15 @@ impl Machine {
         base: usize,
         before: u32,
         left: u32,
-        now: &Now,
-    ) -> Result<Now, AllocError>
-        requires result { IsResult now.now }
-        requires ready { PoppedReady sig.now table.old types.old self.old (frame.Parts id base before left) now.now }
-        ensures told { IfOk result (λ n. told_in sig.now table.new self.new n
-            ≡ told_popped sig.now table.old self.old (frame.Parts id base before left) now.now) }
-        ensures ready { IfOk result (λ n. Ready sig.now table.new types.new self.new n) }
-        ensures fits { StillFit sig.now table.new types.old types.new }
-        ensures grows { GrowsUnder sig.now table.old table.new }
+        now: &Control,
+    ) -> Result<Control, AllocError>
+        requires given { Given sig.now table.old types.old self.old (frame.Parts id base before left) now.now }
+        ensures goes { IfOk result (Goes sig.now table.new types.new self.new
+            (outcome_of_frame sig.now table.old self.old (frame.Parts id base before left) now.now)) }
+        ensures extends { Extends sig.now table.old types.old table.new types.new }
     {
         match *now {
-            Now::Value { id: value, deepest } => {
+            Control::Value { id: value, deepest } => {
                 self.stack.collect(value)?;
                 self.gather(sig, table, types, id, base, before.max(deepest), left)
             }
@@ -147,14 +146,12 @@ impl Machine {
         types: &Types,
         id: Id,
         left: u32,
-        now: &Now,
-    ) -> Result<Now, AllocError>
-        requires result { IsResult now.now }
+        now: &Control,
+    ) -> Result<Control, AllocError>
         requires more { HasMore table.now.trees id 2 }
-        requires ready { PoppedReady sig.now table.now types.now self.old (frame.Choice id left) now.now }
-        ensures told { IfOk result (λ n. told_in sig.now table.now self.new n
-            ≡ told_popped sig.now table.now self.old (frame.Choice id left) now.now) }
-        ensures ready { IfOk result (λ n. Ready sig.now table.now types.now self.new n) }
+        requires given { Given sig.now table.now types.now self.old (frame.Choice id left) now.now }
+        ensures { IfOk result (Goes sig.now table.now types.now self.new
+            (outcome_of_frame sig.now table.now self.old (frame.Choice id left) now.now)) }
     {
         let frame = Frame::Choice { id, left };
         let deepest = now.deepest();
@@ -167,7 +164,7 @@ impl Machine {
                     types,
                     &frame,
                     now,
-                    Frame::Handed { id, deepest },
+                    Frame::Tail { id, deepest },
                     part,
                     left,
                 )
@@ -180,7 +177,7 @@ impl Machine {
                     types,
                     &frame,
                     now,
-                    Frame::Handed { id, deepest },
+                    Frame::Tail { id, deepest },
                     part,
                     left,
                 )
@@ -197,16 +194,14 @@ impl Machine {
         types: &Types,
         id: Id,
         left: u32,
-        now: &Now,
-    ) -> Result<Now, AllocError>
-        requires result { IsResult now.now }
+        now: &Control,
+    ) -> Result<Control, AllocError>
         requires more { HasMore table.now.trees id 1 }
-        requires ready { PoppedReady sig.now table.now types.now self.old (frame.Left id left) now.now }
-        ensures told { IfOk result (λ n. told_in sig.now table.now self.new n
-            ≡ told_popped sig.now table.now self.old (frame.Left id left) now.now) }
-        ensures ready { IfOk result (λ n. Ready sig.now table.now types.now self.new n) }
+        requires given { Given sig.now table.now types.now self.old (frame.EqLeft id left) now.now }
+        ensures { IfOk result (Goes sig.now table.now types.now self.new
+            (outcome_of_frame sig.now table.now self.old (frame.EqLeft id left) now.now)) }
     {
-        let frame = Frame::Left { id, left };
+        let frame = Frame::EqLeft { id, left };
         let deepest = now.deepest();
         let part = table.arg(id, 1);
         match now.value() {
@@ -216,7 +211,7 @@ impl Machine {
                 types,
                 &frame,
                 now,
-                Frame::Right { id, first, deepest },
+                Frame::EqRight { id, first, deepest },
                 part,
                 left,
             ),
@@ -226,7 +221,7 @@ impl Machine {
                 types,
                 &frame,
                 now,
-                Frame::Unequal { id, deepest },
+                Frame::EqStuck { id, deepest },
                 part,
                 left,
             ),
@@ -241,16 +236,14 @@ impl Machine {
         types: &Types,
         id: Id,
         left: u32,
-        now: &Now,
-    ) -> Result<Now, AllocError>
-        requires result { IsResult now.now }
+        now: &Control,
+    ) -> Result<Control, AllocError>
         requires more { HasMore table.now.trees id 2 }
-        requires ready { PoppedReady sig.now table.now types.now self.old (frame.Require id left) now.now }
-        ensures told { IfOk result (λ n. told_in sig.now table.now self.new n
-            ≡ told_popped sig.now table.now self.old (frame.Require id left) now.now) }
-        ensures ready { IfOk result (λ n. Ready sig.now table.now types.now self.new n) }
+        requires given { Given sig.now table.now types.now self.old (frame.RequireLeft id left) now.now }
+        ensures { IfOk result (Goes sig.now table.now types.now self.new
+            (outcome_of_frame sig.now table.now self.old (frame.RequireLeft id left) now.now)) }
     {
-        let frame = Frame::Require { id, left };
+        let frame = Frame::RequireLeft { id, left };
         let deepest = now.deepest();
         let part = table.arg(id, 1);
         match now.value() {
@@ -260,7 +253,7 @@ impl Machine {
                 types,
                 &frame,
                 now,
-                Frame::Required {
+                Frame::RequireRight {
                     id,
                     first,
                     deepest,
@@ -275,7 +268,7 @@ impl Machine {
                 types,
                 &frame,
                 now,
-                Frame::Missed { id, deepest },
+                Frame::RequireStuck { id, deepest },
                 part,
                 left,
             ),
@@ -292,17 +285,15 @@ impl Machine {
         first: Id,
         before: u32,
         left: u32,
-        now: &Now,
-    ) -> Result<Now, AllocError>
-        requires result { IsResult now.now }
+        now: &Control,
+    ) -> Result<Control, AllocError>
         requires more { HasMore table.now.trees id 2 }
         requires first { first < length table.now.trees }
-        requires ready { PoppedReady sig.now table.now types.now self.old (frame.Required id first before left) now.now }
-        ensures told { IfOk result (λ n. told_in sig.now table.now self.new n
-            ≡ told_popped sig.now table.now self.old (frame.Required id first before left) now.now) }
-        ensures ready { IfOk result (λ n. Ready sig.now table.now types.now self.new n) }
+        requires given { Given sig.now table.now types.now self.old (frame.RequireRight id first before left) now.now }
+        ensures { IfOk result (Goes sig.now table.now types.now self.new
+            (outcome_of_frame sig.now table.now self.old (frame.RequireRight id first before left) now.now)) }
     {
-        let frame = Frame::Required {
+        let frame = Frame::RequireRight {
             id,
             first,
             deepest: before,
@@ -319,7 +310,7 @@ impl Machine {
             types,
             &frame,
             now,
-            Frame::Handed { id, deepest },
+            Frame::Tail { id, deepest },
             part,
             left,
         )
@@ -336,20 +327,18 @@ impl Machine {
         base: usize,
         here: usize,
         kept: usize,
-        now: &Now,
-    ) -> Result<Now, AllocError>
-        requires result { IsResult now.now }
+        now: &Control,
+    ) -> Result<Control, AllocError>
         requires place { place < length self.old.calls.entries }
-        requires ready { PoppedReady sig.now table.now types.now self.old (frame.Body place body base here kept) now.now }
-        ensures told { IfOk result (λ n. told_in sig.now table.now self.new n
-            ≡ told_popped sig.now table.now self.old (frame.Body place body base here kept) now.now) }
-        ensures ready { IfOk result (λ n. Ready sig.now table.now types.now self.new n) }
+        requires given { Given sig.now table.now types.now self.old (frame.Body place body base here kept) now.now }
+        ensures { IfOk result (Goes sig.now table.now types.now self.new
+            (outcome_of_frame sig.now table.now self.old (frame.Body place body base here kept) now.now)) }
     {
         // No stack holds so many calls that this count ends.
         let Some(deepest) = now.deepest().checked_add(1) else {
             return Err(AllocError);
         };
-        self.finish_call(place, now.known(deepest));
+        self.finish_call(place, now.memo(deepest));
         self.close(base, here, kept);
         Ok(now.deeper(deepest))
     }
@@ -361,20 +350,18 @@ impl Machine {
         table: &Table,
         types: &Types,
         frame: &Frame,
-        now: &Now,
+        now: &Control,
         outcome: Outcome,
-    ) -> Result<Now, AllocError>
+    ) -> Result<Control, AllocError>
         requires node { IsNode frame.now }
-        requires result { IsResult now.now }
-        requires ready { PoppedReady sig.now table.now types.now self.old frame.now now.now }
+        requires given { Given sig.now table.now types.now self.old frame.now now.now }
         requires concludes { Concludes sig.now table.now self.old frame.now now.now outcome }
-        ensures told { IfOk result (λ n. told_in sig.now table.now self.new n ≡ told_popped sig.now table.now self.old frame.now now.now) }
-        ensures ready { IfOk result (λ n. Ready sig.now table.now types.now self.new n) }
+        ensures { IfOk result (Goes sig.now table.now types.now self.new (outcome_of_frame sig.now table.now self.old frame.now now.now)) }
     {
         self.stack.leave(frame);
         let deepest = frame.deepest().max(now.deepest());
         self.keep(table, frame.node(), &outcome, deepest)?;
-        Ok(ended(&outcome, deepest))
+        Ok(control_after(&outcome, deepest))
     }
 
     // A node that waited for a result goes on to wait for another term.
@@ -384,22 +371,20 @@ impl Machine {
         table: &Table,
         types: &Types,
         frame: &Frame,
-        now: &Now,
+        now: &Control,
         other: Frame,
         part: Id,
         left: u32,
-    ) -> Result<Now, AllocError>
+    ) -> Result<Control, AllocError>
         requires before { HasNoValues frame.now }
         requires after { HasNoValues other }
-        requires result { IsResult now.now }
-        requires ready { PoppedReady sig.now table.now types.now self.old frame.now now.now }
+        requires given { Given sig.now table.now types.now self.old frame.now now.now }
         requires proceeds { Proceeds (signature table.now.trees sig.now) calls_limit table.now.trees self.old.scope frame.now
             now.now other part left }
-        ensures told { IfOk result (λ n. told_in sig.now table.now self.new n ≡ told_popped sig.now table.now self.old frame.now now.now) }
-        ensures ready { IfOk result (λ n. Ready sig.now table.now types.now self.new n) }
+        ensures { IfOk result (Goes sig.now table.now types.now self.new (outcome_of_frame sig.now table.now self.old frame.now now.now)) }
     {
         self.stack.wait(other)?;
-        Ok(Now::Enter { id: part, left })
+        Ok(Control::Eval { id: part, left })
     }
 
     // A term begins to wait for another one.
@@ -412,37 +397,36 @@ impl Machine {
         frame: Frame,
         part: Id,
         left: u32,
-    ) -> Result<Now, AllocError>
+    ) -> Result<Control, AllocError>
         requires frame { HasNoValues frame }
-        requires ready { Ready sig.now table.now types.now self.old (next.Enter id left) }
+        requires ready { Ready sig.now table.now types.now self.old (next.Eval id left) }
         requires begins { Begins (signature table.now.trees sig.now) calls_limit table.now.trees self.old.scope id left
             frame part }
-        ensures told { IfOk result (λ n. told_in sig.now table.now self.new n ≡ told_in sig.now table.now self.old (next.Enter id left)) }
-        ensures ready { IfOk result (λ n. Ready sig.now table.now types.now self.new n) }
+        ensures { IfOk result (Goes sig.now table.now types.now self.new (outcome_from sig.now table.now self.old (next.Eval id left))) }
     {
         self.stack.wait(frame)?;
-        Ok(Now::Enter { id: part, left })
+        Ok(Control::Eval { id: part, left })
     }
 }
 
 // What is done next after a node has ended so.
-pub(crate) fn ended(outcome: &Outcome, deepest: u32) -> Now
-    ensures { result ≡ now_of outcome.now deepest }
+pub(crate) fn control_after(outcome: &Outcome, deepest: u32) -> Control
+    ensures { result ≡ control_of outcome.now deepest }
 {
     match *outcome {
-        Outcome::Value(id) => Now::Value { id, deepest },
-        Outcome::Stuck => Now::Stuck { deepest },
-        Outcome::Deep => Now::Deep,
-        Outcome::Calls => Now::Calls,
-        Outcome::Range => Now::Range,
-        Outcome::Tall => Now::Tall,
+        Outcome::Value(id) => Control::Value { id, deepest },
+        Outcome::Stuck => Control::Stuck { deepest },
+        Outcome::Deep => Control::Deep,
+        Outcome::Calls => Control::Calls,
+        Outcome::Range => Control::Range,
+        Outcome::Tall => Control::Tall,
     }
 }
 
 // The outcome of a node that has the value of another term, or none as that.
-fn given(now: &Now) -> Outcome
+fn given_outcome(now: &Control) -> Outcome
     ensures outcome { (ts : List Tree) → outcome_in ts result ≡ result_of ts now.now }
-    ensures live { (n : ℕ) → NowBelow n now.now → OutcomeBelow n result }
+    ensures live { (n : ℕ) → ControlBelow n now.now → OutcomeBelow n result }
 {
     match now.value() {
         Some(id) => Outcome::Value(id),
@@ -460,8 +444,8 @@ fn truth_of(table: &Table, holds: bool) -> Outcome
 }
 
 // The truth value that is given, if one is.
-fn truth_given(table: &Table, now: &Now) -> Option<bool>
-    requires { NowBelow (length table.now.trees) now.now }
+fn truth_given(table: &Table, now: &Control) -> Option<bool>
+    requires { ControlBelow (length table.now.trees) now.now }
     ensures some { IfSome result (λ b. result_of table.now.trees now.now ≡ Value (truth b)) }
     ensures none { IfNone result (IsNoTruth (result_of table.now.trees now.now)) }
 {
@@ -478,8 +462,8 @@ fn truth_given(table: &Table, now: &Now) -> Option<bool>
 }
 
 // Whether the term is what is given.
-fn is_given(table: &Table, now: &Now, id: Id) -> bool
-    requires given { NowBelow (length table.now.trees) now.now }
+fn is_given(table: &Table, now: &Control, id: Id) -> bool
+    requires given { ControlBelow (length table.now.trees) now.now }
     requires live { id < length table.now.trees }
     ensures { result ≡ are_equal (Some (tree_at table.now.trees id)) (given_in table.now.trees now.now) }
 {

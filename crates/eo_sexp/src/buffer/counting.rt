@@ -5,7 +5,7 @@ ghost use Rattle.eo_sexp.specs.declared.buffer.Open.{Open};
 
 use super::Open;
 
-/// Counts a child more of the innermost list.
+/// Counts one more child of the innermost list.
 pub(super) fn count_child(lists: &mut Vec<Open>, nodes: usize)
     requires few { nodes < 2 ^ 32 }
     requires counted { (o : Open) (os : List Open) → reverse lists.old.items ≡ o ∷ os → o.children < nodes }

@@ -16,14 +16,15 @@ impl Signature {
     /// Checks a declaration, whose terms are terms of the table, as the call that adds one of its
     /// kind does. Nothing is added, and a name is not looked up.
     ///
-    /// `BadPattern`, `UnboundParam` and `Redeclared` come exactly where [`Signature::declare`],
-    /// [`Signature::add_program`], [`Signature::add_rule`] and [`Signature::set_literal_type`] say.
+    /// `BadPattern` and `UnboundParam` come exactly where [`Signature::declare`],
+    /// [`Signature::add_program`], [`Signature::add_rule`] and [`Signature::set_literal_type`] say,
+    /// and `Redeclared` exactly where the last of these does.
     pub fn check(&self, table: &Table, d: &Declared) -> Result<(), SigRefused>
         requires live { EntryBelow (length table.now.trees) d.now }
         ensures tells { Tells result (entry_fault (signature table.now.trees self.now) (read_entry table.now.trees d.now)) }
     {
         match d {
-            Declared::Const(d) => check_constant(table, d),
+            Declared::Const(d, _) => check_constant(table, d),
             Declared::Program(d) => check_program(table, d),
             Declared::Rule(d) => self.check_rule(table, d),
             Declared::Literal { class, ty } => self.check_literals(table, *class, *ty),
@@ -31,8 +32,9 @@ impl Signature {
     }
 
     /// Adds a declaration in which [`Signature::check`] finds no fault over the table, and whose
-    /// name is free: a rule's among rules. The type of each parameter of a rule uses earlier
-    /// parameters only. `Err` is out of memory, and nothing is added.
+    /// name is free: a rule's among rules, and a constant's for the numbers of arguments that it
+    /// takes. The type of each parameter of a rule uses earlier parameters only. `Err` is out of
+    /// memory, and nothing is added.
     pub fn add(&mut self, table: &Table, d: Declared) -> Result<(), AllocError>
         requires free { EntryIsFree self.old d }
         requires sound { EntryIsSound table.now.trees self.old d }
@@ -53,7 +55,7 @@ impl Signature {
         ensures err { OnErr result (self.new ≡ self.old) }
     {
         match d {
-            Declared::Const(d) => self.keep_constant(d),
+            Declared::Const(d, counts) => self.keep_constant(d, counts),
             Declared::Program(d) => self.keep_program(d),
             Declared::Rule(d) => self.keep_rule(d),
             Declared::Literal { class, ty } => self.keep_literal(class, ty),

@@ -4,10 +4,12 @@ ghost use Rattle.eo_term.specs.Tree.{Tree};
 ghost use Rattle.eo_term.specs.Terms.{tree_at};
 ghost use Rattle.eo_sig.specs.Signature as sig;
 ghost use Rattle.eo_sig.specs.declared.records.Declared.TheVariants as declared;
-ghost use Rattle.eo_sig.specs.Reading.{signature, read_parameter, read_constant, read_macro, read_program, read_rule, read_premises};
+ghost use Rattle.eo_sig.specs.Adding.{EntryIsFree};
+ghost use Rattle.eo_sig.specs.Reading.{signature, macros, counts_in, read_parameter, read_constant, read_macro, read_program};
+ghost use Rattle.eo_sig.specs.Reading.{read_rule, read_premises};
 ghost use Rattle.eo_sig.specs.Reading.{IsBelow, ConstBelow, MacroBelow, ProgramBelow, RuleBelow};
 ghost use Rattle.eo_sig.specs.Reading.{with_entry, with_macro, Enters, IsFree, IsFreeRule, Adds, AddsAt, AddsMacro};
-ghost use Rattle.eo_sig.specs.Refused.{Tells};
+ghost use Rattle.eo_sig.specs.Refused.{Tells, IsFaultOnly};
 ghost use Rattle.eo_sig.specs.Usable.{AreOrdered, StaysUsable};
 
 use super::Signature;
@@ -16,36 +18,54 @@ use crate::types::{ends_at_right, implicit_occur, may_type};
 use crate::{
     ConstDecl, Declared, LiteralClass, MacroDecl, PremiseShape, ProgramDecl, RuleDecl, SigRefused,
 };
-use eo_base::both;
+use eo_base::ok_with;
 use eo_term::{Id, Table};
 
 impl Signature {
-    /// Declares a constant, whose name is to be free and whose terms are terms of the table, and
-    /// answers its number.
+    /// Declares a constant, whose terms are terms of the table, and returns its number. It takes the
+    /// numbers of arguments that [`ConstDecl::counts`] gives.
     ///
     /// `BadPattern` comes exactly where its type or a parameter's type holds an operator that no
     /// declared type may hold, or its terminator is no value. Else `UnboundParam` comes exactly
-    /// where an implicit parameter occurs in no type of an argument outside every operator.
-    /// `Memory`: out of memory.
+    /// where an implicit parameter occurs in no type of an argument outside every operator. Else
+    /// `Redeclared` comes exactly where [`Signature::is_free_for`] is false. `Memory`: out of memory.
     pub fn declare(&mut self, table: &Table, d: ConstDecl) -> Result<usize, SigRefused>
-        requires free { IsFree self.old d.name }
         requires live { ConstBelow (length table.now.trees) d }
-        ensures tells { Tells result (sig.constant_fault (read_constant table.now.trees d)) }
-        ensures kept { OnOk result (self.new ≡ with_entry (declared.Const d) self.old) }
-        ensures adds { IfOk result (AddsAt sig.constants self.old (λ ts. sig.IsConstant (read_constant ts d)) self.new) }
+        ensures tells { Tells result (sig.declare_fault (signature table.now.trees self.old) (macros table.now.trees self.old)
+            (read_constant table.now.trees d)) }
+        ensures kept { OnOk result (self.new ≡ with_entry (declared.Const d (counts_in table.now.trees d)) self.old) }
+        ensures adds { IfOk result (AddsAt sig.constants self.old
+            (λ ts. sig.IsConstant (read_constant ts d) (sig.counts_of (read_constant table.now.trees d))) self.new) }
         ensures usable { OnOk result (StaysUsable table.now.trees self.old self.new) }
         ensures below { OnOk result ((m : ℕ) → IsBelow m self.old → ConstBelow m d → IsBelow m self.new) }
         ensures err { OnErr result (self.new ≡ self.old) }
     {
-        let ((), d) = both(check_constant(table, &d), d)?;
+        let ((), d) = ok_with(self.check_new(table, &d), d)?;
         let number = self.constants();
-        match self.add(table, Declared::Const(d)) {
+        let counts = d.counts(table);
+        match self.add(table, Declared::Const(d, counts)) {
             Ok(()) => Ok(number),
             Err(e) => Err(SigRefused::Memory(e)),
         }
     }
 
-    /// Defines a macro, whose name is to be free, and answers its number. `Memory`, which is want
+    /// Refuses a constant exactly where [`Signature::declare`] does, but for lack of memory. Its
+    /// terms are terms of the table. Nothing is added.
+    pub fn check_new(&self, table: &Table, d: &ConstDecl) -> Result<(), SigRefused>
+        requires { ConstBelow (length table.now.trees) d.now }
+        ensures tells { Tells result (sig.declare_fault (signature table.now.trees self.now) (macros table.now.trees self.now)
+            (read_constant table.now.trees d.now)) }
+        ensures sound { OnOk result (sig.constant_fault (read_constant table.now.trees d.now) ≡ None) }
+        ensures free { OnOk result (EntryIsFree self.now (declared.Const d.now (counts_in table.now.trees d.now))) }
+    {
+        check_constant(table, d)?;
+        if !self.is_free_for(table, d) {
+            return Err(SigRefused::Redeclared);
+        }
+        Ok(())
+    }
+
+    /// Defines a macro, whose name is to be free, and returns its number. `Memory`, which is out
     /// of memory, is the only refusal.
     pub fn define(&mut self, d: MacroDecl) -> Result<usize, SigRefused>
         requires free { IsFree self.old d.name }
@@ -63,7 +83,7 @@ impl Signature {
     }
 
     /// Adds a program, whose name is to be free, whose terms are terms of the table, and which has
-    /// at most 64 arguments, and answers its number.
+    /// at most 64 arguments, and returns its number.
     ///
     /// `BadPattern` comes exactly where a pattern of a case holds an operator. Else `UnboundParam`
     /// comes exactly where the body of a case uses a parameter that does not occur in the case's
@@ -78,7 +98,7 @@ impl Signature {
         ensures below { OnOk result ((m : ℕ) → IsBelow m self.old → ProgramBelow m d → IsBelow m self.new) }
         ensures err { OnErr result (self.new ≡ self.old) }
     {
-        let ((), d) = both(check_program(table, &d), d)?;
+        let ((), d) = ok_with(check_program(table, &d), d)?;
         let number = self.programs();
         match self.add(table, Declared::Program(d)) {
             Ok(()) => Ok(number),
@@ -87,13 +107,13 @@ impl Signature {
     }
 
     /// Adds a rule, whose name is to be free among rules, whose terms are terms of the table, and of
-    /// which the type of each parameter uses earlier parameters only, and answers its number.
+    /// which the type of each parameter uses earlier parameters only, and returns its number.
     ///
     /// `BadPattern` comes exactly where a pattern holds an operator, a parameter's type holds an
     /// operator that no declared type may hold, or premises are joined by a constant that has no
     /// terminator at the right. Else `UnboundParam` comes exactly where a requirement or the
     /// conclusion uses a parameter that gets no value: one that occurs in no pattern, and not
-    /// outside every operator in the type of a later parameter that gets one. `Memory` is want of
+    /// outside every operator in the type of a later parameter that gets one. `Memory` is out of
     /// memory.
     pub fn add_rule(&mut self, table: &Table, d: RuleDecl) -> Result<usize, SigRefused>
         requires free { IsFreeRule self.old d.name }
@@ -105,7 +125,7 @@ impl Signature {
         ensures usable { OnOk result ((ts : List Tree) → AreOrdered ts d.params → StaysUsable ts self.old self.new) }
         ensures below { OnOk result ((m : ℕ) → IsBelow m self.old → RuleBelow m d → IsBelow m self.new) }
     {
-        let ((), d) = both(self.check_rule(table, &d), d)?;
+        let ((), d) = ok_with(self.check_rule(table, &d), d)?;
         let number = self.rules();
         match self.add(table, Declared::Rule(d)) {
             Ok(()) => Ok(number),
@@ -113,11 +133,11 @@ impl Signature {
         }
     }
 
-    /// Gives a class of literals its type, a term of the table in which parameter 0 stands for
-    /// the literal.
+    /// Gives a class of literals its type, a term of the table in which parameter 0 is the
+    /// literal.
     ///
     /// `Redeclared` comes exactly where the class has a type. Else `BadPattern` comes exactly
-    /// where the type holds an operator that no declared type may hold. `Memory` is want of
+    /// where the type holds an operator that no declared type may hold. `Memory` is out of
     /// memory.
     pub fn set_literal_type(
         &mut self,
@@ -198,7 +218,8 @@ impl Signature {
 /// Refuses a constant that may not be declared, whatever its name.
 pub(super) fn check_constant(table: &Table, d: &ConstDecl) -> Result<(), SigRefused>
     requires { ConstBelow (length table.now.trees) d.now }
-    ensures { Tells result (sig.constant_fault (read_constant table.now.trees d.now)) }
+    ensures tells { Tells result (sig.constant_fault (read_constant table.now.trees d.now)) }
+    ensures fault { IsFaultOnly result }
 {
     if !d.may_hold(table) {
         return Err(SigRefused::BadPattern);

@@ -19,8 +19,8 @@ impl Signature {
         ensures below { (m : ℕ) → IsBelow m self.now → ConstBelow m result.now }
         ensures live { (m : ℕ) → IsBelow m self.now → result.now.ty < m }
     {
-        let (_, place) = self.constants.get_index(n).unwrap();
-        self.entries[*place].as_constant().unwrap()
+        let place = self.constants[n];
+        self.entries[place].as_constant().unwrap()
     }
 
     /// The program with this number.
@@ -56,8 +56,8 @@ impl Signature {
         d
     }
 
-    /// The type of a class of literals, in which parameter 0 stands for the literal; none, where
-    /// it is not set.
+    /// The type of a class of literals, in which parameter 0 is the literal; none, where it is
+    /// not set.
     pub fn literal_type(&self, class: LiteralClass) -> Option<Id>
         ensures value { (ts : List Tree) → option_map (tree_at ts) result ≡ sig.literal_type (signature ts self.now) class }
         ensures live { (m : ℕ) → IsBelow m self.now → IfSome result (λ i. i < m) }

@@ -9,7 +9,7 @@ use crate::{BOOL, FALSE, Id, Node, OpCode, TRUE, TYPE};
 use std::alloc::AllocError;
 
 impl Table {
-    /// The term with this root, as [`Table::intern`] has it, where it is not too tall. `Err` is want
+    /// The term with this root, as [`Table::intern`] has it, where it is not too tall. `Err` is out
     /// of memory, and the table stays as it is.
     #[inline(always)]
     pub fn intern_low(&mut self, node: Node) -> Result<Id, AllocError>

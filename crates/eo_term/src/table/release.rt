@@ -1,17 +1,17 @@
-//! Giving terms back: a table is cut at a mark, and what is still needed stays.
+//! Freeing terms: a table is cut at a mark, and what is still needed stays.
 ghost use Rattle.std.specs.Prelude.{◌≡◌, ℕ, ◌<◌, ◌≤◌, [], ◌∷◌, length, take, All, IfOk, OnOk, OnErr};
 ghost use Rattle.eo_term.specs.Terms.{tree_at, IsMark};
 ghost use Rattle.eo_term.specs.Carry.{Carried};
 ghost use Rattle.eo_term.specs.Growth.{GoesBack};
 
 use super::Table;
-use crate::carry::{cut_texts, move_ids, planned, put_entries};
+use crate::carry::{cut_texts, move_ids, plan_carry, put_entries};
 use crate::{Id, Mark};
 use std::alloc::AllocError;
 
 impl Table {
     /// Drops the terms and the texts that were made after the mark. Older ones stay as they are: a
-    /// call that is refused gives back what it made, and leaves the table as it was.
+    /// call that is refused frees what it made, and leaves the table as it was.
     pub fn release(&mut self, mark: Mark)
         requires { IsMark self.old mark }
         ensures trees { self.new.trees ≡ take mark.0 self.old.trees }
@@ -51,7 +51,7 @@ impl Table {
         ensures ids_err { OnErr result (ids.new ≡ ids.old) }
     {
         let (start, first) = (mark.terms, mark.texts);
-        let plan = planned(self.alloc, &self.nodes, self.texts.len(), start, first, ids)?;
+        let plan = plan_carry(self.alloc, &self.nodes, self.texts.len(), start, first, ids)?;
         self.nodes.reserve(plan.entries.len())?;
         cut_texts(&mut self.texts, first, plan.texts.as_slice())?;
         self.nodes.cut(start);

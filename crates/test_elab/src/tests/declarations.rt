@@ -32,20 +32,29 @@ const OUTCOMES: &[Outcome<'static>] = &[
     ("(declare-const p zz :right-assoc true)", Answer::BadCommand),
     ("(declare-sort p 65)", Answer::BadCommand),
     ("(declare-consts <decimal> zz)", Answer::BadCommand),
-    // a name that is taken or reserved, before all else
-    ("(declare-const p yy)", Answer::Redeclared),
+    // a reserved name and one that is no constant's, before all else
     ("(declare-const m zz)", Answer::Redeclared),
     ("(declare-const true zz)", Answer::Redeclared),
     ("(declare-const ! zz)", Answer::Redeclared),
     ("(declare-const eo::new zz)", Answer::Redeclared),
-    ("(declare-fun p (zz) Bool)", Answer::Redeclared),
-    ("(declare-sort p 1)", Answer::Redeclared),
+    ("(declare-fun m (zz) Bool)", Answer::Redeclared),
+    ("(declare-sort m 1)", Answer::Redeclared),
     (
-        "(declare-parameterized-const p ((x zz)) Bool)",
+        "(declare-parameterized-const m ((x zz)) Bool)",
         Answer::Redeclared,
     ),
     ("(define p ((x zz)) x)", Answer::Redeclared),
     ("(declare-consts <numeral> zz)", Answer::Redeclared),
+    // the name of a constant, after all else
+    ("(declare-const p yy)", Answer::UnknownSymbol),
+    ("(declare-const p Bool)", Answer::Redeclared),
+    ("(declare-fun p (zz) Bool)", Answer::UnknownSymbol),
+    ("(declare-fun p () Bool)", Answer::Redeclared),
+    ("(declare-sort p 0)", Answer::Redeclared),
+    (
+        "(declare-parameterized-const p ((x zz)) Bool)",
+        Answer::UnknownSymbol,
+    ),
     // the parameters, in order
     ("(define n ((x Bool) (x zz)) yy)", Answer::Redeclared),
     ("(define n ((x zz) (x Bool)) p)", Answer::UnknownSymbol),
@@ -81,7 +90,7 @@ const OUTCOMES: &[Outcome<'static>] = &[
     ("(declare-fun n (Bool) 1.5)", Answer::BadLiteral),
     ("(declare-consts <string> zz)", Answer::UnknownSymbol),
     ("(define n ((x Bool)) (m x))", Answer::BadArity),
-    // types and terminators that may not stand there
+    // types and terminators that are not allowed there
     (
         "(declare-const n (eo::typeof p) :left-assoc-nil zz)",
         Answer::UnknownSymbol,
@@ -112,7 +121,7 @@ const OUTCOMES: &[Outcome<'static>] = &[
     ("(declare-consts <string> Bool)", Answer::Done),
 ];
 
-// The first row that becomes something else than what stands beside it.
+// The first row that becomes something else than what is written beside it.
 fn outcomes(world: &mut World) -> Result<Option<usize>, Fail> {
     first_wrong(world, OUTCOMES, World::declares)
 }
@@ -142,7 +151,7 @@ fn types(world: &mut World) -> Result<Option<usize>, Fail> {
 /// A name, so many parameters, their type, and what becomes of a macro with them.
 type Counted<'a> = (&'a str, usize, &'a str, Answer);
 
-// 64 parameters are the most; they are counted behind the name, and before their types are read.
+// 64 parameters are the most; they are counted after the name, and before their types are read.
 const NUMBERS: &[Counted<'static>] = &[
     ("few", 64, "Bool", Answer::Done),
     ("few", 65, "zz", Answer::Redeclared),

@@ -1,10 +1,10 @@
-//! Programs: what their names stand for, and the order of their checks.
+//! Programs: what their names mean, and the order of their checks.
 use super::all_right;
 use super::texts::{push_parameters, push_times};
 use super::world::{Answer, Outcome, World, first_wrong};
 use std::test::Fail;
 
-// What becomes of names that stand for programs, and of names of programs.
+// What becomes of names that mean programs, and of names of programs.
 const NAMES: &[Outcome<'static>] = &[
     ("(declare-const b (-> Bool Bool Bool))", Answer::Done),
     ("(define m ((x Bool)) (b x x))", Answer::Done),
@@ -80,7 +80,7 @@ fn names(world: &mut World) -> Result<Option<usize>, Fail> {
     first_wrong(world, NAMES, World::declares)
 }
 
-// Each row has the fault that stands beside it, and one that would be told behind it.
+// Each row has the fault that is beside it, and one that would come after it.
 const FAULTS: &[Outcome<'static>] = &[
     (
         "(program $f ((x Bool)) :signature (Bool) Bool ((($f x) x)))",
@@ -206,7 +206,7 @@ fn faults(world: &mut World) -> Result<Option<usize>, Fail> {
 /// of a program with them and without cases.
 type Counted<'a> = (&'a str, usize, &'a str, usize, Answer);
 
-// 64 parameters and 64 inputs are the most; they are counted behind the name, and before a type is
+// 64 parameters and 64 inputs are the most; they are counted after the name, and before a type is
 // read.
 const NUMBERS: &[Counted<'static>] = &[
     ("$few", 64, "Bool", 64, Answer::Done),

@@ -36,7 +36,7 @@ const BIT_STRINGS: &[Reference<'static>] = &[
     ("(_ bv5)", &Refused(Answer::BadArity)),
 ];
 
-// The first bit string that is not what stands beside it.
+// The first bit string that is not what is written beside it.
 fn bit_strings(world: &mut World) -> Result<Option<usize>, Fail> {
     first_wrong(world, BIT_STRINGS, World::refers)
 }
@@ -58,8 +58,8 @@ const ASSERTED: &[Reference<'static>] = &[
     ("(! zz :named 5)", &Refused(Answer::BadCommand)),
 ];
 
-// The first term of an assertion that does not become what stands beside it.
-fn asserted(world: &mut World) -> Result<Option<usize>, Fail> {
+// The first term of an assertion that does not become what is written beside it.
+fn wrong_assertion(world: &mut World) -> Result<Option<usize>, Fail> {
     prepare(world, DECLARED)?;
     first_wrong(world, ASSERTED, World::asserts)
 }
@@ -76,7 +76,7 @@ const OUTSIDE: &[Reference<'static>] = &[
     ("! ", &Refused(Answer::BadArity)),
 ];
 
-// The first term outside of assertions that does not become what stands beside it.
+// The first term outside of assertions that does not become what is written beside it.
 fn outside(world: &mut World) -> Result<Option<usize>, Fail> {
     prepare(world, DECLARED)?;
     first_wrong(world, OUTSIDE, World::refers)
@@ -89,7 +89,7 @@ fn bit_strings_of_a_reference_file(rt: HostRuntime) -> Result<(), Fail> {
 
 #[test]
 fn assertions_name_their_terms(rt: HostRuntime) -> Result<(), Fail> {
-    all_right(&rt, rt.alloc(), asserted)
+    all_right(&rt, rt.alloc(), wrong_assertion)
 }
 
 #[test]

@@ -4,8 +4,8 @@ use super::world::{Answer, Counts, Outcome, Part, World, first_wrong, prepare};
 use super::{all_right, holds};
 use std::test::Fail;
 
-// Each row has the outcome that stands beside it; a fault comes before one that would be told
-// behind it.
+// Each row has the outcome that is beside it; a fault comes before one that would come
+// after it.
 const FAULTS: &[Outcome<'static>] = &[
     (
         "(declare-const and (-> Bool Bool Bool) :right-assoc-nil true)",
@@ -167,7 +167,7 @@ const RULE: &[Outcome<'static>] = &[
     ),
 ];
 
-// Its parts: `xs`, `ys` and `z` stand for the parameters 0, 1 and 2 in what is compared too.
+// Its parts: `xs`, `ys` and `z` are the parameters 0, 1 and 2 in what is compared too.
 const PARTS: &[(&'static str, Part, &'static str)] = &[
     ("r", Part::Assumption, "ys "),
     ("r", Part::Pattern, "(and z true)"),

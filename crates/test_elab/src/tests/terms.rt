@@ -99,7 +99,7 @@ fn folds(world: &mut World) -> Result<Option<usize>, Fail> {
     first_wrong(world, FOLDS, World::agree)
 }
 
-// Folds with parameters that stand for lists.
+// Folds with parameters that represent lists.
 const LISTS: &[Pair<'static>] = &[
     ("(and ys)", "ys "),
     (
@@ -225,16 +225,21 @@ fn faults(world: &mut World) -> Result<Option<usize>, Fail> {
     first_wrong(world, FAULTS, World::answers)
 }
 
-// What is told of `=>` on `p`, so many of a word, and a `q`, with so many `)`.
-fn implied(world: &mut World, count: usize, word: &str, ends: usize) -> Result<Told, Fail> {
+// What is said of `=>` on `p`, so many of a word, and a `q`, with so many `)`.
+fn nest_implications(
+    world: &mut World,
+    count: usize,
+    word: &str,
+    ends: usize,
+) -> Result<Told, Fail> {
     let mut text = String::new(world.alloc());
-    let told = written(world, &mut text, count, word, ends);
+    let told = write_again(world, &mut text, count, word, ends);
     drop(text);
     told
 }
 
 // The same where it is written into a text without bytes.
-fn written(
+fn write_again(
     world: &mut World,
     text: &mut String,
     count: usize,
@@ -255,8 +260,8 @@ fn push_implications(text: &mut String, count: usize, word: &str, ends: usize) -
 // `=>` on 512 `p` and a `q`: with a list for each `p`, or in one list.
 fn nested_as_flat(world: &mut World) -> Result<bool, Fail> {
     prepare(world, SIGNATURE)?;
-    let nested = implied(world, 511, "(=> p", 512)?;
-    let flat = implied(world, 511, "p", 1)?;
+    let nested = nest_implications(world, 511, "(=> p", 512)?;
+    let flat = nest_implications(world, 511, "p", 1)?;
     Ok((nested == flat) & matches!(flat, Told::Means(_)))
 }
 

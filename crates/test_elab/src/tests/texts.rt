@@ -2,7 +2,7 @@
 use std::fmt::Write;
 use std::test::Fail;
 
-/// So many times the word, and a space behind each.
+/// So many times the word, and a space after each.
 pub(super) fn push_times(text: &mut String, count: usize, word: &str) -> Result<(), Fail> {
     for _ in 0..count {
         text.push_str(word)?;

@@ -8,8 +8,8 @@ ghost use Rattle.eo_names.specs.Names.{AreBelow, BindingsBelow};
 ghost use Rattle.eo_names.specs.Ready.{IsReady, Keeps};
 ghost use Rattle.eo_sexp.specs.Collecting.{IsAtCommand, IsLive};
 
-use eo_base::both;
 use eo_base::limits::PARAMETERS;
+use eo_base::ok_with;
 use eo_declare::declaration;
 use eo_elab::{ElabRefused, Locals, Names, reference_term, term};
 use eo_sexp::{Collector, Fed, Sexp};
@@ -65,7 +65,7 @@ pub(super) enum Referred {
     Refused(Answer),
 }
 
-/// What is told of a text.
+/// What is said of a text.
 #[derive(Clone, Copy, PartialEq, Eq)]
 pub(super) enum Told {
     /// It is declared.
@@ -135,7 +135,7 @@ impl World {
     /// Nothing is declared yet.
     pub(super) fn new(alloc: Global) -> Result<World, AllocError> {
         let table = Table::new(alloc)?;
-        let (sig, table) = both(Signature::new(alloc), table)?;
+        let (sig, table) = ok_with(Signature::new(alloc), table)?;
         Ok(World { alloc, table, sig })
     }
 
@@ -146,7 +146,7 @@ impl World {
 
     /// What becomes of a declaration.
     pub(super) fn declare(&mut self, text: &str) -> Result<Answer, Fail> {
-        Ok(answer_of(self.told(Kind::Declaration, text)?))
+        Ok(answer_of(self.outcome_of(Kind::Declaration, text)?))
     }
 
     /// Whether that becomes of a declaration.
@@ -164,49 +164,49 @@ impl World {
     /// Whether a term of a reference file is that outside of assertions.
     pub(super) fn refers(&mut self, row: Reference<'_>) -> Result<bool, Fail> {
         let (text, want) = row;
-        let told = self.told(Kind::Reference { in_assert: false }, text)?;
+        let told = self.outcome_of(Kind::Reference { in_assert: false }, text)?;
         Ok(told == Told::Refers(*want))
     }
 
     /// Whether a term of a reference file is that in an assertion.
     pub(super) fn asserts(&mut self, row: Reference<'_>) -> Result<bool, Fail> {
         let (text, want) = row;
-        let told = self.told(Kind::Reference { in_assert: true }, text)?;
+        let told = self.outcome_of(Kind::Reference { in_assert: true }, text)?;
         Ok(told == Told::Refers(*want))
     }
 
-    /// What is told of a term.
+    /// What is said of a term.
     pub(super) fn term(&mut self, text: &str) -> Result<Told, Fail> {
-        self.told(Kind::Term, text)
+        self.outcome_of(Kind::Term, text)
     }
 
     /// The term that the text means; nothing, where it is refused.
-    pub(super) fn meant(&mut self, text: &str) -> Result<Option<Id>, Fail> {
+    pub(super) fn term_of(&mut self, text: &str) -> Result<Option<Id>, Fail> {
         Ok(id_of(self.term(text)?))
     }
 
     /// Whether both texts have meanings, and the same one.
     pub(super) fn agree(&mut self, texts: Pair<'_>) -> Result<bool, Fail> {
         let (a, b) = texts;
-        let x = self.meant(a)?;
-        let y = self.meant(b)?;
+        let x = self.term_of(a)?;
+        let y = self.term_of(b)?;
         Ok(x.is_some() & (x == y))
     }
 
     /// Whether both texts have meanings, and different ones.
     pub(super) fn differ(&mut self, texts: Pair<'_>) -> Result<bool, Fail> {
         let (a, b) = texts;
-        let x = self.meant(a)?;
-        let y = self.meant(b)?;
+        let x = self.term_of(a)?;
+        let y = self.term_of(b)?;
         Ok(x.is_some() & y.is_some() & (x != y))
     }
 
-    /// Whether the constant of the name has, behind the declaration, the type that the text means.
+    /// Whether the constant of the name has, after the declaration, the type that the text means.
     pub(super) fn has_type(&mut self, row: (&str, &str, &str)) -> Result<bool, Fail> {
         let (text, name, ty) = row;
         self.declare(text)?;
         let x = self.declared_type(name);
-        let y = self.meant(ty)?;
+        let y = self.term_of(ty)?;
         Ok(x.is_some() & (x == y))
     }
 
@@ -221,7 +221,7 @@ impl World {
     pub(super) fn has_part(&mut self, row: (&str, Part, &str)) -> Result<bool, Fail> {
         let (name, part, text) = row;
         let x = self.part(name, part);
-        let y = self.meant(text)?;
+        let y = self.term_of(text)?;
         Ok(x.is_some() & (x == y))
     }
 
@@ -240,8 +240,8 @@ impl World {
         }
     }
 
-    // What is told of a text.
-    fn told(&mut self, kind: Kind, text: &str) -> Result<Told, Fail> {
+    // What is said of a text.
+    fn outcome_of(&mut self, kind: Kind, text: &str) -> Result<Told, Fail> {
         let Some(text) = read(self.alloc, text.as_bytes())? else {
             return Ok(Told::Refused(Answer::Unread));
         };
@@ -254,21 +254,21 @@ impl World {
         match kind {
             Kind::Declaration => self.declare_sexp(s),
             Kind::Term => self.told_of_term(s),
-            Kind::Reference { in_assert } => Told::Refers(self.referred(s, in_assert)),
+            Kind::Reference { in_assert } => Told::Refers(self.refer(s, in_assert)),
         }
     }
 
     fn told_of_term(&mut self, s: &Sexp<'_>) -> Told {
         match self.meaning(s) {
             Ok(id) => Told::Means(id),
-            Err(e) => Told::Refused(refused(&e)),
+            Err(e) => Told::Refused(answer_of_refusal(&e)),
         }
     }
 
-    fn referred(&mut self, s: &Sexp<'_>, in_assert: bool) -> Referred {
+    fn refer(&mut self, s: &Sexp<'_>, in_assert: bool) -> Referred {
         match self.reference_meaning(s, in_assert) {
             Ok(referred) => referred,
-            Err(e) => Referred::Refused(refused(&e)),
+            Err(e) => Referred::Refused(answer_of_refusal(&e)),
         }
     }
 
@@ -306,8 +306,8 @@ impl World {
             return Told::Refused(Answer::Unread);
         }
         match declaration(self.alloc, s, &self.sig, &mut self.table) {
-            Ok(d) => added(add(&mut self.sig, &self.table, d)),
-            Err(e) => Told::Refused(refused(&e)),
+            Ok(d) => outcome_of_answer(add(&mut self.sig, &self.table, d)),
+            Err(e) => Told::Refused(answer_of_refusal(&e)),
         }
     }
 }
@@ -328,7 +328,7 @@ pub(super) fn first_wrong<Row: Copy, F: Fn(&mut World, Row) -> Result<bool, Fail
     Ok(None)
 }
 
-/// Declares what the rows say; each is to become what stands beside it.
+/// Declares what the rows say; each is to become what is written beside it.
 pub(super) fn prepare(world: &mut World, rows: &[Outcome<'_>]) -> Result<(), Fail> {
     match first_wrong(world, rows, World::declares)? {
         None => Ok(()),
@@ -336,7 +336,7 @@ pub(super) fn prepare(world: &mut World, rows: &[Outcome<'_>]) -> Result<(), Fai
     }
 }
 
-// What became of a text of which that is told.
+// The outcome of a text of which that is said.
 fn answer_of(told: Told) -> Answer {
     match told {
         Told::Refused(answer) => answer,
@@ -344,7 +344,7 @@ fn answer_of(told: Told) -> Answer {
     }
 }
 
-// The term that is told.
+// The term that is returned.
 fn id_of(told: Told) -> Option<Id> {
     match told {
         Told::Means(id) => Some(id),
@@ -352,14 +352,14 @@ fn id_of(told: Told) -> Option<Id> {
     }
 }
 
-fn added(answer: Answer) -> Told {
+fn outcome_of_answer(answer: Answer) -> Told {
     match answer {
         Answer::Done => Told::Declared,
         _ => Told::Refused(answer),
     }
 }
 
-// Parameters 0 and 1, `xs` and `ys`, which stand for lists, and parameter 2, `z`.
+// Parameters 0 and 1, `xs` and `ys`, which represent lists, and parameter 2, `z`.
 fn parameters(alloc: Global, table: &mut Table) -> Result<Locals, AllocError>
     ensures below { IfOk result (AreBelow (length table.new.trees)) }
     ensures grows { Grows table.old table.new }
@@ -414,11 +414,11 @@ fn reference_meaning(
     ensures keeps { Keeps sig.now locals.now table.old.trees table.new.trees }
 {
     let id = reference_term(alloc, s, locals, sig, table, in_assert, names)?;
-    Ok(named(table.node(id), names.len()))
+    Ok(bits_or_names(table.node(id), names.len()))
 }
 
 // A bit string, or how many names were given.
-fn named(node: Node, names: usize) -> Referred {
+fn bits_or_names(node: Node, names: usize) -> Referred {
     match node {
         Node::Bits { width, value } => Referred::Bits { width, value },
         _ => Referred::Names(names),
@@ -498,10 +498,6 @@ fn add_constant(sig: &mut Signature, table: &Table, d: ConstDecl) -> Answer
     requires below { ConstBelow (length table.now.trees) d }
     ensures ready { IsBelow (length table.now.trees) sig.new }
 {
-    if !sig.is_free(d.name.as_bytes()) {
-        drop(d);
-        return Answer::Unread;
-    }
     match sig.declare(table, d) {
         Ok(_) => Answer::Done,
         Err(e) => unfit(&e),
@@ -586,7 +582,7 @@ fn unfit(e: &SigRefused) -> Answer {
     }
 }
 
-fn refused(e: &ElabRefused) -> Answer {
+fn answer_of_refusal(e: &ElabRefused) -> Answer {
     match e {
         ElabRefused::BadLiteral => Answer::BadLiteral,
         ElabRefused::BadCommand => Answer::BadCommand,

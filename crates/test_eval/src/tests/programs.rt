@@ -152,7 +152,7 @@ const TALL_BODIES: &[Trial<'static>] = &[
             ("p_1 t p_999997 true", Tall),
         ],
     },
-    // `u` compares its argument with `same` on `true`, below three negations: a tall argument stands
+    // `u` compares its argument with `same` on `true`, below three negations: a tall argument is
     // high in the body, so that this is not too tall. `v` calls `u`.
     Trial {
         name: "perhaps_tall_bodies",

@@ -1,4 +1,4 @@
-//! Programs to be declared, and terms to be evaluated with how that ends. Terms stand as words
+//! Programs to be declared, and terms to be evaluated with how that ends. Terms are written as words
 //! (`words`).
 
 /// A program: its name, how many terms a case has, and its cases, each its patterns and then its

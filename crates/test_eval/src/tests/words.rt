@@ -4,7 +4,7 @@ use super::world::World;
 use eo_term::{Id, Node, OpName, TRUE};
 use std::test::Fail;
 
-/// What a word stands for. The parts of a term follow its word.
+/// What a word means. The parts of a term follow its word.
 #[derive(Clone, Copy)]
 enum Word {
     /// A constant, by its number.
@@ -143,7 +143,7 @@ impl World {
         term
     }
 
-    // The one term of some words, which stands alone among these.
+    // The one term of some words, which is alone among these.
     fn one_term(&mut self, words: &str, terms: &mut Vec<Id>) -> Result<Id, Fail> {
         self.push_terms(words, terms)?;
         match terms.as_slice() {
@@ -152,7 +152,7 @@ impl World {
         }
     }
 
-    /// The terms of some words, before these, of which the first stands last.
+    /// The terms of some words, before these, of which the first is last.
     pub(super) fn push_terms(&mut self, words: &str, behind: &mut Vec<Id>) -> Result<(), Fail> {
         let words: Vec<&str> = words.split(' ').collect(self.alloc())?;
         let pushed = self.push_all(words.as_slice(), behind);
@@ -217,7 +217,7 @@ impl World {
     fn of_one(&mut self, word: &Word, part: Id) -> Result<Id, Fail> {
         match *word {
             Word::Variable(letter) => self.var(letter, part),
-            Word::Repeated(step, times) => self.repeated(&step, part, times),
+            Word::Repeated(step, times) => self.repeat_step(&step, part, times),
             _ => Err(Fail::new("not of one part")),
         }
     }
@@ -245,7 +245,7 @@ impl World {
     }
 
     // What is made of a term, and of that, so many times.
-    fn repeated(&mut self, step: &Step, id: Id, times: usize) -> Result<Id, Fail> {
+    fn repeat_step(&mut self, step: &Step, id: Id, times: usize) -> Result<Id, Fail> {
         let mut id = id;
         for _ in 0..times {
             id = self.once(step, id)?;
@@ -264,7 +264,7 @@ impl World {
     }
 }
 
-// What a word stands for, if it does.
+// What a word means, if anything.
 fn find(words: &[(&str, Word)], word: &str) -> Option<Word> {
     for row in words {
         if row.0 == word {

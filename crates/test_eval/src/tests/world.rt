@@ -9,7 +9,7 @@ ghost use Rattle.eo_sig.specs.Reading.{AttributeBelow, CaseBelow, ConstBelow, Is
 use super::rows::{ProgramRow, Row, Trial, Want};
 use super::words::PROGRAMS;
 use eo_base::limits::PARAMETERS;
-use eo_base::{Name, both};
+use eo_base::{Name, ok_with};
 use eo_eval::{Evaluator, Outcome};
 use eo_sig::{Attribute, Case, Cases, ConstDecl, Params, ProgramDecl, Signature};
 use eo_term::{BOOL, FALSE, Id, Ids, Node, OpCode, OpName, Table, TermRefused, TextId};
@@ -47,7 +47,7 @@ impl World {
     // Nothing is declared yet.
     fn first(alloc: Global) -> Result<World, Fail> {
         let table = Table::new(alloc)?;
-        let (sig, table) = both(Signature::new(alloc), table)?;
+        let (sig, table) = ok_with(Signature::new(alloc), table)?;
         Ok(World { alloc, table, sig })
     }
 
@@ -73,25 +73,25 @@ impl World {
         self.alloc
     }
 
-    /// The term with this root, in which no text stands and which is no operator.
+    /// The term with this root, which has no text in it and is no operator.
     pub(super) fn node(&mut self, node: Node) -> Result<Id, Fail> {
         if !has_parts(&self.table, &node) {
             return Err(Fail::new("no parts of a term"));
         }
-        Ok(made(&self.sig, &mut self.table, node)?)
+        Ok(make_term(&self.sig, &mut self.table, node)?)
     }
 
     /// A string of one character.
     pub(super) fn string(&mut self, letter: u8) -> Result<Id, Fail> {
         let text = text(&self.sig, &mut self.table, letter)?;
-        Ok(made(&self.sig, &mut self.table, Node::Str(text))?)
+        Ok(make_term(&self.sig, &mut self.table, Node::Str(text))?)
     }
 
     /// The variable of this name, which is one character, and this type.
     pub(super) fn var(&mut self, letter: u8, ty: Id) -> Result<Id, Fail> {
         let name = text(&self.sig, &mut self.table, letter)?;
         let ty = live(&self.table, ty)?;
-        Ok(made(&self.sig, &mut self.table, Node::Var { name, ty })?)
+        Ok(make_term(&self.sig, &mut self.table, Node::Var { name, ty })?)
     }
 
     /// An operator of the language on these arguments.
@@ -133,7 +133,7 @@ impl World {
         self.add_program(name.as_bytes(), width, terms.as_slice())
     }
 
-    // The terms of cases, before these, of which the first stands last.
+    // The terms of cases, before these, of which the first is last.
     fn push_cases(&mut self, cases: &[&str], behind: &mut Vec<Id>) -> Result<(), Fail> {
         for case in cases.iter().rev() {
             self.push_terms(case, behind)?;
@@ -168,12 +168,12 @@ impl World {
 
     fn is_right(&mut self, evaluator: &mut Evaluator, row: &Row<'_>) -> Result<bool, Fail> {
         let id = self.term(row.0)?;
-        let want = self.wanted(row.1)?;
+        let want = self.expected_outcome(row.1)?;
         Ok(self.outcome(evaluator, id)? == want)
     }
 
     // How the evaluation is to end, with its value.
-    fn wanted(&mut self, want: Want<'_>) -> Result<Outcome, Fail> {
+    fn expected_outcome(&mut self, want: Want<'_>) -> Result<Outcome, Fail> {
         match want {
             Want::Value(words) => Ok(Outcome::Value(self.term(words)?)),
             Want::Stuck => Ok(Outcome::Stuck),
@@ -194,7 +194,7 @@ impl World {
 }
 
 /// Asserts that each term ends as its row says: else the trial and the place of one that does not are
-/// told.
+/// printed.
 pub(super) fn assert_right(
     rt: &impl Abort,
     alloc: Global,
@@ -246,8 +246,8 @@ fn wrong_alone(alloc: Global, trial: &Trial<'_>) -> Result<Option<usize>, Fail> 
     answer
 }
 
-// It alone owns a world, and lets go of it by a call: each way out of a function that lets go of one
-// by itself is dear to prove.
+// It alone owns a world, and drops it by a call: each way out of a function that lets go of one
+// by itself is expensive to prove.
 fn wrong_in(
     alloc: Global,
     evaluator: &mut Evaluator,
@@ -277,7 +277,7 @@ fn are_live(table: &Table, ids: &[Id]) -> bool
     ids.iter().all(|id| id.place() < count)
 }
 
-// Whether the parts of a node are terms of the table, where no text stands in it and it is no
+// Whether the parts of a node are terms of the table, where it has no text in it and is no
 // operator.
 fn has_parts(table: &Table, node: &Node) -> bool
     ensures plain { IsTrue result → IsPlain node.now }
@@ -303,7 +303,7 @@ fn has(table: &Table, id: Id) -> bool
 }
 
 // The term with this root.
-fn made(sig: &Signature, table: &mut Table, node: Node) -> Result<Id, TermRefused>
+fn make_term(sig: &Signature, table: &mut Table, node: Node) -> Result<Id, TermRefused>
     requires plain { IsPlain node }
     requires parts { PartsBelow (length table.old.trees) node }
     requires texts { TextsBelow (length table.old.texts) node }
@@ -412,7 +412,7 @@ fn program(
 {
     let output = live(table, BOOL)?;
     let cases = cases_of(alloc, table, width, terms)?;
-    let (name, cases) = both(Name::new(alloc, name), cases)?;
+    let (name, cases) = ok_with(Name::new(alloc, name), cases)?;
     Ok(ProgramDecl {
         name,
         params: Params::new(alloc),

@@ -4,7 +4,7 @@ ghost use Rattle.eo_term.specs.Terms.{PartsBelow, TextsBelow, IsPlain, IsProper}
 ghost use Rattle.eo_sig.specs.Reading.{IsBelow, AttributeBelow, ConstBelow};
 ghost use Rattle.eo_lists.specs.Outcomes.{IsListOperator};
 
-use eo_base::{Name, both};
+use eo_base::{Name, ok_with};
 use eo_lists::list_op;
 use eo_sig::{Attribute, ConstDecl, Params, Signature, growth_law};
 use eo_term::{BOOL, FALSE, Id, Ids, Node, OpName, Table, TermRefused};
@@ -57,12 +57,15 @@ impl World {
     // Nothing is declared yet.
     fn first(alloc: Global) -> Result<World, AllocError> {
         let table = first_table(alloc)?;
-        let (sig, table) = both(first_signature(alloc), table)?;
+        let (sig, table) = ok_with(first_signature(alloc), table)?;
         Ok(World { alloc, table, sig })
     }
 
-    // What a function tells, once the four constants are declared.
-    fn told<T, F: FnOnce(&mut World) -> Result<T, Fail>>(&mut self, f: F) -> Result<T, Fail>
+    // What a function returns once the four constants are declared.
+    fn with_constants<T, F: FnOnce(&mut World) -> Result<T, Fail>>(
+        &mut self,
+        f: F,
+    ) -> Result<T, Fail>
         requires { F.IsAlwaysCallable f }
     {
         self.declare_all()?;
@@ -95,9 +98,9 @@ impl World {
         match sample {
             Sample::Con(letter) => self.con(letter),
             Sample::Front(letter) => self.front(b'o', letter),
-            Sample::Or(letters) => self.spelled(b'o', letters.as_bytes()),
-            Sample::Own(letters) => self.spelled(b's', letters.as_bytes()),
-            Sample::Number(value) => Ok(made(&mut self.table, Node::Num(value))?),
+            Sample::Or(letters) => self.spell_letters(b'o', letters.as_bytes()),
+            Sample::Own(letters) => self.spell_letters(b's', letters.as_bytes()),
+            Sample::Number(value) => Ok(make_term(&mut self.table, Node::Num(value))?),
             Sample::Stuck => Err(Fail::new("no term")),
         }
     }
@@ -113,13 +116,13 @@ impl World {
     }
 
     fn con(&mut self, letter: u8) -> Result<Id, Fail> {
-        Ok(made(&mut self.table, Node::Con(number_of(letter)))?)
+        Ok(make_term(&mut self.table, Node::Con(number_of(letter)))?)
     }
 
     fn app(&mut self, fun: Id, arg: Id) -> Result<Id, Fail> {
         let fun = live(&self.table, fun)?;
         let arg = live(&self.table, arg)?;
-        Ok(made(&mut self.table, Node::App { fun, arg })?)
+        Ok(make_term(&mut self.table, Node::App { fun, arg })?)
     }
 
     fn front(&mut self, fun: u8, item: u8) -> Result<Id, Fail> {
@@ -129,7 +132,7 @@ impl World {
     }
 
     // The constant of a letter before each of the letters but the last.
-    fn spelled(&mut self, fun: u8, letters: &[u8]) -> Result<Id, Fail> {
+    fn spell_letters(&mut self, fun: u8, letters: &[u8]) -> Result<Id, Fail> {
         let Some((end, items)) = letters.split_last() else {
             return Err(Fail::new("no letter"));
         };
@@ -141,7 +144,7 @@ impl World {
         Ok(id)
     }
 
-    /// What the operator answers.
+    /// What the operator returns.
     pub(super) fn value(
         &mut self,
         op: OpName,
@@ -163,8 +166,8 @@ impl World {
     }
 }
 
-/// What a function tells of a new world, in which the four constants are declared. It alone owns
-/// one: each way out of a function that does is dear to prove.
+/// What a function returns for a new world, in which the four constants are declared. It alone owns
+/// one: each way out of a function that does is expensive to prove.
 pub(super) fn tell<T, F: FnOnce(&mut World) -> Result<T, Fail>>(
     alloc: Global,
     f: F,
@@ -172,7 +175,7 @@ pub(super) fn tell<T, F: FnOnce(&mut World) -> Result<T, Fail>>(
     requires { F.IsAlwaysCallable f }
 {
     let mut w = World::first(alloc)?;
-    let told = w.told(f);
+    let told = w.with_constants(f);
     drop(w);
     told
 }
@@ -253,7 +256,7 @@ fn is_list_operator(op: OpName) -> bool
 }
 
 // The term with this root.
-fn made(table: &mut Table, node: Node) -> Result<Id, TermRefused>
+fn make_term(table: &mut Table, node: Node) -> Result<Id, TermRefused>
     requires plain { IsPlain node }
     requires parts { PartsBelow (length table.old.trees) node }
     requires texts { TextsBelow (length table.old.texts) node }

@@ -284,8 +284,8 @@ fn a_whole_benchmark(rt: HostRuntime) {
         (
             TEXT,
             b"(declare-sort U 0)(declare-fun f (U) Bool)(declare-fun |a b| () U)\n\
-(define g ((y U)) (not (f y)))(assume @p (g |a b|))(declare-sort U 1)",
-            b"refused F12 Redeclared p.eo:2:118\n",
+(define g ((y U)) (not (f y)))(assume @p (g |a b|))(declare-sort U 0)(declare-const U Bool)",
+            b"refused F12 Redeclared p.eo:2:136\n",
         ),
         (
             TEXT,
@@ -350,7 +350,7 @@ fn the_first_fault_of_a_reference_file(rt: HostRuntime) {
             b"",
             b"refused F16 Stuck r.smt2:1:0\n",
         ),
-        // a name is one behind its command
+        // a name is there after its command
         (
             b"(declare-fun f (Bool Bool) Bool)(assert (f (! true :named h) h))",
             b"",
@@ -389,7 +389,7 @@ fn the_first_fault_of_a_reference_file(rt: HostRuntime) {
             b"(assume @p p)",
             b"refused F41 NoRefutation p.eo:1:13\n",
         ),
-        // an assertion behind `check-sat` counts
+        // an assertion after `check-sat` counts
         (
             b"(check-sat)(assert false)(exit)(assert zz)",
             b"(assume @p false)",
@@ -399,7 +399,7 @@ fn the_first_fault_of_a_reference_file(rt: HostRuntime) {
     assert_none(&rt, wrong_behind_not(rt.alloc(), ROWS));
 }
 
-/// Whether a row's line is printed behind a signature of this text, whole and with reads of 1 and of
+/// Whether a row's line is printed after a signature of this text, whole and with reads of 1 and of
 /// 3 bytes.
 fn is_right_behind<'a>(
     alloc: Global,
@@ -421,12 +421,12 @@ fn is_right_behind_not(alloc: Global, row: Row<'_>) -> Result<bool, AllocError> 
     is_right_behind(alloc, NOT, row)
 }
 
-/// The first row that gives another line behind the suite.
+/// The first row that gives another line after the suite.
 fn wrong(alloc: Global, rows: &[Row<'_>]) -> Option<usize> {
     first_wrong(alloc, rows, is_right)
 }
 
-/// The same behind a signature of one constant.
+/// The same after a signature of one constant.
 fn wrong_behind_not(alloc: Global, rows: &[Row<'_>]) -> Option<usize> {
     first_wrong(alloc, rows, is_right_behind_not)
 }

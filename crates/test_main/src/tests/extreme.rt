@@ -2,7 +2,7 @@
 use super::{assert_none, assert_right};
 use eo_cpc::suite;
 use std::alloc::{AllocError, Global};
-use test_runs::{File, Job, Long, Want, does, first_wrong, joined, long_text};
+use test_runs::{File, Job, Long, Want, does, first_wrong, join_texts, long_text};
 
 /// A file, and the line that is printed.
 type Row<'a> = (Long<'a>, &'a [u8]);
@@ -15,7 +15,7 @@ fn is_right_load(alloc: Global, row: Row<'_>) -> Result<bool, AllocError> {
     does(alloc, &job, 65_536, 0, &Want::Prints(line))
 }
 
-/// Whether the file as a proof gives its line behind the suite, where `p`, `q` and `r` are formulas.
+/// Whether the file as a proof gives its line after the suite, where `p`, `q` and `r` are formulas.
 fn is_right_check(alloc: Global, row: Row<'_>) -> Result<bool, AllocError> {
     let (long, line) = row;
     let text = long_text(alloc, &long)?;
@@ -135,7 +135,7 @@ const TALLEST: &str = "(d5 (d5 (d5 (d5 (d5 (d5 (d5 (d5 (d5 \
 /// Whether a macro of that term, or of its negation, gives this line.
 fn is_right_tall(alloc: Global, begin: &str, end: &str, line: &[u8]) -> Result<bool, AllocError> {
     let first = long_text(alloc, &(NEGATIONS, 1, begin, TALLEST))?;
-    let proof = joined(alloc, first.as_bytes(), end.as_bytes())?;
+    let proof = join_texts(alloc, first.as_bytes(), end.as_bytes())?;
     check_prints(alloc, &proof, line)
 }
 
@@ -157,7 +157,7 @@ fn a_million_negations(rt: HostRuntime) {
 fn is_right_nested(alloc: Global, count: u32, line: &[u8]) -> Result<bool, AllocError> {
     let first = long_text(alloc, &("(define z () ", count, "(not ", "p"))?;
     let end = long_text(alloc, &("", count, ")", ")\n"))?;
-    let proof = joined(alloc, first.as_bytes(), end.as_bytes())?;
+    let proof = join_texts(alloc, first.as_bytes(), end.as_bytes())?;
     check_prints(alloc, &proof, line)
 }
 

@@ -7,7 +7,7 @@ use eo_cpc::suite;
 use std::alloc::{AllocError, Global};
 use test_runs::{CHECK, File, Job, Want, calls, does};
 
-/// How many calls of the library a check behind the suite makes.
+/// How many calls of the library a check after the suite makes.
 fn calls_of_check(alloc: Global) -> Result<Option<u64>, AllocError> {
     let files: [File<'_>; 2] = [
         (b"cpc.eo", suite()),
@@ -32,7 +32,7 @@ fn calls_of_check(alloc: Global) -> Result<Option<u64>, AllocError> {
 
 #[test]
 fn each_call_in_turn_fails_in_a_check(rt: HostRuntime) {
-    assert_calls(&rt, calls_of_check(rt.alloc()), 831);
+    assert_calls(&rt, calls_of_check(rt.alloc()), 841);
 }
 
 #[test]
@@ -66,7 +66,7 @@ fn line_of_cut(alloc: Global, length: usize) -> Result<String, AllocError> {
     }
 }
 
-/// Whether the proof that is cut behind so many bytes gives its line.
+/// Whether the proof that is cut after so many bytes gives its line.
 fn is_right_cut(alloc: Global, length: usize) -> Result<bool, AllocError>
     requires { length ≤ 19 }
 {

@@ -69,7 +69,7 @@ fn proofs_after_the_suite(rt: HostRuntime) {
             Status::Ok,
             VALID,
         ),
-        // a rule that is none of those that keep truth by the truth tables
+        // a rule that is none of those that preserve truth by the truth tables
         (
             CLAUSES,
             b"(assume @p1 (or p q))\n(assume @p2 (not p))\n(assume @p3 (not q))\n\

@@ -2,7 +2,7 @@
 use super::assert_none;
 use eo_base::Status;
 use std::alloc::{AllocError, Global};
-use test_runs::{File, Job, Long, Want, does, does_in_pieces, first_wrong, joined, long_text};
+use test_runs::{File, Job, Long, Want, does, does_in_pieces, first_wrong, join_texts, long_text};
 
 /// The file that `a.eo` may include.
 const FILES: &[File<'static>] = &[(b"d.eo", b"(declare-const p Bool)\n(define d () p)\n")];
@@ -108,6 +108,15 @@ fn values_that_are_refused(rt: HostRuntime) {
             Status::Refused,
             b"refused F42 Unprintable a.eo:1:30\n",
         ),
+        // the second constant of a name, by itself
+        (
+            "ethos show a.eo w",
+            b"(declare-const U Type)(declare-const a U)(declare-const - (-> U U U))(declare-const - (-> U U))\n\
+(program $head ((f (-> U U)) (x U)) :signature (U) (-> U U) ((($head (f x)) f)))\n\
+(define w () ($head (- a)))\n",
+            Status::Refused,
+            b"refused F42 Unprintable a.eo:4:205\n",
+        ),
         (
             "ethos show a.eo w",
             b"(define w () (eo::to_bin 0 0))\n(define w () q)\n",
@@ -141,6 +150,7 @@ const CONSTANTS: &[u8] =
 (declare-const @List Type)(declare-const @nil @List)\n\
 (declare-parameterized-const @list ((T Type :implicit)) (-> T @List @List) :right-assoc-nil @nil)\n\
 (declare-const all (-> @List Bool Bool) :binder @list)\n\
+(declare-const - (-> U U U) :left-assoc)(declare-const - (-> U U))\n\
 (define v () ";
 
 /// A term, and its value as it is written.
@@ -149,10 +159,10 @@ type Term<'a> = (&'a str, &'a str);
 /// Whether the value of the term is shown by one line.
 fn is_shown_so(alloc: Global, row: Term<'_>) -> Result<bool, AllocError> {
     let (term, value) = row;
-    let begun = joined(alloc, CONSTANTS, term.as_bytes())?;
-    let text = joined(alloc, begun.as_slice(), b")\n")?;
-    let line = joined(alloc, b"(define @s1 () ", value.as_bytes())?;
-    let lines = joined(alloc, line.as_slice(), b")\n")?;
+    let begun = join_texts(alloc, CONSTANTS, term.as_bytes())?;
+    let text = join_texts(alloc, begun.as_slice(), b")\n")?;
+    let line = join_texts(alloc, b"(define @s1 () ", value.as_bytes())?;
+    let lines = join_texts(alloc, line.as_slice(), b")\n")?;
     shows(alloc, text.as_slice(), lines.as_slice())
 }
 
@@ -215,6 +225,10 @@ fn applications_by_attribute(rt: HostRuntime) {
         ("(= a b)", "(= a b)"),
         ("(@list a b)", "(@list a b)"),
         ("(all ((x U)) p)", "(_ all (@list (eo::var \"x\" U)) p)"),
+        ("-", "-"),
+        ("(- a)", "(- a)"),
+        ("(_ - a)", "(_ - a)"),
+        ("(- a b c)", "(- (- a b) c)"),
     ];
     assert_none(&rt, wrong_term(rt.alloc(), ROWS));
 }

@@ -52,7 +52,7 @@ fn needed_commands(rt: HostRuntime) {
         ),
         // nothing more to leave out
         (TRIM, OPPOSITES, SHORT, Status::Ok, SHORT),
-        // the word and the pair around the commands, and what stands between them
+        // the word and the pair around the commands, and what is between them
         (
             TRIM,
             b"(assert false)\n",
@@ -156,7 +156,7 @@ fn proofs_that_are_not_trimmed(rt: HostRuntime) {
             Status::Incomplete,
             b"incomplete\n",
         ),
-        // the proof is the include file too, and its first command wants a reference file
+        // the proof is the include file too, and its first command needs a reference file
         (
             "ethos trim --include=p.eo --reference=r.smt2 p.eo",
             b"(assert false)\n",

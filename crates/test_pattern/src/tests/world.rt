@@ -54,8 +54,8 @@ impl World {
         Ok(self.table.intern(Node::App { fun, arg })?)
     }
 
-    /// Whether the pattern, taken twice, matches two terms, and what the parameter 0 then stands
-    /// for.
+    /// Whether the pattern, taken twice, matches two terms, and the value that the parameter 0 then
+    /// has.
     pub(super) fn match_twice(
         &self,
         pattern: Id,
@@ -93,8 +93,8 @@ fn live(table: &Table, id: Id) -> Result<Id, Fail>
     Ok(id)
 }
 
-// This and what else makes an assignment owns it alone, and lets go of it by a call: each way out of
-// a function that lets go of it by itself is dear to prove.
+// This and what else makes an assignment owns it alone, and drops it by a call: each way out of
+// a function that lets go of it by itself is expensive to prove.
 fn match_twice(
     alloc: Global,
     table: &Table,

@@ -4,7 +4,7 @@ ghost use Rattle.eo_sig.specs.Reading.{IsBelow, ConstBelow, MacroBelow};
 ghost use Rattle.eo_declare.specs.Declaring.{DeclarationBelow};
 
 use super::text::read;
-use eo_base::both;
+use eo_base::ok_with;
 use eo_elab::ElabRefused;
 use eo_ref::{RefNext, RefRefused, Reference};
 use eo_sexp::Sexp;
@@ -14,7 +14,7 @@ use std::alloc::{AllocError, Global};
 use std::marker::Model;
 use std::test::Fail;
 
-/// What is told of a command.
+/// What is said of a command.
 #[derive(Clone, Copy, PartialEq, Eq)]
 pub(super) enum Told {
     Constant,
@@ -36,7 +36,7 @@ pub(super) enum Told {
     Unread,
 }
 
-/// A command, and what is told of it.
+/// A command, and what is said of it.
 pub(super) type Row<'a> = (&'a str, &'a Told);
 
 /// A table, a signature over it, and what is asserted.
@@ -63,7 +63,7 @@ impl World {
     /// Nothing is declared or asserted yet.
     pub(super) fn new(alloc: Global) -> Result<World, AllocError> {
         let table = Table::new(alloc)?;
-        let (sig, table) = both(Signature::new(alloc), table)?;
+        let (sig, table) = ok_with(Signature::new(alloc), table)?;
         Ok(World {
             alloc,
             table,
@@ -72,18 +72,18 @@ impl World {
         })
     }
 
-    /// The first command of which something else is told than what stands beside it. What it
+    /// The first command of which something else is said than what is written beside it. What it
     /// declares is declared, where the name is free.
     pub(super) fn other(&mut self, rows: &[Row<'_>]) -> Result<Option<usize>, Fail> {
         for (i, (text, want)) in rows.iter().enumerate() {
-            if self.told(text)? != **want {
+            if self.outcome_of(text)? != **want {
                 return Ok(Some(i));
             }
         }
         Ok(None)
     }
 
-    fn told(&mut self, text: &str) -> Result<Told, Fail> {
+    fn outcome_of(&mut self, text: &str) -> Result<Told, Fail> {
         let Some(text) = read(self.alloc, text.as_bytes())? else {
             return Ok(Told::Unread);
         };
@@ -98,7 +98,7 @@ impl World {
             Ok(RefNext::Assert { formula: _, names }) => Told::Assert(names.len()),
             Ok(RefNext::Skip) => Told::Skip,
             Ok(RefNext::Exit) => Told::Exit,
-            Err(e) => refused(&e),
+            Err(e) => outcome_of_refusal(&e),
         }
     }
 
@@ -125,14 +125,14 @@ impl World {
 
     fn formula_of(&mut self, s: &Sexp<'_>) -> Result<Id, Fail> {
         match self.reference.command(s, &self.sig, &mut self.table) {
-            Ok(next) => asserted(&next),
+            Ok(next) => formula_of(&next),
             Err(_) => Err(Fail::new("a refused command")),
         }
     }
 }
 
 // The formula that is asserted.
-fn asserted(next: &RefNext) -> Result<Id, Fail> {
+fn formula_of(next: &RefNext) -> Result<Id, Fail> {
     match next {
         RefNext::Assert { formula, names: _ } => Ok(*formula),
         _ => Err(Fail::new("no assertion")),
@@ -191,7 +191,7 @@ fn define(sig: &mut Signature, table: &Table, d: MacroDecl) -> Told
     }
 }
 
-fn refused(e: &RefRefused) -> Told {
+fn outcome_of_refusal(e: &RefRefused) -> Told {
     match e {
         RefRefused::UnknownCommand => Told::UnknownCommand,
         RefRefused::Elab(ElabRefused::BadCommand) => Told::BadCommand,

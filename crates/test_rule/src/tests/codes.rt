@@ -68,14 +68,14 @@ impl World {
         pair
     }
 
-    // The term of a letter, before these, of which the first stands last.
+    // The term of a letter, before these, of which the first is last.
     fn read(&mut self, letter: u8, behind: &mut Vec<Id>) -> Result<Id, Fail> {
         if let Some(leaf) = leaf_of(letter) {
             return self.leaf(leaf);
         }
         let first = next(behind)?;
         if let Some(number) = applied_by(letter) {
-            return self.applied(number, first);
+            return self.apply_constant(number, first);
         }
         if is_of_two(letter) {
             let second = next(behind)?;
@@ -111,13 +111,13 @@ impl World {
             b'>' => self.arr(first, second),
             b'^' => self.qar(first, second),
             b'+' => self.op(OpName::Add, &[first, second]),
-            b'#' => self.listed(OpName::ListNth, first, second),
-            _ => self.listed(OpName::ListConcat, first, second),
+            b'#' => self.list_operator(OpName::ListNth, first, second),
+            _ => self.list_operator(OpName::ListConcat, first, second),
         }
     }
 
     // An operator on conjunctions.
-    fn listed(&mut self, op: OpName, first: Id, second: Id) -> Result<Id, Fail> {
+    fn list_operator(&mut self, op: OpName, first: Id, second: Id) -> Result<Id, Fail> {
         let and = self.con(AND)?;
         self.op(op, &[and, first, second])
     }
@@ -148,7 +148,7 @@ fn next(terms: &mut Vec<Id>) -> Result<Id, Fail> {
     }
 }
 
-// The term without parts that a letter stands for, if it does.
+// The term without parts that a letter means, if it means one.
 fn leaf_of(letter: u8) -> Option<Leaf> {
     match letter {
         b'B' => Some(Leaf::Term(BOOL)),

@@ -1,4 +1,4 @@
-//! Uses of rules that fail two checks: the earlier tells its fault.
+//! Uses of rules that fail two checks: the fault is that of the earlier.
 use super::rows::Trial;
 use super::rows::Want::Fault;
 use super::world::all_right;

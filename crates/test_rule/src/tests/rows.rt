@@ -1,4 +1,4 @@
-//! Constants and rules to be declared, and uses of rules with what they give. Terms stand as codes
+//! Constants and rules to be declared, and uses of rules with what they give. Terms are written as codes
 //! (`codes`).
 use eo_base::FaultName;
 use eo_term::Id;
@@ -7,8 +7,8 @@ use eo_term::Id;
 pub(super) type ConstRow<'a> = (&'a str, &'a str, &'a str);
 
 /// A rule: its name, the types of its parameters, its assumption if it has one, its premises, its
-/// arguments, the two terms that it requires to be equal if it does, and its conclusion. Behind a
-/// `*` stands what the list of all premises, joined by `and`, is matched with.
+/// arguments, the two terms that it requires to be equal if it does, and its conclusion. After a
+/// `*` is what the list of all premises, joined by `and`, is matched with.
 pub(super) type RuleRow<'a> = (
     &'a str,
     &'a str,

@@ -249,7 +249,7 @@ const CONCLUSIONS: &[Trial<'static>] = &[
             ("cat", "", "", "&p&pt&Npt", "", Fault(TermHeight)),
         ],
     },
-    // What `zeros`, `wrong` and `proved` conclude is no formula, for want of a type or by its type, and
+    // What `zeros`, `wrong` and `proved` conclude is no formula, since it has no type or another one, and
     // the type of what `proved` concludes may be too tall.
     Trial {
         name: "conclusions_are_typed",

@@ -16,7 +16,7 @@ ghost use Rattle.eo_rule.specs.Reading.{IsUseOf};
 
 use super::rows::{ConstRow, Form, Given, RuleRow, Told, Trial, UseRow, Want};
 use eo_base::limits::PARAMETERS;
-use eo_base::{Name, both};
+use eo_base::{Name, ok_with};
 use eo_eval::Evaluator;
 use eo_pattern::Subst;
 use eo_rule::{RuleRefused, RuleUse, conclude};
@@ -81,7 +81,7 @@ impl World {
     // Nothing is declared yet.
     fn first(alloc: Global) -> Result<World, AllocError> {
         let table = Table::new(alloc)?;
-        let (sig, table) = both(Signature::new(alloc), table)?;
+        let (sig, table) = ok_with(Signature::new(alloc), table)?;
         Ok(World { alloc, table, sig })
     }
 
@@ -127,12 +127,12 @@ impl World {
 
     /// A constant, by its number.
     pub(super) fn con(&mut self, number: usize) -> Result<Id, Fail> {
-        made(&self.sig, &mut self.table, Node::Con(number))
+        make_term(&self.sig, &mut self.table, Node::Con(number))
     }
 
     /// A number.
     pub(super) fn num(&mut self, number: i128) -> Result<Id, Fail> {
-        made(&self.sig, &mut self.table, Node::Num(number))
+        make_term(&self.sig, &mut self.table, Node::Num(number))
     }
 
     /// A parameter, by its number.
@@ -140,39 +140,39 @@ impl World {
         if number >= 64 {
             return Err(Fail::new("no parameter"));
         }
-        made(&self.sig, &mut self.table, Node::Par(number))
+        make_term(&self.sig, &mut self.table, Node::Par(number))
     }
 
     /// The type of functions from one type to another.
     pub(super) fn arr(&mut self, from: Id, to: Id) -> Result<Id, Fail> {
         let from = live(&self.table, from)?;
         let to = live(&self.table, to)?;
-        made(&self.sig, &mut self.table, Node::Arr { from, to })
+        make_term(&self.sig, &mut self.table, Node::Arr { from, to })
     }
 
     /// The type of functions whose argument is bound as the parameter 0.
     pub(super) fn qar(&mut self, ty: Id, to: Id) -> Result<Id, Fail> {
         let ty = live(&self.table, ty)?;
         let to = live(&self.table, to)?;
-        made(&self.sig, &mut self.table, Node::Qar { par: 0, ty, to })
+        make_term(&self.sig, &mut self.table, Node::Qar { par: 0, ty, to })
     }
 
     /// A term applied to another.
     pub(super) fn app(&mut self, fun: Id, arg: Id) -> Result<Id, Fail> {
         let fun = live(&self.table, fun)?;
         let arg = live(&self.table, arg)?;
-        made(&self.sig, &mut self.table, Node::App { fun, arg })
+        make_term(&self.sig, &mut self.table, Node::App { fun, arg })
     }
 
     /// A constant, by its number, applied to a term.
-    pub(super) fn applied(&mut self, number: usize, arg: Id) -> Result<Id, Fail> {
+    pub(super) fn apply_constant(&mut self, number: usize, arg: Id) -> Result<Id, Fail> {
         let fun = self.con(number)?;
         self.app(fun, arg)
     }
 
     /// The item before the conjunction.
     pub(super) fn and(&mut self, first: Id, rest: Id) -> Result<Id, Fail> {
-        let front = self.applied(AND, first)?;
+        let front = self.apply_constant(AND, first)?;
         self.app(front, rest)
     }
 
@@ -180,7 +180,7 @@ impl World {
     pub(super) fn nots(&mut self, id: Id, times: usize) -> Result<Id, Fail> {
         let mut id = id;
         for _ in 0..times {
-            id = self.applied(NOT, id)?;
+            id = self.apply_constant(NOT, id)?;
         }
         Ok(id)
     }
@@ -222,7 +222,7 @@ impl World {
         declared
     }
 
-    // The same, with the terms of the cases behind these.
+    // The same, with the terms of the cases after these.
     fn declare_cases(
         &mut self,
         rows: &[(&str, &str)],
@@ -288,8 +288,8 @@ impl World {
         self.wrong(trial.uses)
     }
 
-    // The first row that gives another answer than it says, if one does. What stands for the
-    // parameters is held in one assignment for all rows.
+    // The first row that gives another answer than it says, if one does. The values of the
+    // parameters are held in one assignment for all rows.
     fn wrong(&mut self, rows: &[UseRow<'_>]) -> Result<Option<usize>, Fail> {
         let mut subst = Subst::new(self.alloc);
         let answer = self.wrong_with(&mut subst, rows);
@@ -312,15 +312,15 @@ impl World {
 
     // Whether a row gives what it says.
     fn is_right(&mut self, subst: &mut Subst, row: &UseRow<'_>) -> Result<bool, Fail> {
-        let want = self.wanted(row.5)?;
-        let given = self.given(row)?;
-        let told = self.told(subst, row.0.as_bytes(), &given);
+        let want = self.expected_outcome(row.5)?;
+        let given = self.given_by(row)?;
+        let told = self.outcome_of(subst, row.0.as_bytes(), &given);
         drop(given);
         Ok(told? == want)
     }
 
     // The terms that a row gives.
-    fn given(&mut self, row: &UseRow<'_>) -> Result<Given, Fail> {
+    fn given_by(&mut self, row: &UseRow<'_>) -> Result<Given, Fail> {
         let (_, assumption, premises, args, stated, _) = *row;
         let assumption = self.optional(assumption)?;
         let stated = self.optional(stated)?;
@@ -333,7 +333,7 @@ impl World {
     }
 
     // What is wanted, with its term.
-    fn wanted(&mut self, want: Want<'_>) -> Result<Told, Fail> {
+    fn expected_outcome(&mut self, want: Want<'_>) -> Result<Told, Fail> {
         match want {
             Want::Formula(code) => Ok(Told::Formula(self.term(code)?)),
             Want::Fault(name) => Ok(Told::Fault(name)),
@@ -341,7 +341,7 @@ impl World {
     }
 
     // What a use of a rule gives.
-    fn told(&mut self, subst: &mut Subst, name: &[u8], given: &Given) -> Result<Told, Fail> {
+    fn outcome_of(&mut self, subst: &mut Subst, name: &[u8], given: &Given) -> Result<Told, Fail> {
         let Some(rule) = self.sig.rule(name) else {
             return Err(Fail::new("no such rule"));
         };
@@ -363,8 +363,8 @@ pub(super) fn all_right(alloc: Global, trials: &[Trial<'_>]) -> Result<(), Fail>
     Ok(())
 }
 
-// The first such use of one trial, if there is one. This alone owns a world, and lets go of it by a
-// call: each way out of a function that lets go of one by itself is dear to prove.
+// The first such use of one trial, if there is one. This alone owns a world, and drops it by a
+// call: each way out of a function that lets go of one by itself is expensive to prove.
 fn wrong_in(alloc: Global, trial: &Trial<'_>) -> Result<Option<usize>, Fail> {
     let mut w = World::first(alloc)?;
     let answer = w.try_out(trial);
@@ -455,7 +455,7 @@ fn are_live(table: &Table, ids: &[Id]) -> bool
 }
 
 // The term with this root.
-fn made(sig: &Signature, table: &mut Table, node: Node) -> Result<Id, Fail>
+fn make_term(sig: &Signature, table: &mut Table, node: Node) -> Result<Id, Fail>
     requires plain { IsPlain node }
     requires parts { PartsBelow (length table.old.trees) node }
     requires texts { TextsBelow (length table.old.texts) node }

@@ -13,7 +13,7 @@ use std::test::Fail;
 /// The greatest number of bytes of a text.
 const TEXT: usize = 1_000;
 
-/// What a session answers.
+/// What a session returns.
 #[derive(Clone, Copy, PartialEq, Eq)]
 pub(super) enum Answer {
     /// It is accepted, and so many terms are alive then.
@@ -93,7 +93,7 @@ impl Run {
         let Some(text) = read(self.alloc, row.0)? else {
             return Err(Fail::new("no command"));
         };
-        let right = watched(&mut self.session, &text, row, from);
+        let right = is_seen_as(&mut self.session, &text, row, from);
         drop(text);
         right
     }
@@ -103,14 +103,14 @@ impl Run {
         let Some(text) = read(self.alloc, text)? else {
             return Err(Fail::new("no command"));
         };
-        let answer = told(&mut self.session, &text);
+        let answer = answer_to(&mut self.session, &text);
         drop(text);
         answer
     }
 }
 
-/// What a function tells of a new session. It alone owns one: each way out of a function that does
-/// is dear to prove.
+/// What a function returns for a new session. It alone owns one: each way out of a function that does
+/// is expensive to prove.
 pub(super) fn tell<T, F: FnOnce(&mut Run) -> Result<T, Fail>>(
     alloc: Global,
     f: F,
@@ -123,8 +123,8 @@ pub(super) fn tell<T, F: FnOnce(&mut Run) -> Result<T, Fail>>(
     told
 }
 
-// What a session answers to the command of a text.
-fn told(session: &mut Session, text: &Text) -> Result<Answer, Fail> {
+// What a session returns to the command of a text.
+fn answer_to(session: &mut Session, text: &Text) -> Result<Answer, Fail> {
     match session.command(&text.sexp(), Origin::Proof(0)) {
         Ok(_) => Ok(Answer::Done(session.live())),
         Err(Refused::Fault(name)) => Ok(Answer::Fault(name)),
@@ -134,7 +134,12 @@ fn told(session: &mut Session, text: &Text) -> Result<Answer, Fail> {
 }
 
 // Whether the command of a text is seen as its row says.
-fn watched(session: &mut Session, text: &Text, row: Noted<'_>, from: Origin) -> Result<bool, Fail> {
+fn is_seen_as(
+    session: &mut Session,
+    text: &Text,
+    row: Noted<'_>,
+    from: Origin,
+) -> Result<bool, Fail> {
     let mut watcher = Watcher::new(row, from, session.commands());
     let (bytes, place) = (watcher.text(), watcher.place());
     match session.command_by(&text.sexp(), from, bytes, place, &mut watcher) {

@@ -1,4 +1,4 @@
-//! What a collector answers, written down.
+//! What a collector returns, as text.
 ghost use Rattle.std.specs.Prelude.{IsTrue};
 ghost use Rattle.eo_sexp.specs.Collecting.{HasRoom, IsAtCommand, IsLive};
 
@@ -9,12 +9,12 @@ use std::marker::Model;
 use std::process::Abort;
 use std::test::Fail;
 
-/// A collector, and what it answered so far.
+/// A collector, and what it returned so far.
 #[derive(Drop)]
 pub(super) struct Answers {
     collector: Collector,
     text: String,
-    // the end or a fault was answered, or memory was wanting
+    // the end or a fault was returned, or memory ran out
     over: bool,
 }
 
@@ -38,7 +38,7 @@ impl Answers {
         })
     }
 
-    /// Feeds a piece, and what is left of it behind each command.
+    /// Feeds a piece, and what is left of it after each command.
     pub(super) fn feed(&mut self, rt: &impl Abort, piece: &[u8]) -> Result<(), Fail> {
         let mut from = 0;
         for _ in 0..u64::MAX {
@@ -53,7 +53,7 @@ impl Answers {
         Ok(())
     }
 
-    // Feeds a piece, and tells how many of its bytes a command took.
+    // Feeds a piece, and returns how many of its bytes a command took.
     fn feed_once(&mut self, rt: &impl Abort, piece: &[u8]) -> Result<Option<usize>, Fail> {
         if self.over {
             return Ok(None);
@@ -78,7 +78,7 @@ impl Answers {
         }
     }
 
-    /// Tells that nothing more comes.
+    /// Ends the text.
     pub(super) fn finish(&mut self) -> Result<(), Fail> {
         if self.finish_once()? {
             self.finish_once()?;
@@ -86,7 +86,7 @@ impl Answers {
         Ok(())
     }
 
-    // Tells that nothing more comes, and answers whether that made a command whole.
+    // Ends the text, and returns whether that made a command whole.
     fn finish_once(&mut self) -> Result<bool, Fail> {
         if self.over {
             return Ok(false);
@@ -116,7 +116,7 @@ impl Answers {
     }
 }
 
-// Whether the collector is far from the greatest offset, behind a piece too.
+// Whether the collector is far from the greatest offset, after a piece too.
 fn has_room(collector: &Collector, piece: &[u8]) -> bool
     ensures { IsTrue result → IsLive collector.now → HasRoom collector.now piece.now }
 {
@@ -124,7 +124,7 @@ fn has_room(collector: &Collector, piece: &[u8]) -> bool
     here.offset < 1_000_000_000 && piece.len() < 1_000_000_000
 }
 
-// The tokens of a command, each behind a letter for its kind.
+// The tokens of a command, each after a letter for its kind.
 #[cycle(write)]
 #[tactic(auto, using(eo_sexp::proofs::Sizes::size_inside))]
 fn write_sexp(out: &mut String, s: &Sexp<'_>) -> Result<(), Fail> {

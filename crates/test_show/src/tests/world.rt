@@ -4,7 +4,7 @@ ghost use Rattle.eo_term.specs.Terms.{PartsBelow, TextsBelow, IsPlain, IsProper,
 ghost use Rattle.eo_term.specs.Tree.{is_value};
 ghost use Rattle.eo_sig.specs.Reading.{IsBelow};
 
-use eo_base::both;
+use eo_base::ok_with;
 use eo_show::{ShowRefused, ShownBytes, show_term};
 use eo_sig::{Signature, growth_law};
 use eo_term::{Id, Node, Table, TermRefused};
@@ -34,7 +34,7 @@ impl Model for World {
 impl World {
     fn first(alloc: Global) -> Result<World, AllocError> {
         let table = first_table(alloc)?;
-        let (sig, table) = both(first_signature(alloc), table)?;
+        let (sig, table) = ok_with(first_signature(alloc), table)?;
         Ok(World { alloc, table, sig })
     }
 
@@ -42,17 +42,17 @@ impl World {
     pub(super) fn arrow(&mut self, from: Id, to: Id) -> Result<Id, Fail> {
         let from = live(&self.table, from)?;
         let to = live(&self.table, to)?;
-        Ok(made(&mut self.table, Node::Arr { from, to })?)
+        Ok(make_term(&mut self.table, Node::Arr { from, to })?)
     }
 
     /// The constant of this number.
     pub(super) fn constant(&mut self, number: usize) -> Result<Id, Fail> {
-        Ok(made(&mut self.table, Node::Con(number))?)
+        Ok(make_term(&mut self.table, Node::Con(number))?)
     }
 
     /// Whether the value is shown by these bytes.
     pub(super) fn shows(&self, id: Id, want: &[u8]) -> Result<bool, Fail> {
-        match self.shown(id)? {
+        match self.show(id)? {
             Some(bytes) => Ok(bytes.as_slice() == want),
             None => Ok(false),
         }
@@ -60,11 +60,11 @@ impl World {
 
     /// Whether the value has no spelling.
     pub(super) fn is_unprintable(&self, id: Id) -> Result<bool, Fail> {
-        Ok(self.shown(id)?.is_none())
+        Ok(self.show(id)?.is_none())
     }
 
     // None, where the value has no spelling.
-    fn shown(&self, id: Id) -> Result<Option<ShownBytes>, Fail> {
+    fn show(&self, id: Id) -> Result<Option<ShownBytes>, Fail> {
         let id = value(&self.table, id)?;
         match show_term(self.alloc, &self.sig, &self.table, id) {
             Ok(bytes) => Ok(Some(bytes)),
@@ -74,8 +74,8 @@ impl World {
     }
 }
 
-/// What a function tells of a new world. It alone owns one: each way out of a function that does is
-/// dear to prove.
+/// What a function returns for a new world. It alone owns one: each exit of a function that does is
+/// expensive to prove.
 pub(super) fn tell<T, F: FnOnce(&mut World) -> Result<T, Fail>>(
     alloc: Global,
     f: F,
@@ -126,7 +126,7 @@ fn value(table: &Table, id: Id) -> Result<Id, Fail>
 }
 
 // The term with this root.
-fn made(table: &mut Table, node: Node) -> Result<Id, TermRefused>
+fn make_term(table: &mut Table, node: Node) -> Result<Id, TermRefused>
     requires plain { IsPlain node }
     requires parts { PartsBelow (length table.old.trees) node }
     requires texts { TextsBelow (length table.old.texts) node }

@@ -12,7 +12,7 @@ fn names_of_the_language_are_reserved(rt: HostRuntime) -> Result<(), Fail> {
     Ok(())
 }
 
-// Whether each name stands for the entry beside it, or for none.
+// Whether each name means the entry beside it, or nothing.
 fn stand_for(w: &World, rows: &[(&[u8], Option<Entry>)]) -> bool {
     for (name, entry) in rows {
         if w.lookup(name) != *entry {
@@ -44,9 +44,9 @@ fn constants_are_found(w: &World) -> bool {
 
 const DECLARED: &[(&[u8], Answer)] = &[
     (b"p", Answer::Number(4)),
-    (b"p", Answer::Taken),
+    (b"p", Answer::Redeclared),
     (b"q", Answer::Number(5)),
-    (b"true", Answer::Taken),
+    (b"true", Answer::Redeclared),
 ];
 
 fn constants_are_declared(w: &mut World) -> Result<bool, Fail> {
@@ -75,7 +75,7 @@ const IMPLICIT: &[(Sample, Answer)] = &[
     (Sample::OfValues, Answer::UnboundParam),
     (Sample::InOperator, Answer::UnboundParam),
     (Sample::OfArguments, Answer::Number(4)),
-    (Sample::OfArguments, Answer::Taken),
+    (Sample::OfArguments, Answer::Redeclared),
 ];
 
 fn implicit_parameters_occur(w: &mut World) -> Result<bool, Fail> {

@@ -4,7 +4,7 @@ ghost use Rattle.eo_sig.specs.Reading.{CaseBelow, ConstBelow, ProgramBelow, Rule
 ghost use Rattle.eo_sig.specs.Usable.{AreOrdered};
 
 use eo_base::limits::PARAMETERS;
-use eo_base::{Name, both};
+use eo_base::{Name, ok_with};
 use eo_sig::{
     Attribute, Case, Cases, ConstDecl, Declared, Entry, IdPairs, Param, Params, PremiseShape,
     ProgramDecl, RuleDecl, SigRefused, Signature, are_ordered,
@@ -66,7 +66,7 @@ impl World {
     /// Nothing is declared yet.
     pub(super) fn new(alloc: Global) -> Result<World, AllocError> {
         let table = Table::new(alloc)?;
-        let (sig, table) = both(Signature::new(alloc), table)?;
+        let (sig, table) = ok_with(Signature::new(alloc), table)?;
         Ok(World { alloc, table, sig })
     }
 
@@ -76,7 +76,7 @@ impl World {
             Sample::Bool => Ok(BOOL),
             Sample::True => Ok(TRUE),
             Sample::Open => self.open(),
-            Sample::Operator => self.negated(),
+            Sample::Operator => self.negate(),
             Sample::OfArguments => self.from_open(),
             Sample::OfValues => self.to_open(),
             Sample::InOperator => self.from_negated(),
@@ -89,7 +89,7 @@ impl World {
     }
 
     // The operator `eo::neg` on that.
-    fn negated(&mut self) -> Result<Id, Fail> {
+    fn negate(&mut self) -> Result<Id, Fail> {
         let open = self.table.intern(Node::Par(0))?;
         Ok(self.table.intern_op(OpCode::Builtin(OpName::Neg), &[open])?)
     }
@@ -105,7 +105,7 @@ impl World {
     }
 
     fn from_negated(&mut self) -> Result<Id, Fail> {
-        let hidden = self.negated()?;
+        let hidden = self.negate()?;
         self.function(hidden, BOOL)
     }
 
@@ -119,14 +119,35 @@ impl World {
     /// Declares a constant of type `Bool`, without parameters.
     pub(super) fn declare(&mut self, name: &[u8]) -> Result<Answer, Fail> {
         let d = constant(self.alloc, &self.table, name, BOOL)?;
-        Ok(self.declared(d))
+        Ok(self.declare_constant(d))
+    }
+
+    /// Declares a constant that has so many arguments of type `Bool`, and folds them so.
+    pub(super) fn declare_taking(
+        &mut self,
+        name: &[u8],
+        n: u8,
+        attribute: Attribute,
+    ) -> Result<Answer, Fail> {
+        let ty = self.taking(n)?;
+        let d = folding_constant(self.alloc, &self.table, name, ty, attribute)?;
+        Ok(self.declare_constant(d))
+    }
+
+    // The type of functions with so many arguments.
+    fn taking(&mut self, n: u8) -> Result<Id, Fail> {
+        let mut ty = BOOL;
+        for _ in 0..n {
+            ty = self.function(BOOL, ty)?;
+        }
+        Ok(ty)
     }
 
     /// Declares a constant of this type, whose parameter 0 is implicit and a type.
     pub(super) fn declare_implicit(&mut self, name: &[u8], ty: Sample) -> Result<Answer, Fail> {
         let ty = self.term(ty)?;
         let d = implicit_constant(self.alloc, &self.table, name, ty)?;
-        Ok(self.declared(d))
+        Ok(self.declare_constant(d))
     }
 
     /// Whether the check alone passes a constant of this type, whose parameter 0 is implicit and a
@@ -140,17 +161,14 @@ impl World {
     fn passes(&self, d: ConstDecl) -> bool
         requires { ConstBelow self.now d }
     {
-        let d = Declared::Const(d);
+        let counts = d.counts(&self.table);
+        let d = Declared::Const(d, counts);
         self.sig.check(&self.table, &d).is_ok()
     }
 
-    fn declared(&mut self, d: ConstDecl) -> Answer
+    fn declare_constant(&mut self, d: ConstDecl) -> Answer
         requires { ConstBelow self.old d }
     {
-        if !self.sig.is_free(d.name.as_bytes()) {
-            drop(d);
-            return Answer::Taken;
-        }
         what_became(self.sig.declare(&self.table, d))
     }
 
@@ -165,10 +183,10 @@ impl World {
         let pattern = self.term(pattern)?;
         let body = self.term(body)?;
         let d = program(self.alloc, &self.table, name, pattern, body)?;
-        Ok(self.programmed(d))
+        Ok(self.declare_program(d))
     }
 
-    fn programmed(&mut self, d: ProgramDecl) -> Answer
+    fn declare_program(&mut self, d: ProgramDecl) -> Answer
         requires { ProgramBelow self.old d }
     {
         if !self.sig.is_free(d.name.as_bytes()) {
@@ -188,10 +206,10 @@ impl World {
         let arg = self.term(arg)?;
         let conclusion = self.term(conclusion)?;
         let d = rule(self.alloc, &self.table, name, arg, conclusion)?;
-        Ok(self.ruled(d))
+        Ok(self.declare_rule(d))
     }
 
-    fn ruled(&mut self, d: RuleDecl) -> Answer
+    fn declare_rule(&mut self, d: RuleDecl) -> Answer
         requires { RuleBelow self.old d }
     {
         if !is_ordered(&self.table, &d) {
@@ -205,9 +223,19 @@ impl World {
         what_became(self.sig.add_rule(&self.table, d))
     }
 
-    /// What the name stands for among constants, macros and programs.
+    /// What the name means among constants, macros and programs.
     pub(super) fn lookup(&self, name: &[u8]) -> Option<Entry> {
         self.sig.lookup(name)
+    }
+
+    /// What the name means before so many arguments.
+    pub(super) fn lookup_count(&self, name: &[u8], n: usize) -> Option<Entry> {
+        self.sig.lookup_count(name, n)
+    }
+
+    /// The constant of the name that takes so many arguments.
+    pub(super) fn constant_taking(&self, name: &[u8], n: usize) -> Option<usize> {
+        self.sig.constant_taking(name, n)
     }
 
     /// The number of the rule with this name.
@@ -314,6 +342,25 @@ fn constant(alloc: Global, table: &Table, name: &[u8], ty: Id) -> Result<ConstDe
         attribute: Attribute::Plain,
         from_reference: false,
     })
+}
+
+// A constant without parameters that folds its arguments so, by no other term.
+fn folding_constant(
+    alloc: Global,
+    table: &Table,
+    name: &[u8],
+    ty: Id,
+    attribute: Attribute,
+) -> Result<ConstDecl, Fail>
+    ensures { IfOk result (ConstBelow (length table.now.trees)) }
+{
+    let mut d = constant(alloc, table, name, ty)?;
+    d.attribute = match attribute {
+        Attribute::RightNil(end) => Attribute::RightNil(live(table, end)?),
+        Attribute::LeftNil(end) => Attribute::LeftNil(live(table, end)?),
+        other => other,
+    };
+    Ok(d)
 }
 
 // A constant whose parameter 0 is implicit and a type.

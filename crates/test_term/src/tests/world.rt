@@ -40,12 +40,12 @@ impl World {
 
     /// The term with this root, which is no operator and no bit string.
     pub(super) fn make(&mut self, node: Node) -> Result<Id, Fail> {
-        Ok(made(&mut self.table, node)??)
+        Ok(make_term(&mut self.table, node)??)
     }
 
     /// Whether the term with this root is too tall.
     pub(super) fn is_too_tall(&mut self, node: Node) -> Result<bool, Fail> {
-        Ok(matches!(made(&mut self.table, node)?, Err(TermRefused::Tall)))
+        Ok(matches!(make_term(&mut self.table, node)?, Err(TermRefused::Tall)))
     }
 
     /// The longest bit string of ones.
@@ -61,7 +61,7 @@ impl World {
     pub(super) fn apply(&mut self, code: OpCode, args: &[Id]) -> Result<Id, Fail>
         requires { HasArity code (length args.now) }
     {
-        Ok(applied(&mut self.table, code, args)??)
+        Ok(apply_op(&mut self.table, code, args)??)
     }
 
     /// Whether an operator or a program over these arguments is too tall.
@@ -69,7 +69,7 @@ impl World {
         requires { HasArity code (length args.now) }
     {
         Ok(matches!(
-            applied(&mut self.table, code, args)?,
+            apply_op(&mut self.table, code, args)?,
             Err(TermRefused::Tall)
         ))
     }
@@ -96,7 +96,7 @@ impl World {
     }
 
     /// The height of a term, whether it is a value, and whether it is closed.
-    pub(super) fn told(&self, id: Id) -> Result<(u32, bool, bool), Fail> {
+    pub(super) fn facts_of(&self, id: Id) -> Result<(u32, bool, bool), Fail> {
         let id = live(&self.table, id)?;
         let table = &self.table;
         Ok((table.height(id), table.is_value(id), table.is_closed(id)))
@@ -128,8 +128,8 @@ impl World {
 
     /// A program over two terms, carried back to before it was made, with a term that it does not
     /// need.
-    pub(super) fn carried(&mut self) -> Result<Id, Fail> {
-        Ok(carried(&mut self.table)?)
+    pub(super) fn carry_back(&mut self) -> Result<Id, Fail> {
+        Ok(carry_in(&mut self.table)?)
     }
 
     /// How many texts there are.
@@ -143,8 +143,8 @@ impl World {
     }
 
     /// How many terms there are before and after a text's term is released.
-    pub(super) fn released(&mut self) -> Result<(usize, usize), Fail> {
-        Ok(released(&mut self.table)?)
+    pub(super) fn release_text(&mut self) -> Result<(usize, usize), Fail> {
+        Ok(release_in(&mut self.table)?)
     }
 }
 
@@ -182,7 +182,7 @@ fn is_fit(table: &Table, node: &Node) -> bool
 }
 
 // The term with this root, if it is one over the table.
-fn made(table: &mut Table, node: Node) -> Result<Result<Id, TermRefused>, Fail> {
+fn make_term(table: &mut Table, node: Node) -> Result<Result<Id, TermRefused>, Fail> {
     if !is_fit(table, &node) {
         return Err(Fail::new("no root over the table"));
     }
@@ -198,7 +198,7 @@ fn are_live(table: &Table, ids: &[Id]) -> bool
 }
 
 // An operator or a program over these arguments, if they are of the table.
-fn applied(table: &mut Table, code: OpCode, args: &[Id]) -> Result<Result<Id, TermRefused>, Fail>
+fn apply_op(table: &mut Table, code: OpCode, args: &[Id]) -> Result<Result<Id, TermRefused>, Fail>
     requires { HasArity code (length args.now) }
 {
     if !are_live(table, args) {
@@ -221,7 +221,7 @@ fn make_more(table: &mut Table, old: Id) -> Result<Id, TermRefused>
     table.intern_op(OpCode::Prog(7), &[part, old])
 }
 
-fn carried(table: &mut Table) -> Result<Id, TermRefused> {
+fn carry_in(table: &mut Table) -> Result<Id, TermRefused> {
     let mark = table.mark();
     let whole = make_more(table, TRUE)?;
     Ok(table.carry(mark, whole)?)
@@ -248,7 +248,7 @@ fn carried_text(table: &mut Table) -> Result<TextId, Fail> {
     }
 }
 
-fn released(table: &mut Table) -> Result<(usize, usize), TermRefused> {
+fn release_in(table: &mut Table) -> Result<(usize, usize), TermRefused> {
     let mark = table.mark();
     let text = table.text(&[104, 105])?;
     table.intern(Node::Str(text))?;

@@ -51,7 +51,11 @@ pub(super) fn is_right(alloc: Global, case: &Case<'_>) -> Result<bool, AllocErro
             Ok(is_trimmed & is_same)
         }
         Want::Incomplete => ends_so(alloc, case, &Verdict::Incomplete),
-        Want::Refused(name, file, offset) => ends_so(alloc, case, &refused(*name, *file, *offset)),
+        Want::Refused(name, file, offset) => ends_so(
+            alloc,
+            case,
+            &refusal_at(*name, *file, *offset),
+        ),
     }
 }
 
@@ -72,7 +76,7 @@ fn ends_so(alloc: Global, case: &Case<'_>, want: &Verdict) -> Result<bool, Alloc
     })
 }
 
-fn refused(name: FaultName, file: usize, offset: u64) -> Verdict {
+fn refusal_at(name: FaultName, file: usize, offset: u64) -> Verdict {
     Verdict::Refused(Fault {
         name,
         place: Place {

@@ -34,7 +34,7 @@ fn branches_are_settled(w: &mut World) -> Result<bool, Fail> {
 // Whether each term is settled to the term beside it, or not at all.
 fn settle_to(w: &mut World, rows: &[(Id, Option<Id>)]) -> Result<bool, Fail> {
     for (id, settled) in rows {
-        if w.settled(*id)? != *settled {
+        if w.settle(*id)? != *settled {
             return Ok(false);
         }
     }

@@ -179,7 +179,7 @@ fn a_shared_part_is_typed_once(rt: HostRuntime) -> Result<(), Fail> {
 fn doublings_have_types(w: &mut World) -> Result<bool, Fail> {
     let of_pair = pair_type(w)?;
     let pair = w.con(4)?;
-    let term = doubled(w, pair, 64)?;
+    let term = apply_twice(w, pair, 64)?;
     w.declare(b"pair", of_pair)?;
     Ok(w.type_of(term)??.is_some())
 }
@@ -196,7 +196,7 @@ fn pair_type(w: &mut World) -> Result<Id, Fail> {
 }
 
 // A function applied to a term twice, and to that twice, and so on.
-fn doubled(w: &mut World, fun: Id, times: u32) -> Result<Id, Fail> {
+fn apply_twice(w: &mut World, fun: Id, times: u32) -> Result<Id, Fail> {
     let mut id = TRUE;
     for _ in 0..times {
         let half = w.app(fun, id)?;

@@ -6,7 +6,7 @@ ghost use Rattle.eo_sig.specs.declared.records.ConstDecl.{ConstDecl};
 ghost use Rattle.eo_sig.specs.Reading.{IsBelow, ConstBelow};
 ghost use Rattle.eo_type.specs.Known.{Fit};
 
-use eo_base::{Name, both};
+use eo_base::{Name, ok_with};
 use eo_sig::{Attribute, ConstDecl, LiteralClass, Params, SigRefused, Signature, growth_law};
 use eo_term::{BOOL, Id, Node, OpCode, OpName, TYPE, Table, TermRefused};
 use eo_type::{TypeRefused, Types, settle};
@@ -40,7 +40,7 @@ impl World {
     /// Nothing is declared yet.
     pub(super) fn new(alloc: Global) -> Result<World, AllocError> {
         let table = first_table(alloc)?;
-        let (sig, table) = both(first_signature(alloc), table)?;
+        let (sig, table) = ok_with(first_signature(alloc), table)?;
         Ok(World { alloc, table, sig })
     }
 
@@ -74,12 +74,12 @@ impl World {
         self.node(Node::Qar { par, ty, to })
     }
 
-    // The term with this root, in which no text stands and which is no operator.
+    // The term with this root, which has no text in it and is no operator.
     fn node(&mut self, node: Node) -> Result<Id, Fail> {
         if !has_parts(&self.table, &node) {
             return Err(Fail::new("no parts of a term"));
         }
-        Ok(made(&mut self.table, node)?)
+        Ok(make_term(&mut self.table, node)?)
     }
 
     /// The bit string `#xA5`.
@@ -88,20 +88,20 @@ impl World {
             width: 8,
             value: 0xa5,
         };
-        Ok(made(&mut self.table, node)?)
+        Ok(make_term(&mut self.table, node)?)
     }
 
     /// The string `ab`.
     pub(super) fn string(&mut self) -> Result<Id, Fail> {
         let text = self.table.text(&[97, 98])?;
-        Ok(made(&mut self.table, Node::Str(text))?)
+        Ok(make_term(&mut self.table, Node::Str(text))?)
     }
 
     /// The variable `x` of this type.
     pub(super) fn var(&mut self, ty: Id) -> Result<Id, Fail> {
         let ty = live(&self.table, ty)?;
         let name = self.table.text(&[120])?;
-        Ok(made(&mut self.table, Node::Var { name, ty })?)
+        Ok(make_term(&mut self.table, Node::Var { name, ty })?)
     }
 
     /// An operator on its arguments.
@@ -157,7 +157,7 @@ impl World {
     }
 
     /// Whether a variable of type `Bool`, and then a function type that is made with its number once
-    /// the variable is given back, have their types.
+    /// the variable is freed, have their types.
     pub(super) fn have_types_in_turn(&mut self) -> Result<bool, Fail> {
         let mut types = Types::new(self.alloc);
         let answer = have_types_in_turn(&mut types, &self.sig, &mut self.table);
@@ -166,7 +166,7 @@ impl World {
     }
 
     /// The term to which a term is settled, if there is one.
-    pub(super) fn settled(&mut self, id: Id) -> Result<Option<Id>, Fail> {
+    pub(super) fn settle(&mut self, id: Id) -> Result<Option<Id>, Fail> {
         let id = live(&self.table, id)?;
         Ok(settle(self.alloc, &self.sig, &mut self.table, id)?)
     }
@@ -219,7 +219,7 @@ fn are_live(table: &Table, ids: &[Id]) -> bool
     ids.iter().all(|id| id.place() < count)
 }
 
-// Whether the parts of a node are terms of the table, where no text stands in it and it is no
+// Whether the parts of a node are terms of the table, where it has no text in it and is no
 // operator.
 fn has_parts(table: &Table, node: &Node) -> bool
     ensures plain { IsTrue result → IsPlain node.now }
@@ -245,7 +245,7 @@ fn has(table: &Table, id: Id) -> bool
 }
 
 // The term with this root.
-fn made(table: &mut Table, node: Node) -> Result<Id, TermRefused>
+fn make_term(table: &mut Table, node: Node) -> Result<Id, TermRefused>
     requires plain { IsPlain node }
     requires parts { PartsBelow (length table.old.trees) node }
     requires texts { TextsBelow (length table.old.texts) node }
@@ -321,7 +321,7 @@ fn have_types_in_turn(types: &mut Types, sig: &Signature, table: &mut Table) -> 
     Ok(first == second && of_first == Some(BOOL) && of_second == Some(TYPE))
 }
 
-// The number and the type of the term with this root, which is given back.
+// The number and the type of the term with this root, which is freed.
 fn typed_for_now(
     types: &mut Types,
     sig: &Signature,

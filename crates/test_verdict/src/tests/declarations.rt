@@ -1,7 +1,7 @@
 //! What a proof declares, and the terms over it.
 use super::{Refusal, assert_none, refuses, wrong_refusal};
 use std::alloc::{AllocError, Global};
-use test_runs::{first_wrong, joined};
+use test_runs::{first_wrong, join_texts};
 
 #[test]
 fn declarations_that_are_accepted(rt: HostRuntime) {
@@ -56,10 +56,10 @@ const BIT_STRINGS: &[u8] = b"(declare-const Int Type)
 (declare-parameterized-const extract ((n Int :implicit) (h Int) (l Int)) (-> (BitVec n) (BitVec (eo::add (eo::add h 1) (eo::neg l)))))
 ";
 
-/// Whether a command on line 8, behind bit strings and equality, gives this line.
+/// Whether a command on line 8, after bit strings and equality, gives this line.
 fn is_right(alloc: Global, row: Refusal<'_>) -> Result<bool, AllocError> {
     let (command, line) = row;
-    let proof = joined(alloc, BIT_STRINGS, command)?;
+    let proof = join_texts(alloc, BIT_STRINGS, command)?;
     refuses(alloc, &proof, line)
 }
 

@@ -4,7 +4,7 @@ use super::{
 };
 use eo_base::Status;
 use std::alloc::{AllocError, Global};
-use test_runs::{first_wrong, joined};
+use test_runs::{first_wrong, join_texts};
 
 #[test]
 fn formulas_are_evaluated(rt: HostRuntime) {
@@ -126,10 +126,10 @@ const COUNTDOWNS: &[u8] = b"(declare-const Int Type)
 (program $t ((n Int)) :signature (Int) Bool ((($t 0) true) (($t n) (f (f (f ($t (eo::add n -1))))))))
 ";
 
-/// Whether a command on line 8, behind these programs, gives this line.
+/// Whether a command on line 8, after these programs, gives this line.
 fn is_right_behind(alloc: Global, row: Refusal<'_>) -> Result<bool, AllocError> {
     let (command, line) = row;
-    let proof = joined(alloc, COUNTDOWNS, command)?;
+    let proof = join_texts(alloc, COUNTDOWNS, command)?;
     refuses(alloc, &proof, line)
 }
 
@@ -183,7 +183,7 @@ const HALVES: &[u8] = b"(declare-const Int Type)
 
 fn is_right_behind_halves(alloc: Global, row: Refusal<'_>) -> Result<bool, AllocError> {
     let (command, line) = row;
-    let proof = joined(alloc, HALVES, command)?;
+    let proof = join_texts(alloc, HALVES, command)?;
     refuses(alloc, &proof, line)
 }
 

@@ -1,4 +1,4 @@
-//! Rules and steps, behind the suite's signature.
+//! Rules and steps, after the suite's signature.
 use super::suite::{ACCEPTED, OPEN, Row, begins, other_start};
 use super::{ASSERTS_FALSE, CORRECT, assert_none, assert_right, wrong};
 use eo_base::Status;

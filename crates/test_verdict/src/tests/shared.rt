@@ -1,5 +1,5 @@
 //! Proofs that are long, or whose terms are small only because their parts are shared: as trees they
-//! have more than 2^60 parts. Each is answered at once, accepted, and refutes nothing.
+//! have more than 2^60 parts. Each is returned at once, accepted, and refutes nothing.
 use super::{assert_none, refuses};
 use std::alloc::{AllocError, Global};
 use test_runs::{Long, first_wrong, long_text};

@@ -1,10 +1,10 @@
-//! A signature of propositional rules, and what is printed of commands behind it.
+//! A signature of propositional rules, and what is printed of commands after it.
 use super::{ASSERTS_TRUE, does};
 use eo_cpc::suite;
 use std::alloc::{AllocError, Global};
-use test_runs::{File, Want, first_wrong, honest_does, joined};
+use test_runs::{File, Want, first_wrong, honest_does, join_texts};
 
-/// Commands behind the suite, and how the line begins that is printed.
+/// Commands after the suite, and how the line begins that is printed.
 pub(crate) type Row<'a> = (&'a [u8], &'a [u8]);
 
 const FORMULAS: &[u8] = b"(declare-const p Bool)(declare-const q Bool)(declare-const r Bool)\n";
@@ -20,8 +20,8 @@ pub(crate) const OPEN: &[u8] = b"refused F40 ScopeOpen ";
 
 // The suite's signature and three formulas, and then these commands.
 fn behind_suite(alloc: Global, commands: &[u8]) -> Result<Vec<u8>, AllocError> {
-    let formulas = joined(alloc, FORMULAS, commands)?;
-    joined(alloc, suite(), &formulas)
+    let formulas = join_texts(alloc, FORMULAS, commands)?;
+    join_texts(alloc, suite(), &formulas)
 }
 
 // With all of them in the proof.
@@ -52,8 +52,8 @@ fn check_begins(alloc: Global, commands: &[u8], start: &[u8]) -> Result<bool, Al
     check_does(alloc, suite(), REFERENCE, commands, &Want::Begins(start))
 }
 
-/// Whether the line that is printed begins so for these commands behind the suite and the formulas,
-/// both where these stand in the proof and where they stand in files of their own.
+/// Whether the line that is printed begins so for these commands after the suite and the formulas,
+/// both where these are in the proof and where they are in files of their own.
 pub(crate) fn begins(alloc: Global, row: Row<'_>) -> Result<bool, AllocError> {
     let (commands, start) = row;
     let in_proof = proof_begins(alloc, commands, start)?;

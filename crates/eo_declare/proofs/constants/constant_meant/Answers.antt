@@ -13,7 +13,7 @@ returns-in_err-id-clause-gives c = fails _ _ _ _ _ _ _ c.from_residual.ensures.1
 
 pub returns-in-Con-clause-gives : goal.returns-in-Con-clause-gives
 returns-in-Con-clause-gives c =
-    let t = c.term_at.new.table in
+    let t = c.elaborate_in.new.table in
     record {
       live = tt;
       is = then-ok constant_number _ _ c.in_ok-id.ensures.gives.is ∙ ap constant_number (sym c.node.ensures.tree ∙ ap (λ n. tree_of t.trees t.texts n (arguments_of (tree_in t c.in_ok-id.id))) c.in-Con.is);
@@ -21,6 +21,6 @@ returns-in-Con-clause-gives c =
 
 pub returns-in_default-clause-gives : goal.returns-in_default-clause-gives
 returns-in_default-clause-gives c =
-    let t = c.term_at.new.table in
+    let t = c.elaborate_in.new.table in
     then-ok constant_number _ _ c.in_ok-id.ensures.gives.is ∙ ap constant_number (sym c.node.ensures.tree)
     ∙ other_number t.trees t.texts c.node.result (arguments_of (tree_in t c.in_ok-id.id)) c.in_default.not-Con

@@ -9,25 +9,25 @@ use Rattle.eo_declare.proofs.CheckedLemmas.{require-yes, require-no}
 use Rattle.eo_declare.proofs.Giving.{may_repeat}
 use Rattle.eo_declare.proofs.declaring.sort.Goals as goal
 
-pub returns-then-not-may_declare-clause-gives : goal.returns-then-not-may_declare-clause-gives
+pub returns-then-not-may_name_constant-clause-gives : goal.returns-then-not-may_name_constant-clause-gives
 unfolding declared_sort
-returns-then-not-may_declare-clause-gives c = require-no _ Redeclared _ (sym (c.may_declare.ensures c.args.table.now.trees) ∙ c.if-not-may_declare.true)
+returns-then-not-may_name_constant-clause-gives c = require-no _ Redeclared _ (sym (c.may_name_constant.ensures c.args.table.now.trees) ∙ c.if-not-may_name_constant.true)
 
 pub returns-clause-gives : goal.returns-clause-gives
 unfolding declared_sort
 returns-clause-gives c =
     let t = c.args.table.now in
     let k = c.args.sig.now in
-    let link = require-yes _ Redeclared _ (sym (c.may_declare.ensures t.trees) ∙ c.if-not-may_declare.false) ∙ ap (λ u. plain_constant (context_at t k c.args.setting) c.args.name.now u Plain) (sym c.in_ok-ty.ensures.makes.tree) in
+    let link = require-yes _ Redeclared _ (sym (c.may_name_constant.ensures t.trees) ∙ c.if-not-may_name_constant.false) ∙ ap (λ u. plain_constant (context_at t k c.args.file_kind) c.args.name.now u Plain) (sym c.in_ok-ty.ensures.makes.tree) in
     subst (GivesConstant c.sort_type.new.table c.plain_constant.result) (sym link) (c.plain_constant.ensures.gives t k)
 
 pub returns-clause-may : goal.returns-clause-may
 returns-clause-may c =
     let t = c.args.table.now in
-    may_repeat (context_in t c.args.sig.now) c.sort_type.new.table.trees c.args.name.now c.plain_constant.result (sym (c.may_declare.ensures t.trees) ∙ c.if-not-may_declare.false) c.plain_constant.ensures.sound c.plain_constant.ensures.name
+    may_repeat (context_in t c.args.sig.now) c.sort_type.new.table.trees c.args.name.now c.plain_constant.result (sym (c.may_name_constant.ensures t.trees) ∙ c.if-not-may_name_constant.false) c.plain_constant.ensures.sound c.plain_constant.ensures.name
 
-pub returns-then-not-may_declare-clause-grows : goal.returns-then-not-may_declare-clause-grows
-returns-then-not-may_declare-clause-grows c = c.laws.ensures c.args.table.now c.args.table.now c.requires (grows_refl c.args.table.now)
+pub returns-then-not-may_name_constant-clause-grows : goal.returns-then-not-may_name_constant-clause-grows
+returns-then-not-may_name_constant-clause-grows c = c.laws.ensures c.args.table.now c.args.table.now c.requires (grows_refl c.args.table.now)
 
 pub returns-in_err-ty-clause-grows : goal.returns-in_err-ty-clause-grows
 returns-in_err-ty-clause-grows c = c.laws.ensures c.args.table.now c.sort_type.new.table c.requires c.in_err-ty.ensures.grows

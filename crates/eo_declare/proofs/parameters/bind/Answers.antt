@@ -18,8 +18,8 @@ returns-in_err-read-clause-gives c =
     let b = read_bound l.table.trees l.bound in
     let p = shapes.read_parameter c.in-Some.shape in
     let rest = c.next.new.self in
-    let same = same_context_at c.args.setting c.args.sig.now c.args.table.now l.table c.laws.ensures c.requires.ready l.invariant.grows in
-    let step = l.invariant.left ∙ ap (bind (context_at c.args.table.now c.args.sig.now c.args.setting) b) c.in-Some.ensures.steps in
+    let same = same_context_at c.args.file_kind c.args.sig.now c.args.table.now l.table c.laws.ensures c.requires.ready l.invariant.grows in
+    let step = l.invariant.left ∙ ap (bind (context_at c.args.table.now c.args.sig.now c.args.file_kind) b) c.in-Some.ensures.steps in
     fails _ _ _ _ _ _ _ c.from_residual-in_err-read.ensures.1 (λ f e. step ∙ ap (λ y. bind y b (p ∷ rest)) (sym same) ∙ e) (c.in_err-read.ensures.reads rest)
 
 pub loop-shape-preserved : goal.loop-shape-preserved
@@ -28,8 +28,8 @@ loop-shape-preserved c =
     let b = read_bound l.table.trees l.bound in
     let p = shapes.read_parameter c.in-Some.shape in
     let rest = c.next.new.self in
-    let same = same_context_at c.args.setting c.args.sig.now c.args.table.now l.table c.laws.ensures c.requires.ready l.invariant.grows in
-    let step = l.invariant.left ∙ ap (bind (context_at c.args.table.now c.args.sig.now c.args.setting) b) c.in-Some.ensures.steps in
+    let same = same_context_at c.args.file_kind c.args.sig.now c.args.table.now l.table c.laws.ensures c.requires.ready l.invariant.grows in
+    let step = l.invariant.left ∙ ap (bind (context_at c.args.table.now c.args.sig.now c.args.file_kind) b) c.in-Some.ensures.steps in
     let first = ap length c.in-Some.ensures.steps in
     record {
       left = step ∙ ap (λ y. bind y b (p ∷ rest)) (sym same) ∙ c.in_ok-read.ensures.reads.binds rest ∙ ap (λ y. bind y (read_bound c.read.new.table.trees c.read.new.self) rest) same;
@@ -48,7 +48,7 @@ loop-shape-init c =
     let none = ap length params in
     let whole = ap length all in
     record {
-      left = λ i. bind (context_at t c.args.sig.now c.args.setting) (record { parameters = map (read_parameter t.trees) (sym params i); locals = read_locals t.trees (sym locals i) }) (sym all i);
+      left = λ i. bind (context_at t c.args.sig.now c.args.file_kind) (record { parameters = map (read_parameter t.trees) (sym params i); locals = read_locals t.trees (sym locals i) }) (sym all i);
       live = record {
         params = subst (All (λ (p : Param). p.ty < length t.trees)) (sym params) (All-nil (λ (p : Param). p.ty < length t.trees));
         ready = none_ready c.args.sig.now (length t.trees) b.locals locals c.requires.ready;
@@ -71,7 +71,7 @@ returns-in_err-read-clause-grows c = grows_on c.args.table.now c.loop-shape.tabl
 pub returns-clause-gives : goal.returns-clause-gives
 returns-clause-gives c =
     let l = c.loop-shape in
-    record { live = l.invariant.live; is = l.invariant.left ∙ ap (bind (context_at c.args.table.now c.args.sig.now c.args.setting) (read_bound l.table.trees l.bound)) c.in-None.ensures.steps.0 }
+    record { live = l.invariant.live; is = l.invariant.left ∙ ap (bind (context_at c.args.table.now c.args.sig.now c.args.file_kind) (read_bound l.table.trees l.bound)) c.in-None.ensures.steps.0 }
 
 pub returns-clause-count : goal.returns-clause-count
 returns-clause-count c =

@@ -9,7 +9,7 @@ use Rattle.eo_declare.specs.Declaring.{read_bound}
 use Rattle.eo_declare.specs.Gives.{GivesMacro}
 use Rattle.eo_elab.specs.Worlds.{context_in}
 use Rattle.eo_declare.specs.Worlds.{reference_context}
-use Rattle.eo_names.specs.declared.scope.Setting.TheVariants as settings
+use Rattle.eo_names.specs.declared.scope.FileKind.TheVariants as settings
 use Rattle.eo_declare.proofs.CheckedLemmas.{require-no}
 use Rattle.eo_declare.proofs.ReferenceLemmas.{fun-many, fun-unbound, fun-bound}
 use Rattle.eo_declare.proofs.Giving.{same_context_at}

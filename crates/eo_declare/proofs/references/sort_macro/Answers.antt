@@ -10,7 +10,7 @@ use Rattle.eo_declare.specs.Declaring.{read_bound}
 use Rattle.eo_elab.specs.Meaning.{meaning}
 use Rattle.eo_elab.specs.Worlds.{context_in}
 use Rattle.eo_declare.specs.Worlds.{reference_context}
-use Rattle.eo_names.specs.declared.scope.Setting.TheVariants as settings
+use Rattle.eo_names.specs.declared.scope.FileKind.TheVariants as settings
 use Rattle.eo_declare.proofs.BoundLemmas.{parameters-grown, parameters-more}
 use Rattle.eo_declare.proofs.CheckedLemmas.{require-no}
 use Rattle.eo_declare.proofs.ReferenceLemmas.{sort-many, sort-unbound, sort-no-type, sort-whole}
@@ -34,8 +34,8 @@ returns-in_err-bound-clause-gives c =
     fails _ _ _ _ _ _ _ c.from_residual.ensures.1
     (sort-unbound (reference_context t c.args.sig.now) c.args.name.now c.args.params.now c.args.ty.now (sym (c.may_declare.ensures t.trees) ∙ c.if-not-may_declare.false) few) c.in_err-bound.ensures.gives
 
-pub term_at-requires : goal.term_at-requires
-term_at-requires c =
+pub elaborate_in-requires : goal.elaborate_in-requires
+elaborate_in-requires c =
     record { ready = record { below = (c.laws.ensures c.args.table.now c.bind_types.new.table c.requires c.in_ok-bound.ensures.grows).stays.below; names = c.in_ok-bound.ensures.gives.live.locals } }
 
 pub returns-in_err-tree-clause-gives : goal.returns-in_err-tree-clause-gives
@@ -53,7 +53,7 @@ pub returns-clause-gives : goal.returns-clause-gives
 returns-clause-gives c =
     let t = c.args.table.now in
     let us = c.bind_types.new.table in
-    let vs = c.term_at.new.table in
+    let vs = c.elaborate_in.new.table in
     let x = reference_context t c.args.sig.now in
     let few : length c.args.params.now ≤ parameters_limit = omega (arith, c.len.ensures, c.if-len-gt-PARAMETERS.false) in
     let bound = c.in_ok-bound.bound in
@@ -86,12 +86,12 @@ returns-in_err-bound-clause-grows c = c.laws.ensures c.args.table.now c.bind_typ
 
 pub returns-in_err-tree-clause-grows : goal.returns-in_err-tree-clause-grows
 returns-in_err-tree-clause-grows c =
-    c.laws.ensures c.args.table.now c.term_at.new.table c.requires (grows_on c.args.table.now c.bind_types.new.table c.term_at.new.table c.in_ok-bound.ensures.grows c.in_err-tree.ensures.grows)
+    c.laws.ensures c.args.table.now c.elaborate_in.new.table c.requires (grows_on c.args.table.now c.bind_types.new.table c.elaborate_in.new.table c.in_ok-bound.ensures.grows c.in_err-tree.ensures.grows)
 
 pub returns-in_err-new-clause-grows : goal.returns-in_err-new-clause-grows
 returns-in_err-new-clause-grows c =
-    c.laws.ensures c.args.table.now c.term_at.new.table c.requires (grows_on c.args.table.now c.bind_types.new.table c.term_at.new.table c.in_ok-bound.ensures.grows c.in_ok-tree.ensures.grows)
+    c.laws.ensures c.args.table.now c.elaborate_in.new.table c.requires (grows_on c.args.table.now c.bind_types.new.table c.elaborate_in.new.table c.in_ok-bound.ensures.grows c.in_ok-tree.ensures.grows)
 
 pub returns-clause-grows : goal.returns-clause-grows
 returns-clause-grows c =
-    c.laws.ensures c.args.table.now c.term_at.new.table c.requires (grows_on c.args.table.now c.bind_types.new.table c.term_at.new.table c.in_ok-bound.ensures.grows c.in_ok-tree.ensures.grows)
+    c.laws.ensures c.args.table.now c.elaborate_in.new.table c.requires (grows_on c.args.table.now c.bind_types.new.table c.elaborate_in.new.table c.in_ok-bound.ensures.grows c.in_ok-tree.ensures.grows)

@@ -8,7 +8,7 @@ use Rattle.eo_elab.specs.Worlds.{atom_in, place}
 use Rattle.eo_elab.proofs.atoms.symbol.Goals as goal
 
 pub term_of-requires : goal.term_of-requires
-term_of-requires c = c.name_meant.ensures.live (length c.args.table.now.trees) c.requires
+term_of-requires c = c.resolve_name.ensures.live (length c.args.table.now.trees) c.requires
 
 pub returns-in-Name-clause-gives : goal.returns-in-Name-clause-gives
 unfolding atom
@@ -17,8 +17,8 @@ returns-in-Name-clause-gives c =
     let k = c.args.sig.now in
     let w = place t k c.args.scope.now in
     let m = meant w.names w.locals c.args.name.now in
-    let alone : atom_in w kinds.Symbol c.args.name.now ≡ tree_alone (read_meant t.trees k c.name_meant.result) =
-    ap (λ v. word_alone v m) (sym c.in-Name.ensures) ∙ ap tree_alone (sym (c.name_meant.ensures.value t.trees)) in
+    let alone : atom_in w kinds.Symbol c.args.name.now ≡ tree_alone (read_meant t.trees k c.resolve_name.result) =
+    ap (λ v. word_alone v m) (sym c.in-Name.ensures) ∙ ap tree_alone (sym (c.resolve_name.ensures.value t.trees)) in
     subst (GivesTree c.term_of.new.table c.term_of.result) (sym alone) c.term_of.ensures.gives
 
 pub returns-in-Underscore-clause-gives : goal.returns-in-Underscore-clause-gives

@@ -3,7 +3,7 @@ use Rattle.std.specs.List.{suffix_len}
 use Rattle.eo_io.specs.Paths.{is_slash}
 use Rattle.eo_io.proofs.folding.folder_len.Given as goal
 
--- the bytes behind `end` are no slashes
+-- the bytes after `end` are no slashes
 abbrev pub invariant-loop-end : goal.invariant-loop-end
 invariant-loop-end l =
     (l.end ≤ length l.path)

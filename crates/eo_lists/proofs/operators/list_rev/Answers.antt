@@ -9,8 +9,8 @@ use Rattle.eo_lists.specs.Parts.{AreItems, Reads, onto}
 use Rattle.eo_lists.proofs.Building.{fold_reverse}
 use Rattle.eo_lists.proofs.operators.list_rev.Goals as goal
 
-pub returns-clause-gives : goal.returns-clause-gives
-returns-clause-gives c =
+pub returns : goal.returns
+returns c =
     let t = c.args.table.now in
     let new = c.build_reversed-made.new.table in
     let f : Tree = tree_at t.trees c.args.form.now.fun in
@@ -19,5 +19,8 @@ returns-clause-gives c =
     let r : AreItems t c.args.form.now c.args.list c.in-Some.found = subst (Reads t c.args.form.now c.args.list) c.in-Some.is c.in_ok-found.ensures in
     let made : Builds new c.build_reversed-made.result (fold (onto f) n xs) =
     subst (λ (is : List ℕ). Builds new c.build_reversed-made.result (fold (onto f) n (map (tree_at t.trees) is))) c.as_slice.ensures c.build_reversed-made.ensures.gives in
-    subst (GivesList new c.answer.result) (sym (ap (option_and_then (λ zs. Some (spell f n (reverse zs)))) r.items ∙ ap Some (sym (fold_reverse f n xs))))
-    (c.answer.ensures new (fold (onto f) n xs) made)
+    record {
+      gives = subst (GivesList new c.answer.result) (sym (ap (option_and_then (λ zs. Some (spell f n (reverse zs)))) r.items ∙ ap Some (sym (fold_reverse f n xs))))
+          (c.answer.ensures new (fold (onto f) n xs) made);
+      grows = c.build_reversed-made.ensures.grows;
+    }

@@ -3,4 +3,4 @@ use Rattle.clap.specs.Words.{Rule, rule_of}
 use Rattle.eo_main.proofs.words.required_valued.Goals as goal
 
 pub returns-clause-rule : goal.returns-clause-rule
-returns-clause-rule c = ap rule_of c.required.ensures ∙ ap (λ (r : Rule). record r { required = true }) c.valued.ensures.rule
+returns-clause-rule c = ap rule_of c.required.ensures ∙ ap (λ (r : Rule). record r { required = true }) c.value_option.ensures.rule

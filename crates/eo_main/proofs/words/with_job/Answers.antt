@@ -13,12 +13,12 @@ returns c =
     let second = IfOk-at_ok _ c.in_ok-referring.ensures.called c.arg-referring.ensures in
     let third = IfOk-at_ok _ c.in_ok-closing.ensures.called c.arg-closing.ensures in
     let fourth = IfOk-at_ok _ c.in_ok-job.ensures.called c.arg-whole.ensures in
-    let begun_local = first.globals ∙ ap₂ or c.new.ensures.local c.valued.ensures.local in
-    let referring_local = second.globals ∙ ap₂ or begun_local c.valued-2.ensures.local in
+    let begun_local = first.globals ∙ ap₂ or c.new.ensures.local c.value_option.ensures.local in
+    let referring_local = second.globals ∙ ap₂ or begun_local c.value_option-2.ensures.local in
     let closing_local = third.globals ∙ ap₂ or referring_local c.flag.ensures.local in
     let local = fourth.globals ∙ ap₂ or closing_local c.positional.ensures.local in
-    let begun_is = first.shape c.valued.ensures.local ∙ ap₂ with_rule c.new.ensures.app c.valued.ensures.rule in
-    let referring_is = second.shape c.valued-2.ensures.local ∙ ap₂ with_rule begun_is c.valued-2.ensures.rule in
+    let begun_is = first.shape c.value_option.ensures.local ∙ ap₂ with_rule c.new.ensures.app c.value_option.ensures.rule in
+    let referring_is = second.shape c.value_option-2.ensures.local ∙ ap₂ with_rule begun_is c.value_option-2.ensures.rule in
     let closing_is = third.shape c.flag.ensures.local ∙ ap₂ with_rule referring_is c.flag.ensures.rule in
     let job_is : app_of c.in_ok-job.job ≡ line.taking_job c.args.name.now = fourth.shape c.positional.ensures.local ∙ ap₂ with_rule closing_is c.positional.ensures.rule in
     IfOk-weaker c.subcommand.result _ _ (λ m h. h.shape local

@@ -5,7 +5,7 @@ use Rattle.eo_term.specs.Growth.{trees_in}
 use Rattle.eo_names.specs.Binders.{variables_of}
 use Rattle.eo_names.specs.Folding.{attribute_at, least}
 use Rattle.eo_names.specs.Gives.{GivesTerm}
-use Rattle.eo_names.specs.Readers.{with_labels}
+use Rattle.eo_names.specs.Readers.{with_named_terms}
 use Rattle.eo_names.specs.Scopes.{bound_in}
 use Rattle.eo_names.specs.Worlds.{world, folded_in, bound_list_in, seen_in}
 use Rattle.eo_names.proofs.BinderLemmas.{list_few, list_tall, seen_list, length_pairs}
@@ -55,6 +55,6 @@ returns-clause-gives c =
     let same : v ≡ w = (c.names_law.ensures.stays c.args.sig.now (bound_in c.args.scope.now) c.args.table.now next c.requires.ready c.make_variables.ensures.grows).world in
     let given = trees_in next c.as_slice.result.now in
     let args : given ≡ variables_of ps = ap (trees_in next) c.as_slice.ensures ∙ c.in_ok-make_variables.ensures.makes.trees in
-    let step : bound_list_in w collector ps ≡ with_labels [] (folded_in v collector given) =
-    seen_list w.names.signature w.locals collector ps ∙ ap (with_labels []) (sym (λ i. folded_in (same i) collector (args i))) in
+    let step : bound_list_in w collector ps ≡ with_named_terms [] (folded_in v collector given) =
+    seen_list w.names.signature w.locals collector ps ∙ ap (with_named_terms []) (sym (λ i. folded_in (same i) collector (args i))) in
     subst (GivesTerm c.fold_constant.new.table c.fold_constant.result) (sym step) (labelled c.fold_constant.new.table c.fold_constant.result (folded_in v collector given) c.fold_constant.ensures.gives)

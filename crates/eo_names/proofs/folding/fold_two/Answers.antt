@@ -2,16 +2,15 @@ use Rattle.std.proofs.Common.{◌≡◌, ◌≤◌, length, Ok, ap, sym, subst, 
 use Rattle.std.proofs.lemmas.List.{length-map}
 use Rattle.eo_base.proofs.Answering.{gives_fault}
 use Rattle.eo_base.specs.Limits.{height_limit}
-use Rattle.eo_term.proofs.Growing.{grows_on}
 use Rattle.eo_term.specs.Growth.{trees_in, tree_in}
 use Rattle.eo_term.specs.Terms.{tree_at}
-use Rattle.eo_term.specs.Tree.{Tree, Con, is_tall}
+use Rattle.eo_term.specs.Tree.{Con, is_tall}
 use Rattle.eo_sig.specs.Reading.{read_attribute}
 use Rattle.eo_names.specs.Contexts.{is_list}
 use Rattle.eo_names.specs.Folding.{attribute_at}
 use Rattle.eo_names.specs.Grouped.{grouped, if_low}
 use Rattle.eo_names.specs.Scopes.{bound_in}
-use Rattle.eo_names.specs.Worlds.{world, grouped_in}
+use Rattle.eo_names.specs.Worlds.{world}
 use Rattle.eo_names.proofs.FoldSteps.{two_folded, low_term}
 use Rattle.eo_names.proofs.FoldTall.{too_tall}
 use Rattle.eo_names.proofs.Giving.{tall_told}

@@ -10,7 +10,7 @@ use Rattle.eo_pattern.proofs.matching.match_roots.Goals as goal
 
 pub match_par-requires-clause-room : goal.match_par-requires-clause-room
 match_par-requires-clause-room c =
-    c.requires.pair.room c.in-Par.i (ap (occurs c.in-Par.i) c.in-Par.ensures ∙ (Decides-eqb c.in-Par.i c.in-Par.i).1 refl)
+    c.requires.given.pair.room c.in-Par.i (ap (occurs c.in-Par.i) c.in-Par.ensures ∙ (Decides-eqb c.in-Par.i c.in-Par.i).1 refl)
 
 pub push-requires : goal.push-requires
 push-requires c = let l = room_inside _ _ _ _ c.requires.room (height_some _) c.in-One.ensures.part.lower in omega (arith, l)
@@ -38,14 +38,14 @@ returns-in-Par-clause-yes c = λ y.
     done_becomes 1 _ _ _ _ _ (leads_here _ _ _ _ m) m.extends (omega (arith, some))
 
 pub returns-in-One-clause-yes : goal.returns-in-One-clause-yes
-returns-in-One-clause-yes c = λ _. one_becomes _ _ _ _ _ _ _ _ c.requires.pair c.in-One.ensures c.push.ensures.tasks c.push.ensures.room c.requires.room
+returns-in-One-clause-yes c = λ _. one_becomes _ _ _ _ _ _ _ _ c.requires.given.pair c.in-One.ensures c.push.ensures.tasks c.push.ensures.room c.requires.room
 
 pub returns-in-Two-clause-yes : goal.returns-in-Two-clause-yes
 returns-in-Two-clause-yes c = λ _.
-    two_becomes _ _ _ _ _ _ _ _ _ _ c.requires.pair c.in-Two.ensures (c.push-in-Two-2.ensures.tasks ∙ ap (λ ws. task.Pair c.in-Two.p c.in-Two.t ∷ ws) c.push-in-Two.ensures.tasks) (c.push-in-Two-2.ensures.room ∙ c.push-in-Two.ensures.room) c.requires.room
+    two_becomes _ _ _ _ _ _ _ _ _ _ c.requires.given.pair c.in-Two.ensures (c.push-in-Two-2.ensures.tasks ∙ ap (λ ws. task.Pair c.in-Two.p c.in-Two.t ∷ ws) c.push-in-Two.ensures.tasks) (c.push-in-Two-2.ensures.room ∙ c.push-in-Two.ensures.room) c.requires.room
 
 pub returns-in-Args-clause-yes : goal.returns-in-Args-clause-yes
-returns-in-Args-clause-yes c = λ _. args_become _ _ _ _ _ _ _ c.requires.pair c.in-Args.ensures c.push-in-Args.ensures.tasks c.push-in-Args.ensures.room c.requires.room
+returns-in-Args-clause-yes c = λ _. args_become _ _ _ _ _ _ _ c.requires.given.pair c.in-Args.ensures c.push-in-Args.ensures.tasks c.push-in-Args.ensures.room c.requires.room
 
 pub push-requires-in-Args : goal.push-requires-in-Args
 push-requires-in-Args c = omega (arith, c.in-Args.ensures.tall, c.requires.room)

@@ -26,9 +26,9 @@ loop-task-preserved c = record {
 
 pub loop-task-init : goal.loop-task-init
 loop-task-init c = record {
-  left = begin_left _ _ _ _ _ c.requires.pair c.begin.ensures.tasks (omega (arith, c.requires.tasks, c.begin.ensures.room));
+  left = begin_left _ _ _ _ _ c.requires.given.pair c.begin.ensures.tasks (omega (arith, c.requires.tasks, c.begin.ensures.room));
   matched = c.requires.matched;
-  kept = record { room = refl; height = refl; below = c.requires.below };
+  kept = record { room = refl; height = refl; below = c.requires.given.below };
   room = c.begin.ensures.room;
 }
 

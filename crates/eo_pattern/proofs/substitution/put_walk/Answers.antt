@@ -12,16 +12,17 @@ use Rattle.eo_term.proofs.Growing.{grows_refl, grows_on}
 use Rattle.eo_pattern.proofs.Making.{tall_exit}
 use Rattle.eo_pattern.proofs.substitution.put_walk.Goals as goal
 
-pub put_node-requires-clause-live : goal.put_node-requires-clause-live
-put_node-requires-clause-live c =
+pub put_node-requires : goal.put_node-requires
+put_node-requires c =
     let i = c.loop-made.invariant in
     let walks = c.walk_law.ensures (length c.args.table.now.trees) c.args.walk.now.top in
-    omega (arith, walks.live c.loop-made.walk i.begun, c.top.ensures, i.grows.now.more_trees)
-
-pub put_node-requires-clause-memo : goal.put_node-requires-clause-memo
-put_node-requires-clause-memo c =
     let ts = c.loop-made.table.trees in
-    subst (TellsOnly (IsPut (held ts c.args.subst.now) ts)) (sym c.memo.ensures) c.loop-made.invariant.memo
+    record {
+      live = omega (arith, walks.live c.loop-made.walk i.begun, c.top.ensures, i.grows.now.more_trees);
+      below = (holds_grown c.args.subst.now c.args.table.now c.loop-made.table c.requires.below c.loop-made.invariant.grows.now).below;
+      assigned = c.requires.assigned;
+      memo = subst (TellsOnly (IsPut (held ts c.args.subst.now) ts)) (sym c.memo.ensures) c.loop-made.invariant.memo;
+    }
 
 pub returns-in_err-made-clause-tall : goal.returns-in_err-made-clause-tall
 returns-in_err-made-clause-tall c =
@@ -96,9 +97,6 @@ loop-made-init c =
       memo = λ k v e. absurd (none-some v (sym (c.requires.told k) ∙ e));
       grows = grows_refl c.args.table.now;
     }
-
-pub put_node-requires-clause-below : goal.put_node-requires-clause-below
-put_node-requires-clause-below c = (holds_grown c.args.subst.now c.args.table.now c.loop-made.table c.requires.below c.loop-made.invariant.grows.now).below
 
 pub returns-in_err-made-clause-grows : goal.returns-in_err-made-clause-grows
 returns-in_err-made-clause-grows c = grows_on c.args.table.now c.loop-made.table c.put_node.new.table c.loop-made.invariant.grows c.put_node.ensures.grows

@@ -53,16 +53,18 @@ value_of-requires c =
       };
     }
 
-pub returns-in_err-id-clause-fits : goal.returns-in_err-id-clause-fits
-returns-in_err-id-clause-fits c =
-    fits_same (c.laws-2.ensures.grown c.args.sig.now c.args.table.now c.put_conclusion.new.table c.in_err-id.ensures.grows.now c.requires.serves.fit)
+pub returns-in_err-id-clause-extends : goal.returns-in_err-id-clause-extends
+returns-in_err-id-clause-extends c =
+    record {
+      fits = fits_same (c.laws-2.ensures.grown c.args.sig.now c.args.table.now c.put_conclusion.new.table c.in_err-id.ensures.grows.now c.requires.serves.fit);
+      grows = c.laws.ensures c.args.table.now c.put_conclusion.new.table c.requires.serves.fit.below c.in_err-id.ensures.grows;
+    }
 
-pub returns-in_err-id-clause-grows : goal.returns-in_err-id-clause-grows
-returns-in_err-id-clause-grows c =
-    c.laws.ensures c.args.table.now c.put_conclusion.new.table c.requires.serves.fit.below c.in_err-id.ensures.grows
-
-pub returns-clause-grows : goal.returns-clause-grows
-returns-clause-grows c =
+pub returns-clause-extends : goal.returns-clause-extends
+returns-clause-extends c =
     let t = c.args.table.now in
     let mid = c.put_conclusion.new.table in
-    grows_under_on c.args.sig.now t mid c.value_of.new.table (c.laws.ensures t mid c.requires.serves.fit.below c.in_ok-id.ensures.grows) c.value_of.ensures.grows
+    record {
+      fits = c.value_of.ensures.extends.fits;
+      grows = grows_under_on c.args.sig.now t mid c.value_of.new.table (c.laws.ensures t mid c.requires.serves.fit.below c.in_ok-id.ensures.grows) c.value_of.ensures.extends.grows;
+    }

@@ -21,8 +21,7 @@ loop-left-init c =
     record {
       within = omega arith;
       below = c.requires.below;
-      fits = fits_same c.requires.fit;
-      grows = c.laws.ensures t t c.requires.fit.below (c.table_law.ensures.same t);
+      extends = record { fits = fits_same c.requires.fit; grows = c.laws.ensures t t c.requires.fit.below (c.table_law.ensures.same t) };
       checked = types-end (signature t.trees c.args.sig.now) (held t.trees c.args.subst.now) (map (read_parameter t.trees) c.args.params.now) (length c.args.params.now) (length_map (read_parameter t.trees) c.args.params.now);
     }
 
@@ -42,15 +41,17 @@ loop-left-preserved c =
     let before : check_types S σ (suc i) (drop (suc i) ps) ≡ Ok τ = (λ k. check_types S σ (next k) (drop (next k) ps)) ∙ v.checked in
     let us = c.loop-left.table.trees in
     let found = sym c.index-params-left.is in
-    let tree : tree_at us (get_or c.args.params.now i a).ty ≡ tree_at t.trees a.ty = (λ k. tree_at us (found k).ty) ∙ v.grows.table.now.tree a.ty live in
+    let tree : tree_at us (get_or c.args.params.now i a).ty ≡ tree_at t.trees a.ty = (λ k. tree_at us (found k).ty) ∙ v.extends.grows.table.now.tree a.ty live in
     let step = types-step S σ ps i (read_parameter t.trees a) τ (drop_map (read_parameter t.trees) c.args.params.now i a in_range c.index-params-left.is) before in
     let e = c.in_ok-check_parameter.ensures in
     record {
       within = omega (arith, v.within);
       below = e.gives.live;
-      fits = fits_on v.fits e.fits;
-      grows = c.laws.ensures t c.check_parameter.new.table c.requires.fit.below (c.table_law.ensures.later t c.loop-left.table c.check_parameter.new.table v.grows.table e.grows.table);
-      checked = step ∙ sym (λ k. check_type (v.grows.stays.signature k) τ (tree k) (τ i)) ∙ e.gives.is;
+      extends = record {
+        fits = fits_on v.extends.fits e.extends.fits;
+        grows = c.laws.ensures t c.check_parameter.new.table c.requires.fit.below (c.table_law.ensures.later t c.loop-left.table c.check_parameter.new.table v.extends.grows.table e.extends.grows.table);
+      };
+      checked = step ∙ sym (λ k. check_type (v.extends.grows.stays.signature k) τ (tree k) (τ i)) ∙ e.gives.is;
     }
 
 pub returns-in_err-check_parameter-clause-gives : goal.returns-in_err-check_parameter-clause-gives
@@ -69,11 +70,11 @@ returns-in_err-check_parameter-clause-gives c =
     let before : check_types S σ (suc i) (drop (suc i) ps) ≡ Ok τ = (λ k. check_types S σ (next k) (drop (next k) ps)) ∙ v.checked in
     let us = c.loop-left.table.trees in
     let found = sym c.index-params-left.is in
-    let tree : tree_at us (get_or c.args.params.now i a).ty ≡ tree_at t.trees a.ty = (λ k. tree_at us (found k).ty) ∙ v.grows.table.now.tree a.ty live in
+    let tree : tree_at us (get_or c.args.params.now i a).ty ≡ tree_at t.trees a.ty = (λ k. tree_at us (found k).ty) ∙ v.extends.grows.table.now.tree a.ty live in
     let step = types-step S σ ps i (read_parameter t.trees a) τ (drop_map (read_parameter t.trees) c.args.params.now i a in_range c.index-params-left.is) before in
     let x = c.in_err-check_parameter.field-0.0 in
     assignment_fails c.check_parameter.new.table c.check_parameter.new.subst _ (check_types S σ 0 ps) x (check_types S σ i (drop i ps)) c.from_residual.ensures.1 (types-from-start S σ i ps)
-    (subst (λ (o : Checked Assignment). Tells told x o) ((λ k. check_type (v.grows.stays.signature k) τ (tree k) (τ i)) ∙ sym step) c.in_err-check_parameter.ensures.gives)
+    (subst (λ (o : Checked Assignment). Tells told x o) ((λ k. check_type (v.extends.grows.stays.signature k) τ (tree k) (τ i)) ∙ sym step) c.in_err-check_parameter.ensures.gives)
 
 pub check_parameter-requires : goal.check_parameter-requires
 check_parameter-requires c =
@@ -83,16 +84,16 @@ check_parameter-requires c =
     let a = c.index-params-left.result in
     let in_range : i < length c.args.params.now = omega (arith, v.within, c.loop-left-test.true) in
     let live : a.ty < length ts = all_at (λ (p : Param). p.ty < length ts) c.args.params.now i a c.requires.params in_range c.index-params-left.is in
-    record { ty = omega (arith, live, v.grows.table.now.more_trees); below = v.below; fit = v.fits.fit }
+    record { ty = omega (arith, live, v.extends.grows.table.now.more_trees); below = v.below; fit = v.extends.fits.fit }
 
-pub returns-in_err-check_parameter-clause-fits : goal.returns-in_err-check_parameter-clause-fits
-returns-in_err-check_parameter-clause-fits c = fits_on c.loop-left.invariant.fits c.in_err-check_parameter.ensures.fits
-
-pub returns-in_err-check_parameter-clause-grows : goal.returns-in_err-check_parameter-clause-grows
-returns-in_err-check_parameter-clause-grows c =
+pub returns-in_err-check_parameter-clause-extends : goal.returns-in_err-check_parameter-clause-extends
+returns-in_err-check_parameter-clause-extends c =
     let t = c.args.table.now in
     let new = c.check_parameter.new.table in
-    c.laws.ensures t new c.requires.fit.below (c.table_law.ensures.later t c.loop-left.table new c.loop-left.invariant.grows.table c.in_err-check_parameter.ensures.grows.table)
+    record {
+      fits = fits_on c.loop-left.invariant.extends.fits c.in_err-check_parameter.ensures.extends.fits;
+      grows = c.laws.ensures t new c.requires.fit.below (c.table_law.ensures.later t c.loop-left.table new c.loop-left.invariant.extends.grows.table c.in_err-check_parameter.ensures.extends.grows.table);
+    }
 
 pub returns-clause-gives : goal.returns-clause-gives
 returns-clause-gives c =

@@ -1,8 +1,7 @@
 use Rattle.std.proofs.Common.{◌≡◌, ◌≤◌, Ok, length, map, drop}
-use Rattle.eo_sig.specs.Growth.{GrowsUnder}
 use Rattle.eo_sig.specs.Reading.{read_parameter, signature}
 use Rattle.eo_pattern.specs.Slots.{held, AreBelow}
-use Rattle.eo_type.specs.Known.{StillFit}
+use Rattle.eo_type.specs.Known.{Extends}
 use Rattle.eo_rule.specs.Uses.{check_types}
 use Rattle.eo_rule.proofs.typing.check_types.Given as goal
 
@@ -11,8 +10,7 @@ invariant-loop-left l = let old = l.fn.table.trees in
     record {
       within : l.left ≤ length l.params;
       below : AreBelow (length l.table.trees) l.subst;
-      fits : StillFit l.sig l.table l.fn.types l.types;
-      grows : GrowsUnder l.sig l.fn.table l.table;
+      extends : Extends l.sig l.fn.table l.fn.types l.table l.types;
       checked : check_types (signature old l.sig) (held old l.fn.subst) l.left (drop l.left (map (read_parameter old) l.params)) ≡ Ok (held l.table.trees l.subst);
     }
 

@@ -34,11 +34,11 @@ returns-in_err-expected-clause-gives c =
     let d = tree_at t.trees c.args.ty in
     let v = tree_at t.trees c.args.value in
     let mid = c.value_type.new.table in
-    let g = c.in_ok-found.ensures.grows.table.now in
+    let g = c.in_ok-found.ensures.extends.grows.table.now in
     let same : held mid.trees s ≡ σ = (c.growing_law.ensures.holds s t mid c.requires.below g).held in
     let tree : tree_at mid.trees c.args.ty ≡ d = g.tree c.args.ty c.requires.ty in
     let x = c.in_err-expected.field-0.0 in
-    assignment_fails c.settled.new.table s _ (check_value S σ d v) x (typed_or (settled (put σ d))) c.from_residual-in_err-expected.ensures.1 (value-second S σ d v _ c.in_ok-found.ensures.gives.is)
+    assignment_fails c.settle_type.new.table s _ (check_value S σ d v) x (typed_or (settled (put σ d))) c.from_residual-in_err-expected.ensures.1 (value-second S σ d v _ c.in_ok-found.ensures.gives.is)
     (subst (λ (o : Checked Tree). Tells told x o) (λ k. typed_or (settled (put (same k) (tree k)))) c.in_err-expected.ensures.gives)
 
 pub returns-clause-gives : goal.returns-clause-gives
@@ -50,8 +50,8 @@ returns-clause-gives c =
     let d = tree_at t.trees c.args.ty in
     let v = tree_at t.trees c.args.value in
     let mid = c.value_type.new.table in
-    let new = c.settled.new.table in
-    let g = c.in_ok-found.ensures.grows.table.now in
+    let new = c.settle_type.new.table in
+    let g = c.in_ok-found.ensures.extends.grows.table.now in
     let h = c.in_ok-expected.ensures.grows.now in
     let first = c.growing_law.ensures.holds s t mid c.requires.below g in
     let second = c.growing_law.ensures.holds s mid new first.below h in
@@ -64,11 +64,11 @@ returns-clause-gives c =
     c.match_list.ensures
 
 pub value_type-requires : goal.value_type-requires
-value_type-requires c = record { live = c.requires.value; fit = c.requires.fit }
+value_type-requires c = record { live = c.requires.value; fits = c.requires.fit }
 
-pub settled-requires : goal.settled-requires
-settled-requires c =
-    let g = c.in_ok-found.ensures.grows.table.now in
+pub settle_type-requires : goal.settle_type-requires
+settle_type-requires c =
+    let g = c.in_ok-found.ensures.extends.grows.table.now in
     record {
       live = omega (arith, c.requires.ty, g.more_trees);
       below = (c.growing_law.ensures.holds c.args.subst.now c.args.table.now c.value_type.new.table c.requires.below g).below;
@@ -78,44 +78,40 @@ pub match_list-requires : goal.match_list-requires
 match_list-requires c =
     let s = c.args.subst.now in
     let mid = c.value_type.new.table in
-    let new = c.settled.new.table in
+    let new = c.settle_type.new.table in
     let h = c.in_ok-expected.ensures.grows.now in
     let P : ℕ → Type 0 = λ i. i < length new.trees in
-    let first = c.growing_law.ensures.holds s c.args.table.now mid c.requires.below c.in_ok-found.ensures.grows.table.now in
+    let first = c.growing_law.ensures.holds s c.args.table.now mid c.requires.below c.in_ok-found.ensures.extends.grows.table.now in
     record {
       patterns = All-cons P c.in_ok-expected.expected [] c.in_ok-expected.ensures.gives.live (All-nil P);
       terms = All-cons P c.in_ok-found.found [] (omega (arith, c.in_ok-found.ensures.gives.live, h.more_trees)) (All-nil P);
       below = (c.growing_law.ensures.holds s mid new first.below h).below;
     }
 
-pub returns-in_err-found-clause-fits : goal.returns-in_err-found-clause-fits
-returns-in_err-found-clause-fits c = c.in_err-found.ensures.fits
+pub returns-in_err-found-clause-extends : goal.returns-in_err-found-clause-extends
+returns-in_err-found-clause-extends c =
+    record { fits = c.in_err-found.ensures.extends.fits; grows = c.in_err-found.ensures.extends.grows }
 
-pub returns-in_err-found-clause-grows : goal.returns-in_err-found-clause-grows
-returns-in_err-found-clause-grows c = c.in_err-found.ensures.grows
-
-pub returns-in_err-expected-clause-fits : goal.returns-in_err-expected-clause-fits
-returns-in_err-expected-clause-fits c =
-    let found = c.in_ok-found.ensures.fits in
-    record { fit = c.laws-2.ensures.grown c.args.sig.now c.value_type.new.table c.settled.new.table c.in_err-expected.ensures.grows.now found.fit; kept = found.kept }
-
-pub returns-in_err-expected-clause-grows : goal.returns-in_err-expected-clause-grows
-returns-in_err-expected-clause-grows c =
+pub returns-in_err-expected-clause-extends : goal.returns-in_err-expected-clause-extends
+returns-in_err-expected-clause-extends c =
+    let found = c.in_ok-found.ensures.extends.fits in
     let k = c.args.sig.now in
     let mid = c.value_type.new.table in
-    let new = c.settled.new.table in
-    let first = c.in_ok-found.ensures.grows in
-    grows_under_on k c.args.table.now mid new first (c.laws.ensures mid new first.stays.below c.in_err-expected.ensures.grows)
+    let new = c.settle_type.new.table in
+    let first = c.in_ok-found.ensures.extends.grows in
+    record {
+      fits = record { fit = c.laws-2.ensures.grown c.args.sig.now c.value_type.new.table c.settle_type.new.table c.in_err-expected.ensures.grows.now found.fit; kept = found.kept };
+      grows = grows_under_on k c.args.table.now mid new first (c.laws.ensures mid new first.stays.below c.in_err-expected.ensures.grows);
+    }
 
-pub returns-clause-fits : goal.returns-clause-fits
-returns-clause-fits c =
-    let found = c.in_ok-found.ensures.fits in
-    record { fit = c.laws-2.ensures.grown c.args.sig.now c.value_type.new.table c.settled.new.table c.in_ok-expected.ensures.grows.now found.fit; kept = found.kept }
-
-pub returns-clause-grows : goal.returns-clause-grows
-returns-clause-grows c =
+pub returns-clause-extends : goal.returns-clause-extends
+returns-clause-extends c =
+    let found = c.in_ok-found.ensures.extends.fits in
     let k = c.args.sig.now in
     let mid = c.value_type.new.table in
-    let new = c.settled.new.table in
-    let first = c.in_ok-found.ensures.grows in
-    grows_under_on k c.args.table.now mid new first (c.laws.ensures mid new first.stays.below c.in_ok-expected.ensures.grows)
+    let new = c.settle_type.new.table in
+    let first = c.in_ok-found.ensures.extends.grows in
+    record {
+      fits = record { fit = c.laws-2.ensures.grown c.args.sig.now c.value_type.new.table c.settle_type.new.table c.in_ok-expected.ensures.grows.now found.fit; kept = found.kept };
+      grows = grows_under_on k c.args.table.now mid new first (c.laws.ensures mid new first.stays.below c.in_ok-expected.ensures.grows);
+    }

@@ -2,8 +2,7 @@ use Rattle.std.proofs.Common.{sym, subst}
 use Rattle.eo_base.specs.Checks.{Checked}
 use Rattle.eo_sig.specs.Reading.{read_rule, signature}
 use Rattle.eo_term.specs.Tree.{Tree}
-use Rattle.eo_term.proofs.Growing.{grows_refl}
-use Rattle.eo_sig.proofs.Growing.{grows_under}
+use Rattle.eo_stack.proofs.Unchanged.{extends_same}
 use Rattle.eo_rule.specs.Answers.{GivesTerm}
 use Rattle.eo_rule.specs.Reading.{read_use}
 use Rattle.eo_rule.specs.Uses.{check_kind, rule_conclusion}
@@ -29,7 +28,5 @@ returns-clause-gives c =
     (sym (rule-rest S r u (c.in_ok-check_kind.ensures t.trees).is))
     c.conclude_checked.ensures.gives
 
-pub returns-in_err-check_kind-clause-grows : goal.returns-in_err-check_kind-clause-grows
-returns-in_err-check_kind-clause-grows c =
-    let t = c.args.table.now in
-    grows_under c.args.sig.now t t c.requires.serves.fit.below (grows_refl t)
+pub returns-in_err-check_kind-clause-extends : goal.returns-in_err-check_kind-clause-extends
+returns-in_err-check_kind-clause-extends c = extends_same c.requires.serves.fit

@@ -13,4 +13,4 @@ returns c =
     let called = c.check_job-checked in
     subst (λ (e : BenchEnd). AnswersBench files job called.new.paths e) (sym c.counts-end.ensures)
     (counted-answers _ files job (point c.in-Ok.run' _ c.args.paths.now) (point called.new.run called.new.observer called.new.paths) called.result c.in-Ok.ensures.is (sees-nothing _ _ c.args.paths.now tt)
-    called.ensures.verdict called.ensures.last called.ensures.kind called.ensures.cause)
+    called.ensures.verdict called.ensures.last called.ensures.end.kind called.ensures.end.cause)

@@ -4,8 +4,7 @@ use Rattle.eo_run.specs.Judging.{run_job, run_after, given}
 use Rattle.eo_run.specs.Run.{run_prelude}
 use Rattle.eo_run.specs.Progress.{point}
 use Rattle.eo_run.proofs.Jobs.{first-stops, part-answers, both-answer, both-last}
-use Rattle.eo_run.proofs.Taking.{extends-trans}
-use Rattle.eo_run.proofs.Ends.{stop-end}
+use Rattle.eo_run.proofs.Ends.{end-later, end-stops}
 use Rattle.eo_run.proofs.checking.check_after.Goals as goal
 
 pub returns-in-Err-clause-verdict : goal.returns-in-Err-clause-verdict
@@ -30,8 +29,11 @@ returns-in-Ok-clause-last g c =
     both-last g.O.Observer.tells (g.L.Library.told c.args.files.now) (λ (f : Files). run_prelude f (given c.args.prelude)) (λ (f : Files). run_job f job) _ c.in-Ok.ensures.stays.same (point c.args.run.now c.args.observer.now c.args.paths.now) (point c.check_first.new.run c.check_first.new.observer c.check_first.new.paths) (point c.check_job.new.run c.check_job.new.observer c.check_job.new.paths) tt c.in-Ok.ensures.runs
     job.proof c.check_job.result c.check_job.ensures.last
 
-pub returns-in-Ok-clause-grows : goal.returns-in-Ok-clause-grows
-returns-in-Ok-clause-grows g c = extends-trans c.args.paths.now c.check_first.new.paths c.check_job.new.paths c.check_first.ensures.grows c.check_job.ensures.grows
+pub returns-in-Ok-clause-end : goal.returns-in-Ok-clause-end
+returns-in-Ok-clause-end g c =
+    let stays = c.in-Ok.ensures.stays in
+    end-later _ _ stays.same _ _ _ stays.later c.args.paths.now c.check_first.new.paths c.check_job.new.paths c.check_job.result c.check_first.ensures.grows c.check_job.ensures.end
 
-pub returns-in-Err-clause-kind : goal.returns-in-Err-clause-kind
-returns-in-Err-clause-kind g c = stop-end c.check_first.new.paths c.in-Err.verdict c.in-Err.ensures.kind
+pub returns-in-Err-clause-end : goal.returns-in-Err-clause-end
+returns-in-Err-clause-end g c =
+    end-stops _ _ _ c.args.paths.now c.check_first.new.paths c.in-Err.verdict c.in-Err.ensures.cause c.in-Err.ensures.kind c.check_first.ensures.grows

@@ -5,8 +5,7 @@ use Rattle.eo_run.specs.Judging.{AnswersProof, before_files, run_job}
 use Rattle.eo_run.specs.Run.{run_proof}
 use Rattle.eo_run.specs.Progress.{point}
 use Rattle.eo_run.proofs.Jobs.{first-stops, part-answers, both-answer, both-last}
-use Rattle.eo_run.proofs.Taking.{extends-trans}
-use Rattle.eo_run.proofs.Ends.{stop-end}
+use Rattle.eo_run.proofs.Ends.{end-later, end-stops}
 use Rattle.eo_run.proofs.checking.check_job.Goals as goal
 
 pub returns-in-Err-clause-verdict : goal.returns-in-Err-clause-verdict
@@ -34,8 +33,11 @@ returns-in-Ok-clause-last g c =
     both-last g.O.Observer.tells (g.L.Library.told c.args.files.now) (λ (f : Files). before_files f job) (λ (f : Files). run_proof f job.proof) _ c.in-Ok.ensures.stays.same (point c.args.run.now c.args.observer.now c.args.paths.now) mid new tt c.in-Ok.ensures.runs job.proof c.check_proof.result
     (subst (λ (name : List ℕ). LeavesLast g.O.Observer.tells (g.L.Library.told c.check_before.new.files) name (λ (f : Files). run_proof f name) c.check_proof.result mid new) c.as_bytes.ensures.value c.check_proof.ensures.last)
 
-pub returns-in-Ok-clause-grows : goal.returns-in-Ok-clause-grows
-returns-in-Ok-clause-grows g c = extends-trans c.args.paths.now c.check_before.new.paths c.check_proof.new.paths c.check_before.ensures.grows c.check_proof.ensures.grows
+pub returns-in-Ok-clause-end : goal.returns-in-Ok-clause-end
+returns-in-Ok-clause-end g c =
+    let stays = c.in-Ok.ensures.stays in
+    end-later _ _ stays.same _ _ _ stays.later c.args.paths.now c.check_before.new.paths c.check_proof.new.paths c.check_proof.result c.check_before.ensures.grows c.check_proof.ensures.end
 
-pub returns-in-Err-clause-kind : goal.returns-in-Err-clause-kind
-returns-in-Err-clause-kind g c = stop-end c.check_before.new.paths c.in-Err.verdict c.in-Err.ensures.kind
+pub returns-in-Err-clause-end : goal.returns-in-Err-clause-end
+returns-in-Err-clause-end g c =
+    end-stops _ _ _ c.args.paths.now c.check_before.new.paths c.in-Err.verdict c.in-Err.ensures.cause c.in-Err.ensures.kind c.check_before.ensures.grows

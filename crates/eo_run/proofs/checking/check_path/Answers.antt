@@ -54,7 +54,7 @@ returns-in-None-clause-runs g c =
     let mid = point (record c.args.run.now { opened = c.count_opened.new.opened }) c.args.observer.now c.add.new.self in
     let new = point c.check_file.new.run c.check_file.new.observer c.check_file.new.paths in
     let paths = c.check_file.new.paths in
-    subst (λ (v : Verdict). RunsNamed g.O.Observer.tells told n (Err v) old new) (sym c.refused.ensures)
+    subst (λ (v : Verdict). RunsNamed g.O.Observer.tells told n (Err v) old new) (sym c.refusal_at.ensures)
     (path-absent g.O.Observer.tells told n s old mid new c.requires.folds c.in_file.ensures.same refl refl refl refl c.in-Ok-count_opened.ensures (λ seen sees. sees-later g.O.Observer.tells c.args.observer.now c.args.paths.now c.add.new.self seen c.in-Ok.ensures.grows sees) _
     (denotes-here paths s FileAbsent first_spot
     (numbered-later c.add.new.self paths _ c.args.path.now c.in_ok-at.ensures.keeps.table (c.in-Ok.ensures.first ∙ ap (λ (i : ℕ). Some i) (sym c.in_file.ensures.file))))
@@ -65,7 +65,7 @@ returns-in-None-clause-kind g c =
     let n = c.args.named.now in
     let s : Source = record { path = c.args.path; from = c.in_file.result; wrapped = n.wrapped; opens = n.opens } in
     let paths = c.check_file.new.paths in
-    subst (IsStop paths) (sym c.refused.ensures)
+    subst (IsStop paths) (sym c.refusal_at.ensures)
     (placed-in paths s
     (numbered-later c.add.new.self paths _ c.args.path.now c.in_ok-at.ensures.keeps.table (c.in-Ok.ensures.first ∙ ap (λ (i : ℕ). Some i) (sym c.in_file.ensures.file))))
 

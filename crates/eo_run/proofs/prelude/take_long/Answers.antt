@@ -60,7 +60,7 @@ returns-then-branch-clause-runs g c =
     let here : IsNumbered paths s = numbered-later c.args.paths.now paths (number_of s.from) s.path.now c.in_ok-take_piece.ensures.keeps.table c.requires.ready.numbered in
     let place : Denotes paths (record { name = FileLong; place = place_in s at }) (refusal_at s.path.now (here_of d) FileLong) =
     subst (λ (q : Spot). Denotes paths (record { name = FileLong; place = place_in s at }) (refusal_at s.path.now q FileLong)) (c.here.ensures taken.live) (denotes-here paths s FileLong at here) in
-    subst (λ (v : Verdict). RunsPart g.O.Observer.tells told (λ (f : Files). run_bytes f s bytes) (Err v) old new) (sym c.refused.ensures)
+    subst (λ (v : Verdict). RunsPart g.O.Observer.tells told (λ (f : Files). run_bytes f s bytes) (Err v) old new) (sym c.refusal_at.ensures)
     (long-ends g.O.Observer.tells c.pieces_law.ensures c.answers_law.ensures told s bytes c.requires.long old new d (record { name = FileLong; place = place_in s at }) taken place)
 
 pub returns-then-branch-clause-keeps : goal.returns-then-branch-clause-keeps
@@ -70,7 +70,7 @@ returns-then-branch-clause-keeps g c =
     let later = c.in_ok-take_piece.ensures.keeps.table in
     record {
       going = tt;
-      kind = subst (IsStop paths) (sym c.refused.ensures) (placed-in paths s (numbered-later c.args.paths.now paths (number_of s.from) s.path.now later c.requires.ready.numbered));
+      kind = subst (IsStop paths) (sym c.refusal_at.ensures) (placed-in paths s (numbered-later c.args.paths.now paths (number_of s.from) s.path.now later c.requires.ready.numbered));
       table = later;
     }
 

@@ -1,7 +1,11 @@
 use Rattle.eo_session.specs.Numbered.{origin_of, number_of}
 use Rattle.eo_session.proofs.Decisions.{placed_done}
-use Rattle.eo_run.proofs.Exits.{fault-steps, refused-last, shows-last, hides-last}
+use Rattle.eo_run.proofs.Exits.{fault-steps, refused-last, shows-all, shows-last, hides-last}
 use Rattle.eo_run.proofs.reading.check_command.Goals as goal
+
+pub returns-then-not-watches-clause-shows : goal.returns-then-not-watches-clause-shows
+returns-then-not-watches-clause-shows g c =
+    shows-all g.O.Observer.tells c.args.observer.now (origin_of c.args.from) (number_of c.args.from) (c.watches.ensures c.if-not-watches.true) c.args.session.now.state c.args.collector.now c.check_unseen.result
 
 pub returns-in-Err-Fault-clause-checks : goal.returns-in-Err-Fault-clause-checks
 returns-in-Err-Fault-clause-checks g c =

@@ -2,7 +2,7 @@ use Rattle.std.proofs.Common.{[], ◌∷◌, ◌++◌, refl, ap, ◌∙◌, arit
 use Rattle.std.specs.Prelude.{Option, Result, Ok}
 use Rattle.eo_sexp.specs.Collecting.{start_of}
 use Rattle.eo_session.specs.declared.Next.{Next}
-use Rattle.eo_run.specs.declared.reading.Asked.{Asked}
+use Rattle.eo_run.specs.declared.reading.FileRequest.{FileRequest}
 use Rattle.eo_run.specs.declared.reading.Stop.{Stop}
 use Rattle.eo_session.specs.Numbered.{origin_of, number_of}
 use Rattle.eo_run.specs.Reading.{at_end, ChecksEnd}
@@ -76,11 +76,11 @@ returns-in_err-next-in-Command-clause-checks g c =
     let x = c.in_err-next-in-Command.field-0.0 in
     let tells = g.O.Observer.tells in
     let file = number_of c.args.from in
-    at_exit (λ (r : Result (Option Asked) Stop). ChecksEnd from (IsShown tells c.args.observer.now c.check_command.new.observer file) r c.args.session.now.state c.check_command.new.session.state c.args.collector.now d) c.from_residual.result x c.from_residual.ensures.1
+    at_exit (λ (r : Result (Option FileRequest) Stop). ChecksEnd from (IsShown tells c.args.observer.now c.check_command.new.observer file) r c.args.session.now.state c.check_command.new.session.state c.args.collector.now d) c.from_residual.result x c.from_residual.ensures.1
     (refused-end tells c.args.observer.now c.atoms.observer c.check_command.new.observer from file i.passes i.shown c.args.session.now.state c.atoms.session.state c.check_command.new.session.state c.args.collector.now old (at_end d) k.0 i.leads (end-gives law alone from old d i.live i.waiting is e) x d (c.in_err-next-in-Command.ensures.checks k.0 k.1 k.2) (c.in_err-next-in-Command.ensures.shows k.0 k.1 k.2))
 
-pub returns-then-asks-clause-checks : goal.returns-then-asks-clause-checks
-returns-then-asks-clause-checks g c =
+pub returns-then-is_request-clause-checks : goal.returns-then-is_request-clause-checks
+returns-then-is_request-clause-checks g c =
     let from = origin_of c.args.from in
     let law = c.pieces_law.ensures in
     let alone = c.answers_law.ensures in
@@ -118,7 +118,7 @@ atoms-preserved g c =
       shown = shown-trans tells file c.args.observer.now c.atoms.observer c.check_command.new.observer i.passes ns i.shown (c.in_ok-next-in-Command.ensures.shows k.0 k.1 k.2);
       leads = on-trans from _ c.atoms.session.state new _ _ _ i.passes ns i.leads
           (on-command from c.atoms.session.state (at_end old) (at_end d) k.0 file (end-gives law alone from old d i.live i.waiting is e) new
-          (c.in_ok-next-in-Command.ensures.checks k.0 k.1 k.2 ∙ ap (λ (n : Next). Ok (new, n)) (c.asks.ensures.0 c.if-asks.false)));
+          (c.in_ok-next-in-Command.ensures.checks k.0 k.1 k.2 ∙ ap (λ (n : Next). Ok (new, n)) (c.is_request.ensures.0 c.if-is_request.false)));
       live = end-live law alone from old d i.live i.waiting is e;
       waiting = end-waiting law alone from old d i.live i.waiting is e;
       fewer = omega arith;

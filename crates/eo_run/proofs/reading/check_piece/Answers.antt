@@ -2,7 +2,7 @@ use Rattle.std.proofs.Common.{◌≡◌, ℕ, ◌+◌, ◌-◌, ◌<◌, ◌≤�
 use Rattle.std.specs.Prelude.{Option, Result, Ok}
 use Rattle.eo_sexp.specs.Collecting.{here_of, start_of}
 use Rattle.eo_session.specs.declared.Next.{Next}
-use Rattle.eo_run.specs.declared.reading.Asked.{Asked}
+use Rattle.eo_run.specs.declared.reading.FileRequest.{FileRequest}
 use Rattle.eo_run.specs.declared.reading.Stop.{Stop}
 use Rattle.eo_session.specs.Numbered.{origin_of, number_of}
 use Rattle.eo_run.specs.Reading.{LeadsOn, behind, count_of, ChecksPiece}
@@ -98,11 +98,11 @@ returns-in_err-next-in-Command-clause-checks g c =
     let x = c.in_err-next-in-Command.field-0.0 in
     let tells = g.O.Observer.tells in
     let file = number_of c.args.from in
-    at_exit (λ (r : Result (Option Asked) Stop). ChecksPiece from (IsShown tells c.args.observer.now c.check_command.new.observer file) r c.args.session.now.state c.check_command.new.session.state c.args.collector.now d c.args.piece.now) c.from_residual.result x c.from_residual.ensures.1
+    at_exit (λ (r : Result (Option FileRequest) Stop). ChecksPiece from (IsShown tells c.args.observer.now c.check_command.new.observer file) r c.args.session.now.state c.check_command.new.session.state c.args.collector.now d c.args.piece.now) c.from_residual.result x c.from_residual.ensures.1
     (refused-piece tells c.args.observer.now c.commands.observer c.check_command.new.observer from file i.passes i.shown c.args.session.now.state c.commands.session.state c.check_command.new.session.state c.args.collector.now old c.args.piece.now rest (behind d (drop u rest)) k.command i.leads (fed-gives law alone from old d i.live i.waiting rest is u e) x d (c.in_err-next-in-Command.ensures.checks k.command k.phase k.is) (c.in_err-next-in-Command.ensures.shows k.command k.phase k.is))
 
-pub returns-then-asks-clause-checks : goal.returns-then-asks-clause-checks
-returns-then-asks-clause-checks g c =
+pub returns-then-is_request-clause-checks : goal.returns-then-is_request-clause-checks
+returns-then-is_request-clause-checks g c =
     let from = origin_of c.args.from in
     let law = c.pieces_law.ensures in
     let alone = c.answers_law.ensures in
@@ -156,7 +156,7 @@ commands-preserved g c =
       shown = shown-trans tells file c.args.observer.now c.commands.observer c.check_command.new.observer i.passes ns i.shown (c.in_ok-next-in-Command.ensures.shows k.command k.phase k.is);
       leads = subst (λ (q : List ℕ). LeadsOn from c.args.session.now.state (behind first piece) (i.passes ++ ns) new (behind d q)) tail (on-trans from _ c.commands.session.state new _ _ _ i.passes ns i.leads
           (on-command from c.commands.session.state (behind old rest) (behind d (drop u rest)) k.command file (fed-gives law alone from old d i.live i.waiting rest is u e) new
-          (c.in_ok-next-in-Command.ensures.checks k.command k.phase k.is ∙ ap (λ (n : Next). Ok (new, n)) (c.asks.ensures.0 c.if-asks.false))));
+          (c.in_ok-next-in-Command.ensures.checks k.command k.phase k.is ∙ ap (λ (n : Next). Ok (new, n)) (c.is_request.ensures.0 c.if-is_request.false))));
       live = fed-live law alone from old d i.live i.waiting rest is u e;
       waiting = fed-waiting law alone from old d i.live i.waiting rest is u e;
       here = subst (λ (q : List ℕ). (here_of d).offset + length q ≤ (here_of first).offset + length piece) tail (omega arith);

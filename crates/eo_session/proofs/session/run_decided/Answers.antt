@@ -5,10 +5,10 @@ use Rattle.eo_shape.specs.Reading.{read_command}
 use Rattle.eo_session.specs.Commands.{placed_command}
 use Rattle.eo_session.specs.Deciding.{read_effect}
 use Rattle.eo_session.specs.Effects.{after}
-use Rattle.eo_session.specs.Held.{state_of}
+use Rattle.eo_session.specs.Store.{state_of}
 use Rattle.eo_session.specs.Numbered.{origin_of}
 use Rattle.eo_session.specs.State.{State}
-use Rattle.eo_session.specs.Stepping.{DoesNext}
+use Rattle.eo_session.specs.Stepping.{UpdatesNext}
 use Rattle.eo_session.specs.declared.Next.{Next}
 use Rattle.eo_session.specs.declared.refused.Refused.{Refused}
 use Rattle.eo_session.proofs.Decisions.{does-decided, does-refused}
@@ -17,29 +17,29 @@ use Rattle.eo_session.proofs.Shown.{unseen_exit}
 use Rattle.eo_session.specs.Notes.{Seen, seen_by, seen_of}
 use Rattle.eo_session.proofs.session.run_decided.Goals as goal
 
-pub returns-in_err-decided-clause-does : goal.returns-in_err-decided-clause-does
-returns-in_err-decided-clause-does g c =
-    let st = state_of c.args.held.now in
+pub returns-in_err-decided-clause-updates : goal.returns-in_err-decided-clause-updates
+returns-in_err-decided-clause-updates g c =
+    let st = state_of c.args.store.now in
     let from = origin_of c.args.from in
     let k = read_command c.args.command.now in
     let x = c.in_err-decided.field-0.0 in
-    at_exit (λ (r : Result Next Refused). DoesNext r (placed_command st from k) c.decide.new.self) c.from_residual.result x c.from_residual.ensures.1
+    at_exit (λ (r : Result Next Refused). UpdatesNext r (placed_command st from k) c.decide.new.self) c.from_residual.result x c.from_residual.ensures.1
     (refuses_on _ (placed_command st from k) x c.in_err-decided.ensures.decides (does-refused st from k))
 
-pub returns-clause-does : goal.returns-clause-does
-returns-clause-does g c =
+pub returns-clause-updates : goal.returns-clause-updates
+returns-clause-updates g c =
     let mid = c.decide.new.self in
     let told = c.in_ok-decided.ensures in
     let e = read_effect mid.table c.in_ok-decided.decided.effect in
     let what = c.in_ok-decided.decided.next in
-    does-decided (state_of c.args.held.now) (origin_of c.args.from) (read_command c.args.command.now) e what told.decides.is
+    does-decided (state_of c.args.store.now) (origin_of c.args.from) (read_command c.args.command.now) e what told.decides.is
     ∙ ap (λ (st : State). Ok (after st e, what)) (sym told.keeps.same)
     ∙ (λ i. Ok (after (sym c.in_ok-show.ensures.keeps.same i) (sym c.in_ok-show.ensures.same i), what))
-    ∙ ap (λ (st : State). Ok (st, what)) (sym c.in_ok-commit.ensures.does)
+    ∙ ap (λ (st : State). Ok (st, what)) (sym c.in_ok-commit.ensures.updates)
 
 pub returns-clause-sees : goal.returns-clause-sees
 returns-clause-sees g c =
-    let st = state_of c.args.held.now in
+    let st = state_of c.args.store.now in
     let from = origin_of c.args.from in
     let k = read_command c.args.command.now in
     let bytes = c.args.source.now.bytes.now in

@@ -23,14 +23,14 @@ returns-in_default-form_named-clause-refused c =
     let word = sym c.symbol.ensures ∙ ap option_copied c.in-Some-symbol.is in
     command_of-unknown c.args.in_reference c.args.s.now c.in-Some.head c.in-Some.parts c.in-Some-symbol.word.now parts word (sym c.form_named.ensures ∙ ap (option_map shape_by) c.in_default-form_named.is)
 
-pub returns-in-Some-shaped-clause-shape : goal.returns-in-Some-shaped-clause-shape
+pub returns-in-Some-command_by_form-clause-shape : goal.returns-in-Some-command_by_form-clause-shape
 unfolding value_or
-returns-in-Some-shaped-clause-shape c =
+returns-in-Some-command_by_form-clause-shape c =
     let parts = sym c.children.ensures ∙ split-some c.children.result c.in-Some.head c.in-Some.parts c.split_first.result c.split_first.ensures c.in-Some.is in
     let word = sym c.symbol.ensures ∙ ap option_copied c.in-Some-symbol.is in
     let form = sym c.form_named.ensures ∙ ap (option_map shape_by) c.in-Some-form_named.is in
     command_of-known c.args.in_reference c.args.s.now c.in-Some.head c.in-Some.parts c.in-Some-symbol.word.now (shape_by c.in-Some-form_named.form) parts word form
-    ∙ ap (value_or BadCommand) (sym c.shaped.ensures ∙ ap (option_map read_command) c.in-Some-shaped.is)
+    ∙ ap (value_or BadCommand) (sym c.command_by_form.ensures ∙ ap (option_map read_command) c.in-Some-command_by_form.is)
 
 pub returns-in-None-clause-refused : goal.returns-in-None-clause-refused
 unfolding value_or
@@ -39,4 +39,4 @@ returns-in-None-clause-refused c =
     let word = sym c.symbol.ensures ∙ ap option_copied c.in-Some-symbol.is in
     let form = sym c.form_named.ensures ∙ ap (option_map shape_by) c.in-Some-form_named.is in
     command_of-known c.args.in_reference c.args.s.now c.in-Some.head c.in-Some.parts c.in-Some-symbol.word.now (shape_by c.in-Some-form_named.form) parts word form
-    ∙ ap (value_or BadCommand) (sym c.shaped.ensures ∙ ap (option_map read_command) c.in-None.is)
+    ∙ ap (value_or BadCommand) (sym c.command_by_form.ensures ∙ ap (option_map read_command) c.in-None.is)

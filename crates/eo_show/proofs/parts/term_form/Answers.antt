@@ -30,14 +30,14 @@ unfolding form
 returns-in-Var c =
     let t = c.args.table.now in
     let S = signature t.trees c.args.sig.now in
-    subst (λ u. GivesForm S t u c.made.result) c.in-Var.ensures.tree (c.made.ensures S t (Var (text_at t.texts c.in-Var.name) (tree_at t.trees c.in-Var.ty)) refl (c.variable_form.ensures S))
+    subst (λ u. GivesForm S t u c.form_or_refusal.result) c.in-Var.ensures.tree (c.form_or_refusal.ensures S t (Var (text_at t.texts c.in-Var.name) (tree_at t.trees c.in-Var.ty)) refl (c.variable_form.ensures S))
 
 pub returns-in-Arr : goal.returns-in-Arr
 unfolding form
 returns-in-Arr c =
     let t = c.args.table.now in
     let S = signature t.trees c.args.sig.now in
-    subst (λ u. GivesForm S t u c.made-in-Arr.result) c.in-Arr.ensures.tree (c.made-in-Arr.ensures S t (Arr (tree_at t.trees c.in-Arr.from) (tree_at t.trees c.in-Arr.to)) refl (c.function_form.ensures S))
+    subst (λ u. GivesForm S t u c.form_or_refusal-in-Arr.result) c.in-Arr.ensures.tree (c.form_or_refusal-in-Arr.ensures S t (Arr (tree_at t.trees c.in-Arr.from) (tree_at t.trees c.in-Arr.to)) refl (c.function_form.ensures S))
 
 pub returns-in-Num : goal.returns-in-Num
 unfolding form

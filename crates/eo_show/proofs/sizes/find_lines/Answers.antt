@@ -5,7 +5,7 @@ use Rattle.eo_sig.specs.Reading.{signature}
 use Rattle.eo_show.specs.Members.{is_defined}
 use Rattle.eo_show.specs.Plan.{member_tree, member_trees}
 use Rattle.eo_show.specs.Sizes as sizes
-use Rattle.eo_show.specs.Sizes.{some_places, own}
+use Rattle.eo_show.specs.Sizes.{some_places}
 use Rattle.eo_show.proofs.Order.{members-end}
 use Rattle.eo_show.proofs.MembersAt.{get-some, known-at, same-count, at}
 use Rattle.eo_show.proofs.FormLists.{wanted-is, part-size-is, lines-end}

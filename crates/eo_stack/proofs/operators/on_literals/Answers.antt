@@ -7,4 +7,4 @@ pub returns : goal.returns
 returns c =
     let o = typed_answer (tree_op_value c.args.op (trees_in c.args.table.now c.args.args.now)) in
     let found = c.operator_value-found.ensures in
-    record { outcome = c.typed.ensures.outcome o found.answers; live = c.typed.ensures.live o found.answers; grows = found.grows }
+    record { outcome = c.type_outcome.ensures o found.answers; grows = found.grows }

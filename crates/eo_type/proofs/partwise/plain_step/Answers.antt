@@ -13,4 +13,4 @@ returns-in-Some c =
     let t = c.args.table.now in
     let S = signature t.trees k in
     let given : Gives t c.in-Some.found (type_of S (App (tree_in t c.args.fun) (tree_in t c.args.arg))) = c.in-Some.ensures in
-    c.made.ensures k t t c.args.known.now (c.args.id + 1) (type_at k t c.args.id) (subst (Gives t c.in-Some.found) (sym (ap (type_of S) c.requires.tree)) given)
+    c.type_step.ensures k t t c.args.known.now (c.args.id + 1) (type_at k t c.args.id) (subst (Gives t c.in-Some.found) (sym (ap (type_of S) c.requires.tree)) given)

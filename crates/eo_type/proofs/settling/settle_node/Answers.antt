@@ -12,15 +12,15 @@ intern_low-requires-clause-low c =
 
 pub intern_low-requires-in-App-clause-low : goal.intern_low-requires-in-App-clause-low
 intern_low-requires-in-App-clause-low c =
-    app_low (tree_at c.args.table.now.trees c.args.id) _ _ _ _ c.in-App.ensures.tree c.in-Some-known.ensures.typed c.in-Some-known-2.ensures.typed (c.laws.ensures.low c.args.id c.requires.live)
+    app_low (tree_at c.args.table.now.trees c.args.id) _ _ _ _ c.in-App.ensures.tree c.in-Some-part_settled.ensures.typed c.in-Some-part_settled-2.ensures.typed (c.laws.ensures.low c.args.id c.requires.live)
 
 pub intern_low-requires-in-Arr-clause-low : goal.intern_low-requires-in-Arr-clause-low
 intern_low-requires-in-Arr-clause-low c =
-    arr_low (tree_at c.args.table.now.trees c.args.id) _ _ _ _ c.in-Arr.ensures.tree c.in-Some-known-3.ensures.typed c.in-Some-known-4.ensures.typed (c.laws.ensures.low c.args.id c.requires.live)
+    arr_low (tree_at c.args.table.now.trees c.args.id) _ _ _ _ c.in-Arr.ensures.tree c.in-Some-part_settled-3.ensures.typed c.in-Some-part_settled-4.ensures.typed (c.laws.ensures.low c.args.id c.requires.live)
 
 pub intern_low-requires-in-Qar-clause-low : goal.intern_low-requires-in-Qar-clause-low
 intern_low-requires-in-Qar-clause-low c =
-    qar_low (tree_at c.args.table.now.trees c.args.id) _ _ _ _ c.in-Qar.par c.in-Qar.ensures.tree c.in-Some-known-5.ensures.typed c.in-Some-known-6.ensures.typed (c.laws.ensures.low c.args.id c.requires.live)
+    qar_low (tree_at c.args.table.now.trees c.args.id) _ _ _ _ c.in-Qar.par c.in-Qar.ensures.tree c.in-Some-part_settled-5.ensures.typed c.in-Some-part_settled-6.ensures.typed (c.laws.ensures.low c.args.id c.requires.live)
 
 pub returns-in_default-clause-gives : goal.returns-in_default-clause-gives
 returns-in_default-clause-gives c = next_type _ _ _ _ c.in-Var.ensures.tree _ c.in-Var.ensures.parts (search rules)
@@ -34,59 +34,59 @@ returns-in_err-made-in-Var-clause-gives c = gives_step_stop c.args.table.now c.i
 pub returns-in_ok-made-in-Var-clause-gives : goal.returns-in_ok-made-in-Var-clause-gives
 returns-in_ok-made-in-Var-clause-gives c = var_settled _ _ _ _ c.in-Var.ensures.tree _ _ _ c.in-Some.ensures c.in_ok-made-in-Var.ensures.makes
 
-pub returns-in_default-known-clause-gives : goal.returns-in_default-known-clause-gives
-returns-in_default-known-clause-gives c = next_first _ _ App _ _ c.in-App.ensures.tree (λ a b. refl) _ c.in-App.ensures.parts.0 (search rules)
+pub returns-in_default-part_settled-clause-gives : goal.returns-in_default-part_settled-clause-gives
+returns-in_default-part_settled-clause-gives c = next_first _ _ App _ _ c.in-App.ensures.tree (λ a b. refl) _ c.in-App.ensures.parts.0 (search rules)
 
-pub returns-in_default-known-clause-grows : goal.returns-in_default-known-clause-grows
-returns-in_default-known-clause-grows c = grows_refl c.args.table.now
+pub returns-in_default-part_settled-clause-grows : goal.returns-in_default-part_settled-clause-grows
+returns-in_default-part_settled-clause-grows c = grows_refl c.args.table.now
 
-pub returns-in_default-known-2-clause-gives : goal.returns-in_default-known-2-clause-gives
-returns-in_default-known-2-clause-gives c = next_second _ _ App _ _ c.in-App.ensures.tree (λ a b. refl) _ c.in-Some-known.ensures _ c.in-App.ensures.parts.1 (search rules)
+pub returns-in_default-part_settled-2-clause-gives : goal.returns-in_default-part_settled-2-clause-gives
+returns-in_default-part_settled-2-clause-gives c = next_second _ _ App _ _ c.in-App.ensures.tree (λ a b. refl) _ c.in-Some-part_settled.ensures _ c.in-App.ensures.parts.1 (search rules)
 
-pub returns-in_default-known-2-clause-grows : goal.returns-in_default-known-2-clause-grows
-returns-in_default-known-2-clause-grows c = grows_refl c.args.table.now
+pub returns-in_default-part_settled-2-clause-grows : goal.returns-in_default-part_settled-2-clause-grows
+returns-in_default-part_settled-2-clause-grows c = grows_refl c.args.table.now
 
 pub returns-in_err-made-in-App-clause-gives : goal.returns-in_err-made-in-App-clause-gives
 returns-in_err-made-in-App-clause-gives c = gives_step_stop c.args.table.now c.intern_low-in-App.new.self c.args.memo.now c.args.id _ _ c.from_residual-in_err-made-in-App.ensures.1 tt
 
 pub returns-in_ok-made-in-App-clause-gives : goal.returns-in_ok-made-in-App-clause-gives
-returns-in_ok-made-in-App-clause-gives c = two_settled _ _ App _ _ c.in-App.ensures.tree (λ a b. refl) _ c.in-Some-known.ensures _ _ _ c.in-Some-known-2.ensures c.in_ok-made-in-App.ensures.makes
+returns-in_ok-made-in-App-clause-gives c = two_settled _ _ App _ _ c.in-App.ensures.tree (λ a b. refl) _ c.in-Some-part_settled.ensures _ _ _ c.in-Some-part_settled-2.ensures c.in_ok-made-in-App.ensures.makes
 
-pub returns-in_default-known-3-clause-gives : goal.returns-in_default-known-3-clause-gives
-returns-in_default-known-3-clause-gives c = next_first _ _ Arr _ _ c.in-Arr.ensures.tree (λ a b. refl) _ c.in-Arr.ensures.parts.0 (search rules)
+pub returns-in_default-part_settled-3-clause-gives : goal.returns-in_default-part_settled-3-clause-gives
+returns-in_default-part_settled-3-clause-gives c = next_first _ _ Arr _ _ c.in-Arr.ensures.tree (λ a b. refl) _ c.in-Arr.ensures.parts.0 (search rules)
 
-pub returns-in_default-known-3-clause-grows : goal.returns-in_default-known-3-clause-grows
-returns-in_default-known-3-clause-grows c = grows_refl c.args.table.now
+pub returns-in_default-part_settled-3-clause-grows : goal.returns-in_default-part_settled-3-clause-grows
+returns-in_default-part_settled-3-clause-grows c = grows_refl c.args.table.now
 
-pub returns-in_default-known-4-clause-gives : goal.returns-in_default-known-4-clause-gives
-returns-in_default-known-4-clause-gives c = next_second _ _ Arr _ _ c.in-Arr.ensures.tree (λ a b. refl) _ c.in-Some-known-3.ensures _ c.in-Arr.ensures.parts.1 (search rules)
+pub returns-in_default-part_settled-4-clause-gives : goal.returns-in_default-part_settled-4-clause-gives
+returns-in_default-part_settled-4-clause-gives c = next_second _ _ Arr _ _ c.in-Arr.ensures.tree (λ a b. refl) _ c.in-Some-part_settled-3.ensures _ c.in-Arr.ensures.parts.1 (search rules)
 
-pub returns-in_default-known-4-clause-grows : goal.returns-in_default-known-4-clause-grows
-returns-in_default-known-4-clause-grows c = grows_refl c.args.table.now
+pub returns-in_default-part_settled-4-clause-grows : goal.returns-in_default-part_settled-4-clause-grows
+returns-in_default-part_settled-4-clause-grows c = grows_refl c.args.table.now
 
 pub returns-in_err-made-in-Arr-clause-gives : goal.returns-in_err-made-in-Arr-clause-gives
 returns-in_err-made-in-Arr-clause-gives c = gives_step_stop c.args.table.now c.intern_low-in-Arr.new.self c.args.memo.now c.args.id _ _ c.from_residual-in_err-made-in-Arr.ensures.1 tt
 
 pub returns-in_ok-made-in-Arr-clause-gives : goal.returns-in_ok-made-in-Arr-clause-gives
-returns-in_ok-made-in-Arr-clause-gives c = two_settled _ _ Arr _ _ c.in-Arr.ensures.tree (λ a b. refl) _ c.in-Some-known-3.ensures _ _ _ c.in-Some-known-4.ensures c.in_ok-made-in-Arr.ensures.makes
+returns-in_ok-made-in-Arr-clause-gives c = two_settled _ _ Arr _ _ c.in-Arr.ensures.tree (λ a b. refl) _ c.in-Some-part_settled-3.ensures _ _ _ c.in-Some-part_settled-4.ensures c.in_ok-made-in-Arr.ensures.makes
 
-pub returns-in_default-known-5-clause-gives : goal.returns-in_default-known-5-clause-gives
-returns-in_default-known-5-clause-gives c = next_first _ _ (Qar c.in-Qar.par) _ _ c.in-Qar.ensures.tree (λ a b. refl) _ c.in-Qar.ensures.parts.0 (search rules)
+pub returns-in_default-part_settled-5-clause-gives : goal.returns-in_default-part_settled-5-clause-gives
+returns-in_default-part_settled-5-clause-gives c = next_first _ _ (Qar c.in-Qar.par) _ _ c.in-Qar.ensures.tree (λ a b. refl) _ c.in-Qar.ensures.parts.0 (search rules)
 
-pub returns-in_default-known-5-clause-grows : goal.returns-in_default-known-5-clause-grows
-returns-in_default-known-5-clause-grows c = grows_refl c.args.table.now
+pub returns-in_default-part_settled-5-clause-grows : goal.returns-in_default-part_settled-5-clause-grows
+returns-in_default-part_settled-5-clause-grows c = grows_refl c.args.table.now
 
-pub returns-in_default-known-6-clause-gives : goal.returns-in_default-known-6-clause-gives
-returns-in_default-known-6-clause-gives c = next_second _ _ (Qar c.in-Qar.par) _ _ c.in-Qar.ensures.tree (λ a b. refl) _ c.in-Some-known-5.ensures _ c.in-Qar.ensures.parts.1 (search rules)
+pub returns-in_default-part_settled-6-clause-gives : goal.returns-in_default-part_settled-6-clause-gives
+returns-in_default-part_settled-6-clause-gives c = next_second _ _ (Qar c.in-Qar.par) _ _ c.in-Qar.ensures.tree (λ a b. refl) _ c.in-Some-part_settled-5.ensures _ c.in-Qar.ensures.parts.1 (search rules)
 
-pub returns-in_default-known-6-clause-grows : goal.returns-in_default-known-6-clause-grows
-returns-in_default-known-6-clause-grows c = grows_refl c.args.table.now
+pub returns-in_default-part_settled-6-clause-grows : goal.returns-in_default-part_settled-6-clause-grows
+returns-in_default-part_settled-6-clause-grows c = grows_refl c.args.table.now
 
 pub returns-in_err-made-in-Qar-clause-gives : goal.returns-in_err-made-in-Qar-clause-gives
 returns-in_err-made-in-Qar-clause-gives c = gives_step_stop c.args.table.now c.intern_low-in-Qar.new.self c.args.memo.now c.args.id _ _ c.from_residual-in_err-made-in-Qar.ensures.1 tt
 
 pub returns-in_ok-made-in-Qar-clause-gives : goal.returns-in_ok-made-in-Qar-clause-gives
-returns-in_ok-made-in-Qar-clause-gives c = two_settled _ _ (Qar c.in-Qar.par) _ _ c.in-Qar.ensures.tree (λ a b. refl) _ c.in-Some-known-5.ensures _ _ _ c.in-Some-known-6.ensures c.in_ok-made-in-Qar.ensures.makes
+returns-in_ok-made-in-Qar-clause-gives c = two_settled _ _ (Qar c.in-Qar.par) _ _ c.in-Qar.ensures.tree (λ a b. refl) _ c.in-Some-part_settled-5.ensures _ _ _ c.in-Some-part_settled-6.ensures c.in_ok-made-in-Qar.ensures.makes
 
 pub returns-in-Par-clause-gives : goal.returns-in-Par-clause-gives
 returns-in-Par-clause-gives c = leaf_settled _ _ _ c.in-Par.ensures.tree refl c.requires.live

@@ -22,13 +22,16 @@ settle_node-requires-clause-live c =
 pub settle_node-requires-clause-memo : goal.settle_node-requires-clause-memo
 settle_node-requires-clause-memo c = subst (TellsOnly (IsSettled c.loop-made.table)) (sym c.memo.ensures) c.loop-made.invariant.memo
 
-pub returns-in_err-made-clause-gives : goal.returns-in_err-made-clause-gives
-returns-in_err-made-clause-gives c =
+pub returns-in_err-made : goal.returns-in_err-made
+returns-in_err-made c =
     let i = c.loop-made.invariant in
     let walks = c.walk_law.ensures (length c.args.table.now.trees) c.args.walk.now.top in
     let leads : StopsAll c.args.table.now c.args.walk.now.top c.top.result = subst (StopsAll c.args.table.now c.args.walk.now.top) (sym c.top.ensures) (all_last (StopsAll c.args.table.now c.args.walk.now.top) c.loop-made.walk.waiting c.loop-made.walk.top i.leads) in
     let live : c.top.result < length c.args.table.now.trees = subst (λ k. k < length c.args.table.now.trees) (sym c.top.ensures) (walks.live c.loop-made.walk i.begun) in
-    gives_stop _ _ _ _ c.from_residual.ensures.1 (step_stops c.args.table.now c.loop-made.table c.loop-made.table c.args.walk.now.top c.top.result i.grows.now leads live c.in_err-made.field-0.0 c.in_err-made.ensures.gives)
+    record {
+      gives = gives_stop _ _ _ _ c.from_residual.ensures.1 (step_stops c.args.table.now c.loop-made.table c.loop-made.table c.args.walk.now.top c.top.result i.grows.now leads live c.in_err-made.field-0.0 c.in_err-made.ensures.gives);
+      grows = grows_on c.args.table.now c.loop-made.table c.settle_node.new.table c.loop-made.invariant.grows c.settle_node.ensures.grows;
+    }
 
 pub loop-made-smaller-else-not-branch : goal.loop-made-smaller-else-not-branch
 loop-made-smaller-else-not-branch c =
@@ -80,17 +83,15 @@ loop-made-init c =
       grows = grows_refl c.args.table.now;
     }
 
-pub returns-in_err-made-clause-grows : goal.returns-in_err-made-clause-grows
-returns-in_err-made-clause-grows c = grows_on c.args.table.now c.loop-made.table c.settle_node.new.table c.loop-made.invariant.grows c.settle_node.ensures.grows
+pub returns-in_err-finish-in-Made : goal.returns-in_err-finish-in-Made
+returns-in_err-finish-in-Made c =
+    record {
+      gives = gives_stop _ _ _ _ c.from_residual-in_err-finish-in-Made.ensures.1 tt;
+      grows = grows_on c.args.table.now c.loop-made.table c.settle_node.new.table c.loop-made.invariant.grows c.settle_node.ensures.grows;
+    }
 
-pub returns-in_err-finish-in-Made-clause-gives : goal.returns-in_err-finish-in-Made-clause-gives
-returns-in_err-finish-in-Made-clause-gives c = gives_stop _ _ _ _ c.from_residual-in_err-finish-in-Made.ensures.1 tt
-
-pub returns-in_err-finish-in-Made-clause-grows : goal.returns-in_err-finish-in-Made-clause-grows
-returns-in_err-finish-in-Made-clause-grows c = grows_on c.args.table.now c.loop-made.table c.settle_node.new.table c.loop-made.invariant.grows c.settle_node.ensures.grows
-
-pub returns-then-not-branch-clause-gives : goal.returns-then-not-branch-clause-gives
-returns-then-not-branch-clause-gives c =
+pub returns-then-not-branch : goal.returns-then-not-branch
+returns-then-not-branch c =
     let i = c.loop-made.invariant in
     let walks = c.walk_law.ensures (length c.args.table.now.trees) c.args.walk.now.top in
     let R : ℕ → Type 0 = StopsAll c.args.table.now c.args.walk.now.top in
@@ -98,10 +99,10 @@ returns-then-not-branch-clause-gives c =
     let live : c.top.result < length c.args.table.now.trees = subst (λ k. k < length c.args.table.now.trees) (sym c.top.ensures) (walks.live c.loop-made.walk i.begun) in
     let last : c.loop-made.walk.waiting ≡ [] = c.in_ok-finish-in-Made.ensures.last c.if-not-branch.true in
     let made : IsTyped c.settle_node.new.table (settle (tree_in c.loop-made.table c.top.result)) c.in-Made.made = subst (IsStep c.loop-made.table c.memo.result.now c.top.result c.settle_node.new.table) c.in-Made.is c.in_ok-made.ensures.gives in
-    step_made c.args.table.now c.loop-made.table c.settle_node.new.table c.args.walk.now.top c.top.result i.grows.now leads live c.in-Made.made (c.top.ensures ∙ walks.last c.loop-made.walk i.begun last) made
-
-pub returns-then-not-branch-clause-grows : goal.returns-then-not-branch-clause-grows
-returns-then-not-branch-clause-grows c = grows_on c.args.table.now c.loop-made.table c.settle_node.new.table c.loop-made.invariant.grows c.settle_node.ensures.grows
+    record {
+      gives = step_made c.args.table.now c.loop-made.table c.settle_node.new.table c.args.walk.now.top c.top.result i.grows.now leads live c.in-Made.made (c.top.ensures ∙ walks.last c.loop-made.walk i.begun last) made;
+      grows = grows_on c.args.table.now c.loop-made.table c.settle_node.new.table c.loop-made.invariant.grows c.settle_node.ensures.grows;
+    }
 
 pub loop-made-smaller : goal.loop-made-smaller
 loop-made-smaller c =
@@ -109,8 +110,9 @@ loop-made-smaller c =
     let next : IsNext c.loop-made.table c.memo.result.now c.top.result c.in-Part.part = subst (IsStep _ _ _ _) c.in-Part.is c.in_ok-made.ensures.gives in
     (walks.part c.loop-made.walk c.begin.new.self c.in-Part.part c.loop-made.invariant.begun c.in_ok-begin-in-Part.ensures (omega (arith, next.older, c.top.ensures)) (ap (λ m. told m c.in-Part.part) (sym c.memo.ensures) ∙ next.untold)).less
 
-pub returns-in_err-begin-in-Part-clause-gives : goal.returns-in_err-begin-in-Part-clause-gives
-returns-in_err-begin-in-Part-clause-gives c = gives_stop _ _ _ _ c.from_residual-in_err-begin-in-Part.ensures.1 tt
-
-pub returns-in_err-begin-in-Part-clause-grows : goal.returns-in_err-begin-in-Part-clause-grows
-returns-in_err-begin-in-Part-clause-grows c = grows_on c.args.table.now c.loop-made.table c.settle_node.new.table c.loop-made.invariant.grows c.settle_node.ensures.grows
+pub returns-in_err-begin-in-Part : goal.returns-in_err-begin-in-Part
+returns-in_err-begin-in-Part c =
+    record {
+      gives = gives_stop _ _ _ _ c.from_residual-in_err-begin-in-Part.ensures.1 tt;
+      grows = grows_on c.args.table.now c.loop-made.table c.settle_node.new.table c.loop-made.invariant.grows c.settle_node.ensures.grows;
+    }

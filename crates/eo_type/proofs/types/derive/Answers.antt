@@ -29,19 +29,19 @@ returns-in-Op-clause-gives c = ap (type_of (signature c.args.table.now.trees c.a
 pub returns-in-Num-clause-gives : goal.returns-in-Num-clause-gives
 returns-in-Num-clause-gives c =
     let S = signature c.args.table.now.trees c.args.sig.now in
-    c.made-in-Num.ensures c.args.sig.now c.args.table.now c.literal.new.table c.args.known.now c.args.id (type_at c.args.sig.now c.args.table.now c.args.id) (subst (Gives c.literal.new.table c.literal.result) (ap (literal_type_at (literal_type S Numeral)) (sym c.in-Num.ensures.tree) ∙ ap (type_of S) c.in-Num.ensures.tree) c.literal.ensures.gives)
+    c.type_step-in-Num.ensures c.args.sig.now c.args.table.now c.literal.new.table c.args.known.now c.args.id (type_at c.args.sig.now c.args.table.now c.args.id) (subst (Gives c.literal.new.table c.literal.result) (ap (literal_type_at (literal_type S Numeral)) (sym c.in-Num.ensures.tree) ∙ ap (type_of S) c.in-Num.ensures.tree) c.literal.ensures.gives)
 
 pub returns-in-Bits-clause-gives : goal.returns-in-Bits-clause-gives
 returns-in-Bits-clause-gives c =
     let S = signature c.args.table.now.trees c.args.sig.now in
-    c.made-in-Bits.ensures c.args.sig.now c.args.table.now c.literal-in-Bits.new.table c.args.known.now c.args.id (type_at c.args.sig.now c.args.table.now c.args.id) (subst (Gives c.literal-in-Bits.new.table c.literal-in-Bits.result) (ap (literal_type_at (literal_type S Binary)) (sym c.in-Bits.ensures.tree) ∙ ap (type_of S) c.in-Bits.ensures.tree) c.literal-in-Bits.ensures.gives)
+    c.type_step-in-Bits.ensures c.args.sig.now c.args.table.now c.literal-in-Bits.new.table c.args.known.now c.args.id (type_at c.args.sig.now c.args.table.now c.args.id) (subst (Gives c.literal-in-Bits.new.table c.literal-in-Bits.result) (ap (literal_type_at (literal_type S Binary)) (sym c.in-Bits.ensures.tree) ∙ ap (type_of S) c.in-Bits.ensures.tree) c.literal-in-Bits.ensures.gives)
 
 pub returns-in-Str-clause-gives : goal.returns-in-Str-clause-gives
 returns-in-Str-clause-gives c =
     let S = signature c.args.table.now.trees c.args.sig.now in
-    c.made-in-Str.ensures c.args.sig.now c.args.table.now c.literal-in-Str.new.table c.args.known.now c.args.id (type_at c.args.sig.now c.args.table.now c.args.id) (subst (Gives c.literal-in-Str.new.table c.literal-in-Str.result) (ap (literal_type_at (literal_type S String)) (sym c.in-Str.ensures.tree) ∙ ap (type_of S) c.in-Str.ensures.tree) c.literal-in-Str.ensures.gives)
+    c.type_step-in-Str.ensures c.args.sig.now c.args.table.now c.literal-in-Str.new.table c.args.known.now c.args.id (type_at c.args.sig.now c.args.table.now c.args.id) (subst (Gives c.literal-in-Str.new.table c.literal-in-Str.result) (ap (literal_type_at (literal_type S String)) (sym c.in-Str.ensures.tree) ∙ ap (type_of S) c.in-Str.ensures.tree) c.literal-in-Str.ensures.gives)
 
 pub returns-in-Con-clause-gives : goal.returns-in-Con-clause-gives
 returns-in-Con-clause-gives c =
     let S = signature c.args.table.now.trees c.args.sig.now in
-    c.made.ensures c.args.sig.now c.args.table.now c.args.table.now c.args.known.now c.args.id (type_at c.args.sig.now c.args.table.now c.args.id) (subst (λ u. Gives c.args.table.now c.declared.result (type_of S u)) c.in-Con.ensures.tree c.declared.ensures.gives)
+    c.type_step.ensures c.args.sig.now c.args.table.now c.args.table.now c.args.known.now c.args.id (type_at c.args.sig.now c.args.table.now c.args.id) (subst (λ u. Gives c.args.table.now c.declared_type.result (type_of S u)) c.in-Con.ensures.tree c.declared_type.ensures.gives)

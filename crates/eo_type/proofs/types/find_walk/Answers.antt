@@ -12,8 +12,8 @@ use Rattle.eo_type.proofs.Fitting.{type_grown, fit_grown, grows_under_on}
 use Rattle.eo_type.proofs.TypeWalk.{is_found, finished}
 use Rattle.eo_type.proofs.types.find_walk.Goals as goal
 
-pub derive-requires-clause-live : goal.derive-requires-clause-live
-derive-requires-clause-live c =
+pub derive-requires : goal.derive-requires
+derive-requires c =
     let i = c.loop-ty.invariant in
     let k = c.args.sig.now in
     let t = c.args.table.now in
@@ -23,8 +23,8 @@ derive-requires-clause-live c =
     let w : Visits = record { memo = c.loop-ty.known; waiting = c.loop-ty.waiting.items; top = top } in
     let walks = c.walk_law.ensures (id + 1) id in
     let low = walks.live w i.begun in
-    let live : top < length t.trees = omega (arith, low, c.requires.live) in
-    omega (arith, live, i.grows.table.now.more_trees)
+    let live : top < length t.trees = omega (arith, low, c.requires.untyped.live) in
+    record { live = omega (arith, live, i.grows.table.now.more_trees); fits = i.fits }
 
 pub returns-in_err-ty-clause-gives : goal.returns-in_err-ty-clause-gives
 returns-in_err-ty-clause-gives c =
@@ -37,7 +37,7 @@ returns-in_err-ty-clause-gives c =
     let w : Visits = record { memo = c.loop-ty.known; waiting = c.loop-ty.waiting.items; top = top } in
     let walks = c.walk_law.ensures (id + 1) id in
     let low = walks.live w i.begun in
-    let live : top < length t.trees = omega (arith, low, c.requires.live) in
+    let live : top < length t.trees = omega (arith, low, c.requires.untyped.live) in
     let P : ℕ → Type 0 = λ x. (e : Stop) → Stops e (type_at k t x) → Stops e (type_at k t id) in
     let lead : P top = all_last P w.waiting top i.leads in
     let e = c.in_err-ty.field-0.0 in
@@ -54,11 +54,11 @@ keep-requires c =
     let w : Visits = record { memo = c.loop-ty.known; waiting = c.loop-ty.waiting.items; top = top } in
     let walks = c.walk_law.ensures (id + 1) id in
     let low = walks.live w i.begun in
-    let live : top < length t.trees = omega (arith, low, c.requires.live) in
+    let live : top < length t.trees = omega (arith, low, c.requires.untyped.live) in
     (begun_top (id + 1) (λ (x : ℕ). Unit {0}) id w i.begun).untold
 
-pub returns-in_default-clause-kept : goal.returns-in_default-clause-kept
-returns-in_default-clause-kept c =
+pub returns-in_default-clause-finds : goal.returns-in_default-clause-finds
+returns-in_default-clause-finds c =
     let i = c.loop-ty.invariant in
     let k = c.args.sig.now in
     let t = c.args.table.now in
@@ -68,7 +68,7 @@ returns-in_default-clause-kept c =
     let w : Visits = record { memo = c.loop-ty.known; waiting = c.loop-ty.waiting.items; top = top } in
     let walks = c.walk_law.ensures (id + 1) id in
     let low = walks.live w i.begun in
-    let live : top < length t.trees = omega (arith, low, c.requires.live) in
+    let live : top < length t.trees = omega (arith, low, c.requires.untyped.live) in
     let none : kept_type c.loop-ty.known top ≡ None = (begun_top (id + 1) (λ (x : ℕ). Unit {0}) id w i.begun).untold in
     let new = c.derive.new.table in
     let u = c.laws.ensures now new i.fits.below c.derive.ensures.grows in
@@ -76,47 +76,13 @@ returns-in_default-clause-kept c =
     let typed : IsTyped new (type_at k now top) c.in-Made.ty = subst (IsTypeStep k now c.loop-ty.known top (type_at k now top) new) c.in-Made.is c.in_ok-ty.ensures.gives in
     let found = is_found k now new c.args.known.now c.loop-ty.known c.keep.new.self id top c.in-Made.ty u none entries i.keeps i.older low (omega (arith, live, i.grows.table.now.more_trees)) i.fits typed in
     let last = walks.last w i.begun c.in_default.ensures.none in
-    record { keeps = found.keeps; found = subst (λ x. kept_type c.keep.new.self x ≡ Some c.in-Made.ty) last found.found }
-
-pub returns-in_default-clause-older : goal.returns-in_default-clause-older
-returns-in_default-clause-older c =
-    let i = c.loop-ty.invariant in
-    let k = c.args.sig.now in
-    let t = c.args.table.now in
-    let id = c.args.id in
-    let top = c.loop-ty.top in
-    let now = c.loop-ty.table in
-    let w : Visits = record { memo = c.loop-ty.known; waiting = c.loop-ty.waiting.items; top = top } in
-    let walks = c.walk_law.ensures (id + 1) id in
-    let low = walks.live w i.begun in
-    let live : top < length t.trees = omega (arith, low, c.requires.live) in
-    let none : kept_type c.loop-ty.known top ≡ None = (begun_top (id + 1) (λ (x : ℕ). Unit {0}) id w i.begun).untold in
-    let new = c.derive.new.table in
-    let u = c.laws.ensures now new i.fits.below c.derive.ensures.grows in
-    let entries : c.keep.new.self ≡ c.loop-ty.known ++ (top, c.in-Made.ty) ∷ [] = c.in_ok-keep-in-Made.ensures.kept in
-    let typed : IsTyped new (type_at k now top) c.in-Made.ty = subst (IsTypeStep k now c.loop-ty.known top (type_at k now top) new) c.in-Made.is c.in_ok-ty.ensures.gives in
-    let found = is_found k now new c.args.known.now c.loop-ty.known c.keep.new.self id top c.in-Made.ty u none entries i.keeps i.older low (omega (arith, live, i.grows.table.now.more_trees)) i.fits typed in
-    found.older
-
-pub returns-in_default-clause-fits : goal.returns-in_default-clause-fits
-returns-in_default-clause-fits c =
-    let i = c.loop-ty.invariant in
-    let k = c.args.sig.now in
-    let t = c.args.table.now in
-    let id = c.args.id in
-    let top = c.loop-ty.top in
-    let now = c.loop-ty.table in
-    let w : Visits = record { memo = c.loop-ty.known; waiting = c.loop-ty.waiting.items; top = top } in
-    let walks = c.walk_law.ensures (id + 1) id in
-    let low = walks.live w i.begun in
-    let live : top < length t.trees = omega (arith, low, c.requires.live) in
-    let none : kept_type c.loop-ty.known top ≡ None = (begun_top (id + 1) (λ (x : ℕ). Unit {0}) id w i.begun).untold in
-    let new = c.derive.new.table in
-    let u = c.laws.ensures now new i.fits.below c.derive.ensures.grows in
-    let entries : c.keep.new.self ≡ c.loop-ty.known ++ (top, c.in-Made.ty) ∷ [] = c.in_ok-keep-in-Made.ensures.kept in
-    let typed : IsTyped new (type_at k now top) c.in-Made.ty = subst (IsTypeStep k now c.loop-ty.known top (type_at k now top) new) c.in-Made.is c.in_ok-ty.ensures.gives in
-    let found = is_found k now new c.args.known.now c.loop-ty.known c.keep.new.self id top c.in-Made.ty u none entries i.keeps i.older low (omega (arith, live, i.grows.table.now.more_trees)) i.fits typed in
-    found.fits
+    record {
+      keeps = found.keeps;
+      found = subst (λ x. kept_type c.keep.new.self x ≡ Some c.in-Made.ty) last found.found;
+      older = found.older;
+      fits = found.fits;
+      grows = grows_under_on k t now new i.grows u;
+    }
 
 pub loop-ty-smaller-in-Made : goal.loop-ty-smaller-in-Made
 loop-ty-smaller-in-Made c =
@@ -129,7 +95,7 @@ loop-ty-smaller-in-Made c =
     let w : Visits = record { memo = c.loop-ty.known; waiting = c.loop-ty.waiting.items; top = top } in
     let walks = c.walk_law.ensures (id + 1) id in
     let low = walks.live w i.begun in
-    let live : top < length t.trees = omega (arith, low, c.requires.live) in
+    let live : top < length t.trees = omega (arith, low, c.requires.untyped.live) in
     let none : kept_type c.loop-ty.known top ≡ None = (begun_top (id + 1) (λ (x : ℕ). Unit {0}) id w i.begun).untold in
     let new = c.derive.new.table in
     let u = c.laws.ensures now new i.fits.below c.derive.ensures.grows in
@@ -151,7 +117,7 @@ loop-ty-preserved-in-Made c =
     let w : Visits = record { memo = c.loop-ty.known; waiting = c.loop-ty.waiting.items; top = top } in
     let walks = c.walk_law.ensures (id + 1) id in
     let low = walks.live w i.begun in
-    let live : top < length t.trees = omega (arith, low, c.requires.live) in
+    let live : top < length t.trees = omega (arith, low, c.requires.untyped.live) in
     let none : kept_type c.loop-ty.known top ≡ None = (begun_top (id + 1) (λ (x : ℕ). Unit {0}) id w i.begun).untold in
     let new = c.derive.new.table in
     let u = c.laws.ensures now new i.fits.below c.derive.ensures.grows in
@@ -181,7 +147,7 @@ loop-ty-preserved c =
     let w : Visits = record { memo = c.loop-ty.known; waiting = c.loop-ty.waiting.items; top = top } in
     let walks = c.walk_law.ensures (id + 1) id in
     let low = walks.live w i.begun in
-    let live : top < length t.trees = omega (arith, low, c.requires.live) in
+    let live : top < length t.trees = omega (arith, low, c.requires.untyped.live) in
     let P : ℕ → Type 0 = λ x. (e : Stop) → Stops e (type_at k t x) → Stops e (type_at k t id) in
     let lead : P top = all_last P w.waiting top i.leads in
     let new = c.derive.new.table in

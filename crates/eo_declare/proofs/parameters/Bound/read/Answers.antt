@@ -18,14 +18,14 @@ pub returns-then-has-clause-reads : goal.returns-then-has-clause-reads
 returns-then-has-clause-reads c = λ rest.
     let t = c.args.table.now in
     let p = shapes.read_parameter c.args.shape.now in
-    bind-known (context_at t c.args.sig.now c.args.setting) (read_bound t.trees c.args.self.now) p rest (bound-names t.trees p.name c.args.self.now.params ∙ sym c.has.ensures ∙ c.if-has.true)
+    bind-known (context_at t c.args.sig.now c.args.file_kind) (read_bound t.trees c.args.self.now) p rest (bound-names t.trees p.name c.args.self.now.params ∙ sym c.has.ensures ∙ c.if-has.true)
 
 pub returns-in_err-ty-clause-reads : goal.returns-in_err-ty-clause-reads
 returns-in_err-ty-clause-reads c =
     let t = c.args.table.now in
     let p = shapes.read_parameter c.args.shape.now in
     let new = bound-names t.trees p.name c.args.self.now.params ∙ sym c.has.ensures ∙ c.if-has.false in
-    reads_fault c.args.sig.now c.args.setting t _ p c.args.self.now _ _ _ _ c.from_residual.ensures.1 (λ rest f e. bind-refused (context_at t c.args.sig.now c.args.setting) (read_bound t.trees c.args.self.now) p rest f new e) c.in_err-ty.ensures.gives
+    reads_fault c.args.sig.now c.args.file_kind t _ p c.args.self.now _ _ _ _ c.from_residual.ensures.1 (λ rest f e. bind-refused (context_at t c.args.sig.now c.args.file_kind) (read_bound t.trees c.args.self.now) p rest f new e) c.in_err-ty.ensures.gives
 
 pub returns-clause-reads : goal.returns-clause-reads
 returns-clause-reads c =
@@ -35,9 +35,9 @@ returns-clause-reads c =
     let b = c.args.self.now in
     let new = bound-names old.trees p.name b.params ∙ sym c.has.ensures ∙ c.if-has.false in
     let grows = c.in_ok-id.ensures.grows.since old c.in_ok-ty.ensures.grows.now in
-    let stays = c.names_law.ensures.stays c.args.sig.now b.locals old last c.requires.bound.ready (grows_on old c.term_at.new.table last c.in_ok-ty.ensures.grows c.in_ok-id.ensures.grows) in
+    let stays = c.names_law.ensures.stays c.args.sig.now b.locals old last c.requires.bound.ready (grows_on old c.elaborate_in.new.table last c.in_ok-ty.ensures.grows c.in_ok-id.ensures.grows) in
     let x : Param = record { name = p.name; ty = c.in_ok-ty.ty; implicit = p.implicit; list = p.list } in
-    let t = tree_in c.term_at.new.table c.in_ok-ty.ty in
+    let t = tree_in c.elaborate_in.new.table c.in_ok-ty.ty in
     let type = c.in_ok-id.ensures.grows.now.tree c.in_ok-ty.ty c.in_ok-ty.ensures.gives.live in
     let named = c.in_ok-new.ensures in
     let params : c.push.new.self.params ≡ b.params ++ x ∷ [] = c.in_ok-push.ensures.params ∙ (λ i. b.params ++ record { name = named i; ty = x.ty; implicit = x.implicit; list = x.list } ∷ []) in
@@ -58,20 +58,20 @@ returns-clause-reads c =
           names = subst (AreBelow (length last.trees)) (sym locals) (All-cons (λ (l : LocalName). l.id < length last.trees) (local p.name c.in_ok-id.id p.list) b.locals c.in_ok-id.ensures.makes.live still.names);
         };
       };
-      binds = λ rest. bind-taken (context_at old c.args.sig.now c.args.setting) (read_bound old.trees b) p rest t (read_bound last.trees c.push.new.self) new c.in_ok-ty.ensures.gives.is read;
+      binds = λ rest. bind-taken (context_at old c.args.sig.now c.args.file_kind) (read_bound old.trees b) p rest t (read_bound last.trees c.push.new.self) new c.in_ok-ty.ensures.gives.is read;
     }
 
 pub returns-in_err-id-clause-grows : goal.returns-in_err-id-clause-grows
-returns-in_err-id-clause-grows c = grows_on c.args.table.now c.term_at.new.table c.parameter.new.table c.in_ok-ty.ensures.grows c.in_err-id.ensures.grows
+returns-in_err-id-clause-grows c = grows_on c.args.table.now c.elaborate_in.new.table c.parameter.new.table c.in_ok-ty.ensures.grows c.in_err-id.ensures.grows
 
 pub returns-in_err-new-clause-grows : goal.returns-in_err-new-clause-grows
-returns-in_err-new-clause-grows c = grows_on c.args.table.now c.term_at.new.table c.parameter.new.table c.in_ok-ty.ensures.grows c.in_ok-id.ensures.grows
+returns-in_err-new-clause-grows c = grows_on c.args.table.now c.elaborate_in.new.table c.parameter.new.table c.in_ok-ty.ensures.grows c.in_ok-id.ensures.grows
 
 pub returns-in_err-push-clause-grows : goal.returns-in_err-push-clause-grows
-returns-in_err-push-clause-grows c = grows_on c.args.table.now c.term_at.new.table c.parameter.new.table c.in_ok-ty.ensures.grows c.in_ok-id.ensures.grows
+returns-in_err-push-clause-grows c = grows_on c.args.table.now c.elaborate_in.new.table c.parameter.new.table c.in_ok-ty.ensures.grows c.in_ok-id.ensures.grows
 
 pub returns-clause-grows : goal.returns-clause-grows
-returns-clause-grows c = grows_on c.args.table.now c.term_at.new.table c.parameter.new.table c.in_ok-ty.ensures.grows c.in_ok-id.ensures.grows
+returns-clause-grows c = grows_on c.args.table.now c.elaborate_in.new.table c.parameter.new.table c.in_ok-ty.ensures.grows c.in_ok-id.ensures.grows
 
 pub returns-clause-count : goal.returns-clause-count
 returns-clause-count c =

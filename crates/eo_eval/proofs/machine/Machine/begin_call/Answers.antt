@@ -10,7 +10,7 @@ use Rattle.eo_stack.specs.Evaluation.{call_eq}
 use Rattle.eo_stack.specs.Reading.{begun, read_call}
 use Rattle.eo_eval.specs.Ready.{Calling, called_at, told_call, waiting_in}
 use Rattle.eo_stack.specs.contracts.calls.CallKeyPartialEq.TheImpl as key_eq
-use Rattle.eo_stack.specs.declared.stack.Known.TheVariants as known
+use Rattle.eo_stack.specs.declared.stack.CallMemo.TheVariants as known
 use Rattle.eo_eval.proofs.Beginning.{found_called, below_test, above_test, full_told, began_called, began_calling, began_told}
 use Rattle.eo_eval.proofs.Keys.{begun_found}
 use Rattle.eo_eval.proofs.Running.{begun_count}

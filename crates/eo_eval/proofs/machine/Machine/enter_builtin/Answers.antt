@@ -8,8 +8,7 @@ use Rattle.eo_sig.specs.Reading.{signature}
 use Rattle.eo_stack.specs.Scopes.{standing}
 use Rattle.eo_eval.proofs.Entered.{op_kind, whole_put_op}
 use Rattle.eo_eval.proofs.Frames.{choice_begins, require_begins, left_begins, tested_begins, strict_other}
-use Rattle.eo_type.proofs.Keeping.{fits_same}
-use Rattle.eo_stack.proofs.Unchanged.{grows_same}
+use Rattle.eo_stack.proofs.Unchanged.{extends_same}
 use Rattle.eo_eval.proofs.machine.Machine.enter_builtin.Goals as goal
 
 pub begin-requires-clause-begins : goal.begin-requires-clause-begins
@@ -52,21 +51,13 @@ enter_parts-requires-clause-whole c =
     whole_put_op (standing c.args.table.now.trees c.args.self.now.scope) c.args.op (arguments_of t) t (strict_other c.args.op not.not-Ite not.not-Requires not.not-IsEq not.not-IsOk) c.requires.operator
 
 pub returns-in-Ite : goal.returns-in-Ite
-returns-in-Ite c =
-    let fit = c.requires.ready.held.fit in
-    record { told = c.begin.ensures.told; ready = c.begin.ensures.ready; fits = fits_same fit; grows = grows_same fit }
+returns-in-Ite c = record { goes = c.begin.ensures; extends = extends_same c.requires.ready.held.fit }
 
 pub returns-in-Requires : goal.returns-in-Requires
-returns-in-Requires c =
-    let fit = c.requires.ready.held.fit in
-    record { told = c.begin-in-Requires.ensures.told; ready = c.begin-in-Requires.ensures.ready; fits = fits_same fit; grows = grows_same fit }
+returns-in-Requires c = record { goes = c.begin-in-Requires.ensures; extends = extends_same c.requires.ready.held.fit }
 
 pub returns-in-IsEq : goal.returns-in-IsEq
-returns-in-IsEq c =
-    let fit = c.requires.ready.held.fit in
-    record { told = c.begin-in-IsEq.ensures.told; ready = c.begin-in-IsEq.ensures.ready; fits = fits_same fit; grows = grows_same fit }
+returns-in-IsEq c = record { goes = c.begin-in-IsEq.ensures; extends = extends_same c.requires.ready.held.fit }
 
 pub returns-in-IsOk : goal.returns-in-IsOk
-returns-in-IsOk c =
-    let fit = c.requires.ready.held.fit in
-    record { told = c.begin-in-IsOk.ensures.told; ready = c.begin-in-IsOk.ensures.ready; fits = fits_same fit; grows = grows_same fit }
+returns-in-IsOk c = record { goes = c.begin-in-IsOk.ensures; extends = extends_same c.requires.ready.held.fit }

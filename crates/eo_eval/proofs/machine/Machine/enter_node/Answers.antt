@@ -7,8 +7,7 @@ use Rattle.eo_stack.specs.Reading.{begun, is_par}
 use Rattle.eo_stack.specs.Scopes.{standing}
 use Rattle.eo_eval.proofs.Entered.{whole_put_var, whole_put_app, whole_put_arr}
 use Rattle.eo_eval.proofs.Itself.{arrow_entered, stuck_told, stuck_stands}
-use Rattle.eo_type.proofs.Keeping.{fits_same}
-use Rattle.eo_stack.proofs.Unchanged.{grows_same}
+use Rattle.eo_stack.proofs.Unchanged.{extends_same}
 use Rattle.eo_eval.proofs.machine.Machine.enter_node.Goals as goal
 
 pub enter_parts-requires-clause-node : goal.enter_parts-requires-clause-node
@@ -35,18 +34,8 @@ enter_parts-requires-in-Arr-clause-whole c =
     let t = c.args.table.now in
     whole_put_arr (standing t.trees c.args.self.now.scope) (tree_at t.trees c.in-Arr.from) (tree_at t.trees c.in-Arr.to) (tree_at t.trees c.args.id) c.in-Arr.ensures.tree
 
-pub returns-in-Qar-clause-told : goal.returns-in-Qar-clause-told
-returns-in-Qar-clause-told c =
-    let ts = c.args.table.now.trees in
-    let S = signature ts c.args.sig.now in
-    let e = c.args.self.now in
-    let b = begun ts e.calls.entries in
-    let fs = e.stack.frames.items in
-    let vs = e.stack.values.items in
-    stuck_told S calls_limit ts b e.scope fs vs c.args.id c.args.left Stuck (arrow_entered S calls_limit ts e.scope c.args.id _ _ _ c.in-Qar.ensures.tree) refl
-
-pub returns-in-Qar-clause-ready : goal.returns-in-Qar-clause-ready
-returns-in-Qar-clause-ready c =
+pub returns-in-Qar-clause-goes : goal.returns-in-Qar-clause-goes
+returns-in-Qar-clause-goes c =
     let ts = c.args.table.now.trees in
     let S = signature ts c.args.sig.now in
     let e = c.args.self.now in
@@ -54,18 +43,16 @@ returns-in-Qar-clause-ready c =
     let fs = e.stack.frames.items in
     let vs = e.stack.values.items in
     let s = c.requires.ready.stands in
-    record { held = c.requires.ready.held; stands = stuck_stands S calls_limit ts b e.scope fs vs c.args.id c.args.left Stuck (arrow_entered S calls_limit ts e.scope c.args.id _ _ _ c.in-Qar.ensures.tree) refl s }
+    record {
+      told = stuck_told S calls_limit ts b e.scope fs vs c.args.id c.args.left Stuck (arrow_entered S calls_limit ts e.scope c.args.id _ _ _ c.in-Qar.ensures.tree) refl;
+      ready = record { held = c.requires.ready.held; stands = stuck_stands S calls_limit ts b e.scope fs vs c.args.id c.args.left Stuck (arrow_entered S calls_limit ts e.scope c.args.id _ _ _ c.in-Qar.ensures.tree) refl s };
+    }
 
 pub returns-in-Par : goal.returns-in-Par
-returns-in-Par c =
-    let fit = c.requires.ready.held.fit in
-    record { told = c.enter_par.ensures.told; ready = c.enter_par.ensures.ready; fits = fits_same fit; grows = grows_same fit }
+returns-in-Par c = record { goes = c.enter_par.ensures; extends = extends_same c.requires.ready.held.fit }
 
-pub returns-in-Qar-clause-fits : goal.returns-in-Qar-clause-fits
-returns-in-Qar-clause-fits c = fits_same c.requires.ready.held.fit
-
-pub returns-in-Qar-clause-grows : goal.returns-in-Qar-clause-grows
-returns-in-Qar-clause-grows c = grows_same c.requires.ready.held.fit
+pub returns-in-Qar-clause-extends : goal.returns-in-Qar-clause-extends
+returns-in-Qar-clause-extends c = extends_same c.requires.ready.held.fit
 
 pub enter_op-requires : goal.enter_op-requires
 enter_op-requires c =

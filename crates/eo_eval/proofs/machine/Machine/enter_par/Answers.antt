@@ -9,22 +9,8 @@ use Rattle.eo_eval.proofs.Entered.{entered_slot, entered_free, slot_value}
 use Rattle.eo_eval.proofs.Itself.{value_told, value_stands, value_entered, free_entered, stuck_told, stuck_stands}
 use Rattle.eo_eval.proofs.machine.Machine.enter_par.Goals as goal
 
-pub returns-in-Some-clause-told : goal.returns-in-Some-clause-told
-returns-in-Some-clause-told c =
-    let ts = c.args.table.now.trees in
-    let S = signature ts c.args.sig.now in
-    let e = c.args.self.now in
-    let b = begun ts e.calls.entries in
-    let fs = e.stack.frames.items in
-    let vs = e.stack.values.items in
-    let s = c.requires.ready.stands in
-    let v = c.in-Some.value in
-    let slot : slot_at e.scope c.args.i ≡ Some v = sym c.slot.ensures ∙ c.in-Some.is in
-    let h = value_entered S calls_limit ts e.scope c.args.id v (entered_slot ts e.scope c.args.id c.args.i v c.requires.parameter slot) (slot_value ts e.scope c.args.i v s.slots_live slot).1 (c.laws.ensures.low v (slot_value ts e.scope c.args.i v s.slots_live slot).0) in
-    value_told S calls_limit ts b e.scope fs vs c.args.id c.args.left (Value (tree_at ts v)) h v refl
-
-pub returns-in-Some-clause-ready : goal.returns-in-Some-clause-ready
-returns-in-Some-clause-ready c =
+pub returns-in-Some : goal.returns-in-Some
+returns-in-Some c =
     let ts = c.args.table.now.trees in
     let S = signature ts c.args.sig.now in
     let e = c.args.self.now in
@@ -36,10 +22,13 @@ returns-in-Some-clause-ready c =
     let slot : slot_at e.scope c.args.i ≡ Some v = sym c.slot.ensures ∙ c.in-Some.is in
     let live = slot_value ts e.scope c.args.i v s.slots_live slot in
     let h = value_entered S calls_limit ts e.scope c.args.id v (entered_slot ts e.scope c.args.id c.args.i v c.requires.parameter slot) live.1 (c.laws.ensures.low v live.0) in
-    record { held = c.requires.ready.held; stands = value_stands S calls_limit ts b e.scope fs vs c.args.id c.args.left (Value (tree_at ts v)) h v refl live.0 s }
+    record {
+      told = value_told S calls_limit ts b e.scope fs vs c.args.id c.args.left (Value (tree_at ts v)) h v refl;
+      ready = record { held = c.requires.ready.held; stands = value_stands S calls_limit ts b e.scope fs vs c.args.id c.args.left (Value (tree_at ts v)) h v refl live.0 s };
+    }
 
-pub returns-in-None-clause-told : goal.returns-in-None-clause-told
-returns-in-None-clause-told c =
+pub returns-in-None : goal.returns-in-None
+returns-in-None c =
     let ts = c.args.table.now.trees in
     let S = signature ts c.args.sig.now in
     let e = c.args.self.now in
@@ -48,16 +37,7 @@ returns-in-None-clause-told c =
     let vs = e.stack.values.items in
     let s = c.requires.ready.stands in
     let slot : slot_at e.scope c.args.i ≡ None = sym c.slot.ensures ∙ c.in-None.is in
-    stuck_told S calls_limit ts b e.scope fs vs c.args.id c.args.left Stuck (free_entered S calls_limit ts e.scope c.args.id c.args.i (entered_free ts e.scope c.args.id c.args.i c.requires.parameter slot)) refl
-
-pub returns-in-None-clause-ready : goal.returns-in-None-clause-ready
-returns-in-None-clause-ready c =
-    let ts = c.args.table.now.trees in
-    let S = signature ts c.args.sig.now in
-    let e = c.args.self.now in
-    let b = begun ts e.calls.entries in
-    let fs = e.stack.frames.items in
-    let vs = e.stack.values.items in
-    let s = c.requires.ready.stands in
-    let slot : slot_at e.scope c.args.i ≡ None = sym c.slot.ensures ∙ c.in-None.is in
-    record { held = c.requires.ready.held; stands = stuck_stands S calls_limit ts b e.scope fs vs c.args.id c.args.left Stuck (free_entered S calls_limit ts e.scope c.args.id c.args.i (entered_free ts e.scope c.args.id c.args.i c.requires.parameter slot)) refl s }
+    record {
+      told = stuck_told S calls_limit ts b e.scope fs vs c.args.id c.args.left Stuck (free_entered S calls_limit ts e.scope c.args.id c.args.i (entered_free ts e.scope c.args.id c.args.i c.requires.parameter slot)) refl;
+      ready = record { held = c.requires.ready.held; stands = stuck_stands S calls_limit ts b e.scope fs vs c.args.id c.args.left Stuck (free_entered S calls_limit ts e.scope c.args.id c.args.i (entered_free ts e.scope c.args.id c.args.i c.requires.parameter slot)) refl s };
+    }

@@ -8,7 +8,7 @@ use Rattle.eo_stack.specs.Bodies.{Finds, chosen_case}
 use Rattle.eo_stack.specs.Evaluation.{Call}
 use Rattle.eo_stack.specs.Reading.{begun, call_at}
 use Rattle.eo_stack.specs.declared.calls.CallKey.{CallKey}
-use Rattle.eo_stack.specs.declared.stack.Known as code_known
+use Rattle.eo_stack.specs.declared.stack.CallMemo as code_memo
 use Rattle.eo_eval.proofs.Beginning.{all_at}
 use Rattle.eo_eval.proofs.Called.{call_read}
 use Rattle.eo_eval.proofs.machine.Machine.find.Goals as goal
@@ -20,7 +20,7 @@ find_body-requires-clause-args c =
     let key = c.unwrap.result.0.now in
     let known = c.unwrap.result.1.now in
     let at : slice_get es c.args.place ≡ Some (key, known) = sym c.get_index.ensures.entry ∙ ap (option_map (λ p. (p.0.now, p.1.now))) c.unwrap.ensures in
-    let P : CallKey × code_known.Known → Type 0 = λ e. All (λ i. i < length ts) e.0.args in
+    let P : CallKey × code_memo.CallMemo → Type 0 = λ e. All (λ i. i < length ts) e.0.args in
     subst (All (λ i. i < length ts)) (sym c.as_slice.ensures) (all_at P es c.args.place (key, known) c.requires.keys at)
 
 pub returns-clause-found : goal.returns-clause-found

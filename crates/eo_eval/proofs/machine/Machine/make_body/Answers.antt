@@ -1,29 +1,30 @@
 use Rattle.std.proofs.Common.{◌≡◌, ◌∙◌, sym, ap, subst}
-use Rattle.std.proofs.lemmas.Result.{IfOk-weaker}
+use Rattle.std.specs.Prelude.{IfOk}
 use Rattle.eo_term.specs.Terms.{tree_at}
-use Rattle.eo_term.specs.Tree.{Tree}
 use Rattle.eo_sig.specs.Reading.{signature}
 use Rattle.eo_pattern.specs.Slots.{held}
 use Rattle.eo_stack.specs.Bodies.{MakesBody}
-use Rattle.eo_stack.specs.Evaluation.{Ended, body_of}
-use Rattle.eo_eval.specs.Ready.{Calling, called_at, told_in, told_run}
-use Rattle.eo_stack.specs.declared.stack.Now as code_now
+use Rattle.eo_stack.specs.Evaluation.{body_of}
+use Rattle.eo_eval.specs.Ready.{Calling, Goes, called_at, told_run}
 use Rattle.eo_eval.proofs.Entered.{body_some}
 use Rattle.eo_eval.proofs.Grown.{calling_grown, called_grown, run_told_grown}
 use Rattle.eo_eval.proofs.Making.{makes_body}
 use Rattle.eo_eval.proofs.machine.Machine.make_body.Goals as goal
 
-pub enter_made-requires-clause-calling : goal.enter_made-requires-clause-calling
-enter_made-requires-clause-calling c =
+pub enter_made-requires-clause-called : goal.enter_made-requires-clause-called
+enter_made-requires-clause-called c =
     let k = c.args.sig.now in
     let old = c.args.table.now in
     let new = c.substitute-made.new.table in
     let e = c.args.self.now in
     let typed = c.args.types.now in
-    let h = c.requires.calling in
+    let h = c.requires.called.calling in
     let u = c.laws.ensures old new h.held.fit.below c.substitute-made.ensures.grows in
     let fit = c.laws-2.ensures.grown k old new u.table.now h.held.fit in
-    subst (Calling k new typed e) (sym (called_grown k old new u e typed typed fit h.held c.args.place)) (calling_grown k old new u e typed typed fit (called_at old e c.args.place) h)
+    record {
+      place = c.requires.called.place;
+      calling = subst (Calling k new typed e) (sym (called_grown k old new u e typed typed fit h.held c.args.place)) (calling_grown k old new u e typed typed fit (called_at old e c.args.place) h);
+    }
 
 pub enter_made-requires-clause-body : goal.enter_made-requires-clause-body
 enter_made-requires-clause-body c =
@@ -32,7 +33,7 @@ enter_made-requires-clause-body c =
     let new = c.substitute-made.new.table in
     let e = c.args.self.now in
     let typed = c.args.types.now in
-    let h = c.requires.calling in
+    let h = c.requires.called.calling in
     let u = c.laws.ensures old new h.held.fit.below c.substitute-made.ensures.grows in
     let fit = c.laws-2.ensures.grown k old new u.table.now h.held.fit in
     let x = called_at old e c.args.place in
@@ -42,18 +43,17 @@ enter_made-requires-clause-body c =
     subst (λ S. MakesBody new r (body_of S (called_at new e c.args.place))) (sym u.stays.signature)
     (subst (λ x. MakesBody new r (body_of (signature old.trees k) x)) (sym (called_grown k old new u e typed typed fit h.held c.args.place)) body)
 
-pub returns-clause-told : goal.returns-clause-told
-returns-clause-told c =
+pub returns-clause-goes : goal.returns-clause-goes
+returns-clause-goes c =
     let k = c.args.sig.now in
     let old = c.args.table.now in
     let new = c.substitute-made.new.table in
     let e = c.args.self.now in
     let typed = c.args.types.now in
-    let h = c.requires.calling in
+    let h = c.requires.called.calling in
     let u = c.laws.ensures old new h.held.fit.below c.substitute-made.ensures.grows in
     let fit = c.laws-2.ensures.grown k old new u.table.now h.held.fit in
     let x = called_at old e c.args.place in
     let same : told_run k new e (called_at new e c.args.place) c.args.left ≡ told_run k old e x c.args.left =
     ap (λ y. told_run k new e y c.args.left) (called_grown k old new u e typed typed fit h.held c.args.place) ∙ run_told_grown k old new u e typed typed fit x c.args.left h in
-    let P : Ended Tree → code_now.Now → Type 0 = λ r n. told_in k new c.enter_made.new.self n ≡ r in
-    IfOk-weaker c.enter_made.result (P (told_run k new e (called_at new e c.args.place) c.args.left)) (P (told_run k old e x c.args.left)) (λ n g. g ∙ same) c.enter_made.ensures.told
+    subst (λ o. IfOk c.enter_made.result (Goes k new typed c.enter_made.new.self o)) same c.enter_made.ensures

@@ -4,7 +4,7 @@ use Rattle.eo_io.specs.Library.{Rest}
 use Rattle.eo_io.specs.Untold.{Untold}
 use Rattle.eo_io.proofs.system.DiskLibraryLibrary.open.Goals as goal
 
--- one more open file, of which nothing is told
+-- one more open file, of which nothing is known
 one-more : (old new : ℕ) → new ≡ old + 1 → replicate {A = Rest} new None ≡ None ∷ replicate old None
 one-more old new e =
     let next : new ≡ suc old = omega (arith, e) in

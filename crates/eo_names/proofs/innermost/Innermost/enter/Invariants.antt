@@ -4,7 +4,7 @@ use Rattle.eo_names.specs.Names.{binding_local}
 use Rattle.eo_names.specs.Innermost.{IsIndex}
 use Rattle.eo_names.proofs.innermost.Innermost.enter.Given as goal
 
--- the last names stand for their terms
+-- the last names mean their terms
 abbrev pub invariant-loop-left : goal.invariant-loop-left
 invariant-loop-left l = record {
   within : l.left ≤ length l.names;

@@ -9,7 +9,7 @@ use Rattle.eo_ref.proofs.reference.Reference.next.Goals as goal
 pub returns-in-Assert-clause-gives : goal.returns-in-Assert-clause-gives
 unfolding by_command
 returns-in-Assert-clause-gives c =
-    subst (GivesNext c.asserted.new.table c.asserted.result) (sym (ap (λ k. next_in c.args.table.now c.args.sig.now (read_command k)) c.in-Assert.is)) c.asserted.ensures.gives
+    subst (GivesNext c.assertion_of.new.table c.assertion_of.result) (sym (ap (λ k. next_in c.args.table.now c.args.sig.now (read_command k)) c.in-Assert.is)) c.assertion_of.ensures.gives
 
 pub returns-in-Exit-clause-gives : goal.returns-in-Exit-clause-gives
 unfolding by_command
@@ -24,4 +24,4 @@ returns-in_default-clause-gives c =
     let t = c.args.table.now in
     let k = c.args.sig.now in
     let same = others_declare (signature t.trees k) (macros t.trees k) c.args.command.now c.in_default.not-Assert c.in_default.not-Exit c.in_default.not-Skip in
-    subst (GivesNext c.declared.new.table c.declared.result) (sym same) c.declared.ensures.gives
+    subst (GivesNext c.declaration_of.new.table c.declaration_of.result) (sym same) c.declaration_of.ensures.gives

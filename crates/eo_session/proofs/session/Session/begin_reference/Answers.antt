@@ -1,5 +1,5 @@
 use Rattle.std.proofs.Common.{refl, sym, ap, ◌∙◌, true}
-use Rattle.eo_session.specs.Held.{state_of}
+use Rattle.eo_session.specs.Store.{state_of}
 use Rattle.eo_session.specs.State.{State, begin_reference}
 use Rattle.eo_session.specs.Stepping.{Standing}
 use Rattle.eo_session.proofs.Sessions.{begin-second, begin-ok}

@@ -9,5 +9,5 @@ use Rattle.eo_sexp.proofs.incremental.Machine.begin.Goals as goal
 
 pub returns-in-AfterPair : goal.returns-in-AfterPair
 returns-in-AfterPair c =
-    takes-refused c.args.self.now c.fail.new.self c.args.x false ExtraClose c.requires.placed c.requires.nothing c.requires.between c.fail.ensures
+    takes-refused c.args.self.now c.fail.new.self c.args.x false ExtraClose c.requires.between.placed c.requires.between.nothing c.requires.between.between c.fail.ensures
     (ap (λ q. fed_from limits (Within (phase_of q) false c.args.self.now.start []) (c.args.x ∷ [])) c.in-AfterPair.is ∙ fed-after_pair limits c.args.self.now.start c.args.x c.requires.first)

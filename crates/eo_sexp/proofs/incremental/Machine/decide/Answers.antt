@@ -1,15 +1,15 @@
-use Rattle.std.proofs.Common.{◌≤◌, ◌+◌, refl, sym, ap, ◌∙◌, length, subst}
+use Rattle.std.proofs.Common.{refl, sym, ap, ◌∙◌, length, subst}
 use Rattle.std.proofs.lemmas.Result.{on_ok_weaker}
-use Rattle.eo_sexp.specs.Spot.{Spot}
-use Rattle.eo_sexp.specs.Machine.{phase_of, Turned}
+use Rattle.eo_sexp.specs.Machine.{phase_of, MayPass, Turned}
 use Rattle.eo_sexp.proofs.MachineSteps.{placed-none}
 use Rattle.eo_sexp.proofs.FedRuns.{turned-goes, turned-whole, turned-fault, turned-before, turned-unsat}
 use Rattle.eo_sexp.proofs.incremental.Machine.decide.Goals as goal
 
-pub turn_between-requires-clause-placed : goal.turn_between-requires-clause-placed
-turn_between-requires-clause-placed c =
+pub turn_between-requires : goal.turn_between-requires
+turn_between-requires c =
     let l = c.leave.ensures in
-    placed-none c.leave.new.self l.begun (l.here ∙ sym l.start) (subst (λ (v : Spot). v.line ≤ v.offset + 1) (sym l.here) c.requires.line)
+    let at = subst MayPass (sym l.here) c.requires in
+    record { between = l.state; nothing = l.begun; placed = placed-none c.leave.new.self l.begun (l.here ∙ sym l.start) at.line; room = at.room }
 
 pub returns-then-is_unsat : goal.returns-then-is_unsat
 returns-then-is_unsat c =

@@ -12,4 +12,4 @@ pub returns-in_default-clause-finishes : goal.returns-in_default-clause-finishes
 returns-in_default-clause-finishes c =
     let g = c.go_on.new.self in
     let h = finishes-standing (meaning c.args.self.now) g c.go_on.ensures.meant c.in_default.not-Between c.in_default.not-Begun c.in_default.not-Pair in
-    (h.0, c.finished.ensures)
+    (h.0, c.end_answer.ensures)

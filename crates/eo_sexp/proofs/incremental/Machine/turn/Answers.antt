@@ -22,20 +22,23 @@ returns-then-comment c =
 pub returns-in_default : goal.returns-in_default
 returns-in_default c = takes-answered c.args.self.now c.args.x c.in_default.not-Between c.in_default.not-Begun c.in_default.not-Pair c.requires.sound
 
-pub pass-requires-clause-line : goal.pass-requires-clause-line
-pass-requires-clause-line c = let p = between-placed c.args.self.now true (c.in-Between.is ∙ ap (λ b. state.Between b) c.if-comment.true) c.requires.sound in p.line
+pub pass-requires-clause-at : goal.pass-requires-clause-at
+pass-requires-clause-at c =
+    let p = between-placed c.args.self.now true (c.in-Between.is ∙ ap (λ b. state.Between b) c.if-comment.true) c.requires.sound in
+    record { line = p.line; room = c.requires.room }
 
 pub pass-requires-clause-nothing : goal.pass-requires-clause-nothing
 pass-requires-clause-nothing c = between-none c.args.self.now true (c.in-Between.is ∙ ap (λ b. state.Between b) c.if-comment.true) c.requires.sound
 
-pub turn_between-requires-clause-between : goal.turn_between-requires-clause-between
-turn_between-requires-clause-between c = c.in-Between.is ∙ ap (λ b. state.Between b) c.if-comment.false
-
-pub turn_between-requires-clause-nothing : goal.turn_between-requires-clause-nothing
-turn_between-requires-clause-nothing c = between-none c.args.self.now false (c.in-Between.is ∙ ap (λ b. state.Between b) c.if-comment.false) c.requires.sound
-
-pub turn_between-requires-clause-placed : goal.turn_between-requires-clause-placed
-turn_between-requires-clause-placed c = between-placed c.args.self.now false (c.in-Between.is ∙ ap (λ b. state.Between b) c.if-comment.false) c.requires.sound
+pub turn_between-requires : goal.turn_between-requires
+turn_between-requires c =
+    let e = c.in-Between.is ∙ ap (λ b. state.Between b) c.if-comment.false in
+    record {
+      between = e;
+      nothing = between-none c.args.self.now false e c.requires.sound;
+      placed = between-placed c.args.self.now false e c.requires.sound;
+      room = c.requires.room;
+    }
 
 pub turn_begun-requires-clause-begun : goal.turn_begun-requires-clause-begun
 turn_begun-requires-clause-begun c = let h = subst (λ q. IsSoundAt q c.args.self.now) c.in-Begun.is c.requires.sound in h.0

@@ -1,9 +1,10 @@
-use Rattle.std.proofs.Common.{◌≡◌, ℕ, Bool, refl, sym, ap, ◌∙◌, ◌∷◌, [], ◌++◌, suc, true, false, not, subst}
+use Rattle.std.proofs.Common.{◌≡◌, ℕ, ◌+◌, ◌≤◌, ◌^◌, Bool, refl, sym, ap, ◌∙◌, ◌∷◌, [], ◌++◌, suc, true, false, not, subst}
 use Rattle.std.proofs.lemmas.Result.{on_ok_weaker}
 use Rattle.eo_base.specs.Limits.{limits}
 use Rattle.eo_sexp.specs.declared.incremental.State.{State}
 use Rattle.eo_sexp.specs.declared.incremental.State.TheVariants as state
 use Rattle.eo_sexp.specs.declared.incremental.Machine.{Machine}
+use Rattle.eo_sexp.specs.Spot.{Spot}
 use Rattle.eo_sexp.specs.Collecting.{fed_from}
 use Rattle.eo_sexp.specs.Machine.{phase_of, meaning_at, IsPairFact, IsBegun, IsPlaced, IsSound, IsSoundAt, TakesByte}
 use Rattle.eo_sexp.specs.Lexicon.{pass}
@@ -34,9 +35,15 @@ turn_begun-requires-clause-pair c =
     pair-goes true (not c.is_line_end.result) (phase_of c.args.self.now.phase) c.args.self.now.begun.bytes c.args.x (pair-fact c.args.self.now true e c.requires.sound)
     (λ n more. pass-in_comment n c.args.x more ∙ ap (λ b. pass (not b) (suc n) more) (sym c.is_line_end.ensures))
 
-pub turn_between-requires-clause-placed : goal.turn_between-requires-clause-placed
-turn_between-requires-clause-placed c =
-    placed-left c.args.self.now c.leave.new.self (pair-placed c.args.self.now c.args.comment c.requires.pair c.requires.sound) c.leave.ensures.begun c.leave.ensures.start c.leave.ensures.here
+pub turn_between-requires : goal.turn_between-requires
+turn_between-requires c =
+    let l = c.leave.ensures in
+    record {
+      between = l.state;
+      nothing = l.begun;
+      placed = placed-left c.args.self.now c.leave.new.self (pair-placed c.args.self.now c.args.comment c.requires.pair c.requires.sound) l.begun l.start l.here;
+      room = subst (λ (v : Spot). v.offset + 3 ≤ 2 ^ 64) (sym l.here) c.requires.room;
+    }
 
 pub turn_begun-requires-in-Space-clause-pair : goal.turn_begun-requires-in-Space-clause-pair
 turn_begun-requires-in-Space-clause-pair c =

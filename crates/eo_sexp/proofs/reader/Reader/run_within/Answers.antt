@@ -11,12 +11,17 @@ use Rattle.eo_sexp.proofs.reader.Reader.run_within.Goals as goal
 pub loop-taken-init : goal.loop-taken-init
 loop-taken-init c = runs-none limits c.args.buffer.now c.args.self.now c.args.rest.now c.requires.reader (omega (arith, c.requires.room, command_is))
 
-pub step-requires-clause-room : goal.step-requires-clause-room
-step-requires-clause-room c =
+pub step-requires : goal.step-requires
+step-requires c =
     let b = c.args.buffer.now in
     let rest = c.args.rest.now in
     let taken = c.loop-taken.taken in
-    omega (arith, c.requires.room, ap length (take_rest rest taken), length-drop taken rest, ap length c.loop-taken.invariant.bytes, length-append b.bytes (take taken rest), length-take-le taken rest c.loop-taken.invariant.within)
+    let left = ap length (take_rest rest taken) in
+    record {
+      reader = c.loop-taken.invariant.reader;
+      room = omega (arith, c.requires.room, left, length-drop taken rest, ap length c.loop-taken.invariant.bytes, length-append b.bytes (take taken rest), length-take-le taken rest c.loop-taken.invariant.within);
+      some = omega (arith, left, length-drop taken rest, c.loop-taken-test.true);
+    }
 
 pub loop-taken-smaller : goal.loop-taken-smaller
 loop-taken-smaller c = let some = c.in_ok-step.ensures.moves c.in-Goes.is in omega (arith, some, c.loop-taken-test.true)

@@ -28,8 +28,8 @@ add_atom-requires-clause-own c =
     kept-own limits c.args.buffer.now c.extend.new.self c.args.self.now (length c.bytes-at.result.now) _ c.requires.first.gap
     (subst (IsReader limits (held c.args.buffer.now c.args.self.now)) (ap length (sym c.bytes-at.ensures)) c.requires.reader) c.in_ok-extend.ensures
 
-pub returns-clause-runs : goal.returns-clause-runs
-returns-clause-runs c =
+pub returns : goal.returns
+returns c =
     let b = c.args.buffer.now in
     let rest = c.args.rest.now in
     let k = c.blank_run.result in
@@ -37,5 +37,6 @@ returns-clause-runs c =
     let left = take_rest rest (c.args.n + 1) in
     let within : k ≤ length (drop (c.args.n + 1) rest) = subst (λ l. k ≤ length l) left c.blank_run.ensures.within in
     let blank : All (λ x. x ≡ 32) (take k (drop (c.args.n + 1) rest)) = subst (λ l. All (λ x. x ≡ 32) (take k l)) left c.blank_run.ensures.blank in
-    quoted-blanks limits some_token b c.args.self.now rest c.args.n (length c.bytes-at.result.now) c.requires.reader size c.requires.first c.requires.ahead c.requires.bar c.requires.short
-    c.extend.new.self c.add_atom.new.self k within blank (omega (arith, within, length-drop (c.args.n + 1) rest, c.requires.ahead.more, c.requires.room, command_is)) c.in_ok-extend.ensures c.in_ok-add_atom.ensures
+    let runs = quoted-blanks limits some_token b c.args.self.now rest c.args.n (length c.bytes-at.result.now) c.requires.reader size c.requires.first c.requires.ahead c.requires.bar c.requires.short
+    c.extend.new.self c.add_atom.new.self k within blank (omega (arith, within, length-drop (c.args.n + 1) rest, c.requires.ahead.more, c.requires.room, command_is)) c.in_ok-extend.ensures c.in_ok-add_atom.ensures in
+    record { moves = λ e. omega arith; runs = runs }

@@ -5,4 +5,4 @@ use Rattle.eo_sexp.proofs.ReaderSteps.{turns-in_comment}
 use Rattle.eo_sexp.proofs.reader.Reader.turn.Goals as goal
 
 pub returns-in-Comment-clause-turns : goal.returns-in-Comment-clause-turns
-returns-in-Comment-clause-turns c = turns-in_comment limits _ (held c.args.buffer.now c.args.self.now) _ c.args.at c.args.x refl c.requires.reader c.in-Comment.is refl refl c.behind_comment_byte-self.ensures
+returns-in-Comment-clause-turns c = turns-in_comment limits _ (held c.args.buffer.now c.args.self.now) _ c.args.at c.args.x refl c.requires.begun.reader c.in-Comment.is refl refl c.behind_comment_byte-self.ensures

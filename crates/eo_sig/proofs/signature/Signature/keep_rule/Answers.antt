@@ -17,8 +17,8 @@ invariant_of-self-2 c =
     let same : c.args.d ≡ d = sym c.in_ok-key.ensures.other in
     let key : c.in_ok-key.key ≡ d.name = at_ok (λ n. n ≡ c.as_bytes.result.now) c.new.result c.in_ok-key.key c.in_ok-key.ensures.called c.new.ensures ∙ c.as_bytes.ensures ∙ ap (λ (x : RuleDecl). x.name) same in
     let free : sig.rule_named (map (read_entry []) es) d.name ≡ None = subst (λ (x : RuleDecl). sig.rule_named (map (read_entry []) es) x.name ≡ None) same (subst (λ (k : Kept). sig.rule_named (signature [] k) c.args.d.name ≡ None) (sym c.self.view_is) c.requires) in
-    let none : lookup (λ v. bytes_eq c.in_ok-key.key v) names ≡ None = no_key _ names (ap (λ u. position (λ v. bytes_eq u v) (keys_of names)) key ∙ new_rule es _ _ _ _ _ _ _ c.self.invariant d.name free) in
-    kept_rule es _ _ _ _ _ _ _ c.self.invariant d c.in_ok-key.key c.append.new.entries.items c.append.new.names.entries key c.in_ok-append.ensures.entries
+    let none : lookup (λ v. bytes_eq c.in_ok-key.key v) names ≡ None = no_key _ names (ap (λ u. position (λ v. bytes_eq u v) (keys_of names)) key ∙ new_rule es _ _ _ _ _ _ _ _ c.self.invariant d.name free) in
+    kept_rule es _ _ _ _ _ _ _ _ c.self.invariant d c.in_ok-key.key c.append.new.entries.items c.append.new.names.entries key c.in_ok-append.ensures.entries
     (c.in_ok-append.ensures.names ∙ insert_entry-new (λ u v. bytes_eq u v) c.self.inside.rules c.in_ok-key.key (length es) none)
 
 pub returns-clause-kept : goal.returns-clause-kept

@@ -10,7 +10,7 @@ invariant_of-self c =
     let ms = c.self.inside.macros.entries in
     let n : ℕ = c.m.inside.macros in
     let cut : map (λ e. e.0) (take n ms) ≡ map (λ e. e.1.name) (take n ms) = sym (take-map (λ e. e.0) n ms) ∙ ap (take n) c.self.invariant.macros ∙ take-map (λ e. e.1.name) n ms in
-    kept_macros _ _ _ _ ms _ _ _ c.self.invariant c.truncate.new.self.entries (ap (map (λ e. e.0)) c.truncate.ensures.entries ∙ cut ∙ sym (ap (map (λ e. e.1.name)) c.truncate.ensures.entries))
+    kept_macros _ _ _ _ _ ms _ _ _ c.self.invariant c.truncate.new.self.entries (ap (map (λ e. e.0)) c.truncate.ensures.entries ∙ cut ∙ sym (ap (map (λ e. e.1.name)) c.truncate.ensures.entries))
 
 pub returns-clause-macros : goal.returns-clause-macros
 returns-clause-macros c =

@@ -1,4 +1,4 @@
-use Rattle.std.proofs.Common.{◌≡◌, length, ap, sym, ◌∙◌, subst, map, List, []}
+use Rattle.std.proofs.Common.{◌≡◌, length, ap, ◌∙◌, subst, map, List, []}
 use Rattle.eo_term.specs.Tree.{Tree}
 use Rattle.eo_sig.specs.Signature as sig
 use Rattle.eo_sig.specs.Reading.{signature, read_entry, rules_of, read_rule}

@@ -7,6 +7,7 @@ returns-clause-tells c =
     let b = c.info-b.ensures.tells in
     record {
       height = omega (arith, a.height, b.height);
+      arity = search rules;
       value = search rules;
       closed = search rules;
       plain = search rules;

@@ -6,7 +6,9 @@ use Rattle.eo_type.proofs.Keeping.{keeps_before}
 use Rattle.eo_type.proofs.types.Types.undo.Goals as goal
 
 pub returns-clause-undone : goal.returns-clause-undone
-returns-clause-undone c = λ k t before f g h e.
+returns-clause-undone c = λ k t before f x e.
+    let g = x.grows in
+    let h = x.fits in
     let n = c.args.mark.0 in
     let old = c.args.table.now in
     let known = c.args.self.now in
@@ -15,9 +17,11 @@ returns-clause-undone c = λ k t before f g h e.
     let older : (i u : ℕ) → kept_type before i ≡ Some u → is_before n (i, u) ≡ true = subst (λ (m : ℕ × ℕ). (i u : ℕ) → kept_type before i ≡ Some u → is_before m.0 (i, u) ≡ true) (sym e) (fit_before (signature t.trees k) t.trees before f.types) in
     record {
       same = back.same;
-      grows = record { table = back.grows; stays = c.growth_law.ensures.stays k t c.release.new.self f.below back.grows.now };
-      fits = record {
-        fit = c.forget.ensures.fits k old c.release.new.self h.fit (subst (λ (m : ℕ × ℕ). IsBelow m.0 k) (sym e) f.below) c.requires.terms cut;
-        kept = subst (Keeps before) (sym c.forget.ensures.left) (keeps_before n before known older h.kept);
+      extends = record {
+        fits = record {
+          fit = c.forget.ensures.fits k old c.release.new.self h.fit (subst (λ (m : ℕ × ℕ). IsBelow m.0 k) (sym e) f.below) c.requires.terms cut;
+          kept = subst (Keeps before) (sym c.forget.ensures.left) (keeps_before n before known older h.kept);
+        };
+        grows = record { table = back.grows; stays = c.growth_law.ensures.stays k t c.release.new.self f.below back.grows.now };
       };
     }

@@ -2,8 +2,8 @@ use Rattle.std.proofs.Common.{arith, subst, sym}
 use Rattle.eo_sig.specs.Reading.{IsBelow}
 use Rattle.test_lists.proofs.tests.world.World.declare.Goals as goal
 
-pub declare-requires-clause-live : goal.declare-requires-clause-live
-declare-requires-clause-live c = c.in_ok-d.ensures _ (omega (arith, c.in_ok-ty.ensures)) (c.in_ok-attribute.ensures _ (omega arith))
+pub declare-requires : goal.declare-requires
+declare-requires c = record { live = c.in_ok-d.ensures _ (omega (arith, c.in_ok-ty.ensures)) (c.in_ok-attribute.ensures _ (omega arith)) }
 
 pub invariant_of-self : goal.invariant_of-self
 invariant_of-self c = λ n l. subst (IsBelow n) (sym c.in_err-declare.ensures.err) (c.self.invariant n l)

@@ -1,0 +1,4 @@
+pub mod HexBytes
+pub mod FieldCuts
+pub mod NumbersRead
+pub mod SmallLines

@@ -1,4 +1,0 @@
-use Rattle.eo_names.proofs.symbols.name_meant.Goals as goal
-
-pub returns-clause-live : goal.returns-clause-live
-returns-clause-live c = λ n h. c.globally_meant.ensures.live n h.below

@@ -1,6 +1,0 @@
-use Rattle.std.proofs.Common.{sym, ap}
-use Rattle.eo_run.specs.Run.{is_exit}
-use Rattle.eo_run.proofs.reading.exits.Goals as goal
-
-pub returns-in-Exit : goal.returns-in-Exit
-returns-in-Exit c = sym (ap is_exit c.in-Exit.is)

@@ -1,9 +1,0 @@
-use Rattle.std.proofs.Common.{◌≡◌, ℕ, Option, ap, sym, ◌∙◌}
-use Rattle.std.specs.Prelude.{unwrap_or}
-use Rattle.eo_session.proofs.held.Held.number.Goals as goal
-
-pub returns-in-Some : goal.returns-in-Some
-returns-in-Some c = ap (λ (o : Option ℕ). unwrap_or o 0) (sym c.in-Some.is ∙ c.command.ensures c.args.self.now.table.trees)
-
-pub returns-in-None : goal.returns-in-None
-returns-in-None c = ap (λ (o : Option ℕ). unwrap_or o 0) (sym c.in-None.is ∙ c.command.ensures c.args.self.now.table.trees)

@@ -1,4 +1,0 @@
-use Rattle.eo_session.proofs.held.Held.refutation.Goals as goal
-
-pub returns : goal.returns
-returns c = c.first_false.ensures c.args.self.now.table c.laws.ensures c.requires.held.facts

@@ -1,0 +1,31 @@
+use Rattle.eo_sig.specs.Reading.{read_rule}
+use Rattle.eo_session.specs.Store.{state_of}
+use Rattle.eo_sig.specs.Signature.{IsRule}
+use Rattle.eo_session.specs.Decisions.{entry_effect}
+use Rattle.eo_session.proofs.Decided.{declared-refuses, declared-decides}
+use Rattle.eo_session.proofs.Holding.{keeps_table}
+use Rattle.eo_session.specs.State.{is_in_scope}
+use Rattle.std.proofs.Common.{ap, ◌∙◌}
+use Rattle.eo_session.proofs.store.Store.decide_added_rule.Goals as goal
+
+pub returns-in_err-d-clause-decides : goal.returns-in_err-d-clause-decides
+returns-in_err-d-clause-decides c =
+    declared-refuses _ (λ z d. entry_effect z (IsRule d)) (state_of c.args.self.now) _ c.from_residual.result c.in_err-d.field-0.0 c.from_residual.ensures.1 c.in_err-d.ensures.gives
+
+pub decide_entry-requires-clause-whole : goal.decide_entry-requires-clause-whole
+decide_entry-requires-clause-whole c = (keeps_table c.args.self.now c.requires.whole c.declared_rule.new.table c.in_ok-d.ensures.grows.stays c.in_ok-d.ensures.grows.table).whole
+
+pub decide_entry-requires-clause-ordered : goal.decide_entry-requires-clause-ordered
+decide_entry-requires-clause-ordered c = c.ordering_law.ensures.rules _ _ (read_rule c.declared_rule.new.table.trees c.in_ok-d.d) c.requires.whole.store.terms c.in_ok-d.ensures.gives.is
+
+pub returns-clause-decides : goal.returns-clause-decides
+returns-clause-decides c =
+    let keeps = keeps_table c.args.self.now c.requires.whole c.declared_rule.new.table c.in_ok-d.ensures.grows.stays c.in_ok-d.ensures.grows.table in
+    declared-decides _ (λ z d. entry_effect z (IsRule d)) (state_of c.args.self.now) _ c.decide_entry.result _ (read_rule c.declared_rule.new.table.trees c.in_ok-d.d) keeps.same c.in_ok-d.ensures.gives.is c.decide_entry.ensures.decides
+
+pub decide_entry-requires-clause-outside : goal.decide_entry-requires-clause-outside
+decide_entry-requires-clause-outside c =
+    ap is_in_scope (keeps_table c.args.self.now c.requires.whole c.declared_rule.new.table c.in_ok-d.ensures.grows.stays c.in_ok-d.ensures.grows.table).same ∙ c.requires.outside
+
+pub returns-clause-keeps : goal.returns-clause-keeps
+returns-clause-keeps c = keeps_table c.args.self.now c.requires.whole c.declared_rule.new.table c.in_ok-d.ensures.grows.stays c.in_ok-d.ensures.grows.table

@@ -1,0 +1,11 @@
+pub mod Arguments
+pub mod EachFound
+pub mod Firsts
+pub mod Within
+pub mod Nested
+pub mod HeldGrown
+pub mod PartsListed
+pub mod TermLines
+pub mod ContextLines
+pub mod Asserted
+pub mod Counted

@@ -1,0 +1,7 @@
+use Rattle.eo_stated.proofs.HeldGrown.{keeps_table}
+use Rattle.eo_stated.proofs.checker.Checker.text.Goals as goal
+
+pub returns-clause-keeps : goal.returns-clause-keeps
+returns-clause-keeps c =
+    keeps_table c.args.self.now c.requires.held c.text.new.self c.text.ensures.grows
+    (c.growth_law.ensures.stays c.args.self.now.signature c.args.self.now.table c.text.new.self c.requires.held.signature c.text.ensures.grows.now)
